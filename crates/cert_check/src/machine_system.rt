@@ -11,7 +11,7 @@ ghost use Rattle.cert_check.specs.CertificateData.{system};
 
 use crate::affine_data::AffineSystem;
 use crate::column::Column;
-use crate::start_rows::{start_mode_coefficient, start_row_constant};
+use crate::start_rows::{slope_at_zero_levels, start_mode_coefficient};
 use cert_matrix::Matrix;
 use qss_machine::Machine;
 
@@ -74,7 +74,7 @@ fn affine_constants(m: &Machine) -> Column
 {
     let mut constant = Column::new();
     for row in m.rows.as_slice() {
-        constant.push(start_row_constant(m, row));
+        constant.push(slope_at_zero_levels(m, row));
     }
     constant
 }

@@ -9,7 +9,7 @@ ghost use Rattle.qss_machine.specs.Machines.{state_count, discrete_count, start_
 ghost use Rattle.qss_machine.specs.Slopes.{products_of, mode_coefficient, constant_part};
 
 use mu_num::{near_div, unit};
-use qss_machine::{Machine, SlopeRow, slope_row_coefficient, slope_term};
+use qss_machine::{Machine, SlopeRow, entry_coefficient, slope_term};
 
 /// Returns the mode coefficient of a state in a row of the machine, at the start.
 pub(crate) fn start_mode_coefficient(m: &Machine, row: &SlopeRow, state: u32) -> i128
@@ -17,13 +17,13 @@ pub(crate) fn start_mode_coefficient(m: &Machine, row: &SlopeRow, state: u32) ->
     ensures { result
         ≡ mode_coefficient m.now.f (state_count m.now) row.now (start_discretes m.now) state }
 {
-    let own = slope_row_coefficient(row.entries.as_slice(), state);
+    let own = entry_coefficient(row.entries.as_slice(), state);
     let products = sum_start_products(m, row, state);
     own + near_div(products, unit(m.f))
 }
 
 /// Returns the slope of a row of the machine at levels 0, at the start.
-pub(crate) fn start_row_constant(m: &Machine, row: &SlopeRow) -> i128
+pub(crate) fn slope_at_zero_levels(m: &Machine, row: &SlopeRow) -> i128
     requires { IsRow (state_count m.now) (discrete_count m.now) row.now }
     ensures { result ≡ constant_part (state_count m.now) row.now (start_discretes m.now) }
 {

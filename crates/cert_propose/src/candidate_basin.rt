@@ -38,7 +38,7 @@ pub(crate) struct Basin {
 
 /// The invariant set, after 64 rounds. `None` if a sum is out of range.
 #[inline(never)]
-pub(crate) fn find_candidate_basin(
+pub(crate) fn search_basin(
     m: &AffineSystem,
     start: &Column,
     c: &Column,

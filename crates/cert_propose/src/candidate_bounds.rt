@@ -27,7 +27,7 @@ pub(crate) struct Bounds {
 
 /// The lower bounds of V with the matrix P. `None` if a sum is out of range.
 #[inline(never)]
-pub(crate) fn find_candidate_bounds(m: &AffineSystem, pm: &Matrix) -> Option<Bounds>
+pub(crate) fn search_bounds(m: &AffineSystem, pm: &Matrix) -> Option<Bounds>
     requires formed { IsFormed m.now }
     requires size { length pm.now ≡ m.now.n }
     ensures { result ≡ Step.bounds_of (system m.now) pm.now }

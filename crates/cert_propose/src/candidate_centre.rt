@@ -17,7 +17,7 @@ use mu_num::near_div;
 
 /// The centre after 4,096 rounds from 0. `None` if a sum is out of range.
 #[inline(never)]
-pub(crate) fn find_candidate_centre(m: &AffineSystem, q: u8) -> Option<Column>
+pub(crate) fn search_centre(m: &AffineSystem, q: u8) -> Option<Column>
     requires formed { IsFormed m.now }
     requires count_limit { q < 64 }
     ensures { result ≡ Step.centre (system m.now) q }

@@ -24,7 +24,7 @@ pub(crate) struct Ellipsoid {
 
 /// The ellipsoid for the level errors W. `None` if a sum is out of range.
 #[inline(never)]
-pub(crate) fn find_candidate_ellipsoid(n: u8, b: &Bounds, w: &Column) -> Option<Ellipsoid>
+pub(crate) fn search_ellipsoid(n: u8, b: &Bounds, w: &Column) -> Option<Ellipsoid>
     requires { AreBounds n b.now }
     ensures { result ≡ Step.ellipsoid_of n b.now w.now }
 {

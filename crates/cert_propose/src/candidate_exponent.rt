@@ -9,12 +9,12 @@ use crate::candidate_matrices::candidate_row_size;
 use cert_matrix::Matrix;
 
 /// The least q, at most 52, for which 2^q is at least 16 times each absolute row sum.
-pub(crate) fn find_candidate_exponent(a: &Matrix) -> u8
+pub(crate) fn search_exponent(a: &Matrix) -> u8
     ensures value { result ≡ Step.exponent (length a.now) (table a.now) }
     ensures count_limit { result < 64 }
 {
     for q in 0..64 {
-        if is_candidate_exponent(a, q) {
+        if is_exponent_enough(a, q) {
             return q;
         }
     }
@@ -30,7 +30,7 @@ pub(crate) fn power_of_exponent(q: u8) -> i128
 }
 
 // Whether 2^q is at least 16 times each absolute row sum.
-fn is_candidate_exponent(a: &Matrix, q: u8) -> bool
+fn is_exponent_enough(a: &Matrix, q: u8) -> bool
     requires { q < 64 }
     ensures { result ≡ Step.is_exponent (length a.now) (table a.now) q }
 {

@@ -20,7 +20,7 @@ use mu_num::near_div;
 
 /// P after 4,096 rounds from 0. `None` if a sum is out of range.
 #[inline(never)]
-pub(crate) fn find_candidate_form(m: &AffineSystem, q: u8) -> Option<Matrix>
+pub(crate) fn search_form(m: &AffineSystem, q: u8) -> Option<Matrix>
     requires formed { IsFormed m.now }
     requires size_limit { AreSmall (system m.now) }
     requires count_limit { q < 64 }

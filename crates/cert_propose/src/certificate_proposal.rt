@@ -14,12 +14,12 @@ ghost use Rattle.cert_matrix.specs.Matrix.{vector, zeros};
 ghost use Rattle.cert_check.specs.CertificateData.{system};
 ghost use Rattle.cert_propose.specs.Candidate as Step;
 
-use crate::candidate_basin::{Basin, find_candidate_basin};
-use crate::candidate_bounds::{Bounds, find_candidate_bounds};
-use crate::candidate_centre::find_candidate_centre;
-use crate::candidate_ellipsoid::{Ellipsoid, find_candidate_ellipsoid};
-use crate::candidate_exponent::find_candidate_exponent;
-use crate::candidate_form::find_candidate_form;
+use crate::candidate_basin::{Basin, search_basin};
+use crate::candidate_bounds::{Bounds, search_bounds};
+use crate::candidate_centre::search_centre;
+use crate::candidate_ellipsoid::{Ellipsoid, search_ellipsoid};
+use crate::candidate_exponent::search_exponent;
+use crate::candidate_form::search_form;
 use crate::candidate_matrices::candidate_column_list;
 use cert_check::{AffineSystem, Certificate, Column, Verdict, affine_system, check};
 use cert_matrix::{HeapMatrix, Matrix};
@@ -106,20 +106,20 @@ pub(crate) fn find_candidate_numbers(m: &AffineSystem, start: &Column) -> Result
     requires size_limit { AreSmall (system m.now) }
     ensures { result ≡ Step.candidate (system m.now) (vector start.now) }
 {
-    let q = find_candidate_exponent(&m.coef);
-    let Some(c) = find_candidate_centre(m, q) else {
+    let q = search_exponent(&m.coef);
+    let Some(c) = search_centre(m, q) else {
         return Err(2);
     };
-    let Some(pm) = find_candidate_form(m, q) else {
+    let Some(pm) = search_form(m, q) else {
         return Err(3);
     };
-    let Some(bounds) = find_candidate_bounds(m, &pm) else {
+    let Some(bounds) = search_bounds(m, &pm) else {
         return Err(4);
     };
-    let Some(basin) = find_candidate_basin(m, start, &c, &pm, &bounds) else {
+    let Some(basin) = search_basin(m, start, &c, &pm, &bounds) else {
         return Err(5);
     };
-    let Some(ellipsoid) = find_candidate_ellipsoid(m.n, &bounds, &basin.reach.w) else {
+    let Some(ellipsoid) = search_ellipsoid(m.n, &bounds, &basin.reach.w) else {
         return Err(6);
     };
     Ok(Numbers {

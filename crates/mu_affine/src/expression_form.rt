@@ -19,14 +19,14 @@ ghost use Rattle.mu_affine.specs.FormSequence.{condition_form, action_form};
 
 use crate::affine_fault::AffineErr;
 use crate::exact_form::{ExactForm, Place};
-use crate::form_product::{divide, multiply_form_product, raise_form_product};
+use crate::form_product::{divide, product_of_forms, raise_to_power};
 use crate::form_sum::RunningForm;
 use mu_num::Ratio;
 use mu_tree::{FlatBranch, FlatExpr, FlatFactor, FlatStatement, FlatTerm};
 use std::alloc::Global;
 
 /// Returns the form of a condition: its left side minus its right side.
-pub(crate) fn condition_expression_form(
+pub(crate) fn form_of_condition(
     alloc: Global,
     place: Place,
     solved: &[ExactForm],
@@ -41,11 +41,11 @@ pub(crate) fn condition_expression_form(
 {
     let left = expression_form(alloc, place, solved, &branch.left)?;
     let right = expression_form(alloc, place, solved, &branch.right)?;
-    difference_expression_form(alloc, place, branch.at, &left, &right)
+    difference_of_forms(alloc, place, branch.at, &left, &right)
 }
 
 /// Returns the form of the value that a statement assigns.
-pub(crate) fn action_expression_form(
+pub(crate) fn form_of_action(
     alloc: Global,
     place: Place,
     solved: &[ExactForm],
@@ -80,14 +80,14 @@ pub(crate) fn expression_form(
 {
     match e {
         FlatExpr::Const { value, .. } => Ok(ExactForm::constant(alloc, *value)),
-        FlatExpr::Var { var, at } => variable_expression_form(alloc, place, solved, *var, *at),
-        FlatExpr::Pre { var, .. } => previous_expression_form(alloc, place, *var),
+        FlatExpr::Var { var, at } => form_of_variable(alloc, place, solved, *var, *at),
+        FlatExpr::Pre { var, .. } => form_of_previous(alloc, place, *var),
         FlatExpr::Time { at } => time(alloc, place, *at),
-        FlatExpr::Sum { terms } => sum_expression_form(alloc, place, solved, terms),
-        FlatExpr::Product { factors } => product_expression_form(alloc, place, solved, factors),
+        FlatExpr::Sum { terms } => form_of_terms(alloc, place, solved, terms),
+        FlatExpr::Product { factors } => form_of_factors(alloc, place, solved, factors),
         FlatExpr::Pow { base, exp, at } => {
             let base = expression_form(alloc, place, solved, base)?;
-            raise_form_product(alloc, place, *exp, *at, &base)
+            raise_to_power(alloc, place, *exp, *at, &base)
         }
     }
 }
@@ -95,7 +95,7 @@ pub(crate) fn expression_form(
 // Returns the form of a variable: a coefficient 1 for a state or discrete variable, the solved form
 // for an algebraic variable.
 #[inline(never)]
-fn variable_expression_form(
+fn form_of_variable(
     alloc: Global,
     place: Place,
     solved: &[ExactForm],
@@ -122,7 +122,7 @@ fn variable_expression_form(
 // Returns the form of the previous value of a discrete variable. It is allowed only outside
 // equations.
 #[inline(never)]
-fn previous_expression_form(alloc: Global, place: Place, var: u32) -> Result<ExactForm, AffineErr>
+fn form_of_previous(alloc: Global, place: Place, var: u32) -> Result<ExactForm, AffineErr>
     requires outside { place.in_equation ≡ false }
     requires within { var < place.sizes.states + place.sizes.discretes }
     requires sizes { place.sizes.states + place.sizes.discretes + place.sizes.discretes < 2 ^ 32 }
@@ -147,7 +147,7 @@ fn time(alloc: Global, place: Place, at: u32) -> Result<ExactForm, AffineErr>
 
 // Returns the form of a sum, term by term.
 #[cycle(walking)]
-fn sum_expression_form(
+fn form_of_terms(
     alloc: Global,
     place: Place,
     solved: &[ExactForm],
@@ -193,7 +193,7 @@ pub(crate) fn join_expression_term(
 
 // Returns the form of a product, factor by factor.
 #[cycle(walking)]
-fn product_expression_form(
+fn form_of_factors(
     alloc: Global,
     place: Place,
     solved: &[ExactForm],
@@ -235,12 +235,12 @@ fn take_expression_factor(
     if divides {
         divide(alloc, place, at, total, form)
     } else {
-        multiply_form_product(alloc, place, at, total, form)
+        product_of_forms(alloc, place, at, total, form)
     }
 }
 
 // Returns the difference of two forms.
-fn difference_expression_form(
+fn difference_of_forms(
     alloc: Global,
     place: Place,
     at: u32,

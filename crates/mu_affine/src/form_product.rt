@@ -25,7 +25,7 @@ use std::collections::BTreeMap;
 /// Returns the product of two forms. It is an error if both have coefficients, except in an
 /// equation, where one form may have only states and the other one only discrete variables. It is
 /// an error if a number of the product exceeds 2^62 in lowest terms.
-pub fn multiply_form_product(
+pub fn product_of_forms(
     alloc: Global,
     place: Place,
     at: u32,
@@ -82,7 +82,7 @@ pub fn divide(
 /// Returns a power of a form. It is an error if the base has a coefficient, or if the power exceeds
 /// 2^62 in lowest terms.
 #[inline(never)]
-pub fn raise_form_product(
+pub fn raise_to_power(
     alloc: Global,
     place: Place,
     exp: u8,
@@ -159,7 +159,7 @@ pub(crate) fn multiply_form_by(
         Ok(entries) => entries,
         Err(fault) => return Ok(Err(fault)),
     };
-    let products = match multiply_form_products(alloc, form.products.as_slice(), divide, by)? {
+    let products = match scale_pair_products(alloc, form.products.as_slice(), divide, by)? {
         Ok(products) => products,
         Err(fault) => return Ok(Err(fault)),
     };
@@ -211,7 +211,7 @@ fn multiply_form_ratio(divide: bool, value: Ratio, by: Ratio) -> Result<Ratio, N
 }
 
 // Multiplies or divides the coefficients of pairs by a nonzero number.
-fn multiply_form_products(
+fn scale_pair_products(
     alloc: Global,
     products: &[ExactProduct],
     divide: bool,
@@ -250,18 +250,18 @@ fn multiply_variable_forms(
     if !place.in_equation {
         return Err(AffineErr::NotAffine { at });
     }
-    if may_form_product(place.sizes, left, right) {
-        return cross_form_product(alloc, place, at, left, right);
+    if are_mixed_factors(place.sizes, left, right) {
+        return multiply_mixed_forms(alloc, place, at, left, right);
     }
-    if may_form_product(place.sizes, right, left) {
-        return cross_form_product(alloc, place, at, right, left);
+    if are_mixed_factors(place.sizes, right, left) {
+        return multiply_mixed_forms(alloc, place, at, right, left);
     }
     Err(AffineErr::NotAffine { at })
 }
 
 /// Returns whether the left form has only coefficients of states and the right form only
 /// coefficients of discrete variables.
-pub(crate) fn may_form_product(sizes: Sizes, left: &ExactForm, right: &ExactForm) -> bool
+pub(crate) fn are_mixed_factors(sizes: Sizes, left: &ExactForm, right: &ExactForm) -> bool
     ensures { IsTrue result ↔ (IsOfStates sizes left.now × IsOfDiscretes sizes right.now) }
 {
     is_factor_of_states(sizes, left) && is_factor_of_discretes(sizes, right)
@@ -303,7 +303,7 @@ fn are_factor_discretes(sizes: Sizes, entries: &[ExactEntry]) -> bool
 
 /// Returns the product of a form of states and a form of discrete variables, in an equation. The
 /// fault is `Range` if a number of the product exceeds 2^62 in lowest terms.
-pub(crate) fn cross_form_product(
+pub(crate) fn multiply_mixed_forms(
     alloc: Global,
     place: Place,
     at: u32,
@@ -323,7 +323,7 @@ pub(crate) fn cross_form_product(
 {
     // These calls give the proof that the denominators are positive.
     let _ = (states.constant.den(), discretes.constant.den());
-    match running_form_product(alloc, states, discretes)? {
+    match running_product(alloc, states, discretes)? {
         Ok(all) => {
             let product = all.finish(alloc)?;
             Ok(product)
@@ -333,7 +333,7 @@ pub(crate) fn cross_form_product(
 }
 
 // Returns the product as a running sum. Each coefficient is set once.
-fn running_form_product(
+fn running_product(
     alloc: Global,
     states: &ExactForm,
     discretes: &ExactForm,
@@ -343,7 +343,7 @@ fn running_form_product(
     ensures { IfOk result (Crosses states.now discretes.now) }
 {
     let mut all = RunningForm::new(alloc);
-    match set_form_product_names(
+    match set_scaled_coefficients(
         &mut all.names,
         states.entries.as_slice(),
         discretes.constant,
@@ -351,7 +351,7 @@ fn running_form_product(
         Ok(()) => {}
         Err(fault) => return Ok(Err(fault)),
     }
-    match set_form_product_names(
+    match set_scaled_coefficients(
         &mut all.names,
         discretes.entries.as_slice(),
         states.constant,
@@ -359,7 +359,7 @@ fn running_form_product(
         Ok(()) => {}
         Err(fault) => return Ok(Err(fault)),
     }
-    match set_form_product_table(
+    match set_pair_products(
         &mut all.pairs,
         states.entries.as_slice(),
         discretes.entries.as_slice(),
@@ -377,7 +377,7 @@ fn running_form_product(
 }
 
 // Sets the coefficient of each of these variables to its coefficient in `entries` times a number.
-fn set_form_product_names(
+fn set_scaled_coefficients(
     row: &mut BTreeMap<u32, Ratio>,
     entries: &[ExactEntry],
     by: Ratio,
@@ -388,7 +388,7 @@ fn set_form_product_names(
 {
     for entry in entries {
         match entry.coef.mul(by) {
-            Ok(coef) => set_form_product_name(row, entry.var, coef)?,
+            Ok(coef) => set_coefficient(row, entry.var, coef)?,
             Err(fault) => return Ok(Err(fault)),
         }
     }
@@ -396,11 +396,7 @@ fn set_form_product_names(
 }
 
 // Sets the coefficient of a variable.
-fn set_form_product_name(
-    row: &mut BTreeMap<u32, Ratio>,
-    var: u32,
-    value: Ratio,
-) -> Result<(), AllocError>
+fn set_coefficient(row: &mut BTreeMap<u32, Ratio>, var: u32, value: Ratio) -> Result<(), AllocError>
     ensures { OnOk result (ChangesAt nat_cmp row.old.entries row.new.entries var value) }
 {
     row.insert(var, value)?;
@@ -408,7 +404,7 @@ fn set_form_product_name(
 }
 
 // Sets the coefficients of all pairs of these states and discrete variables to the products.
-fn set_form_product_table(
+fn set_pair_products(
     row: &mut BTreeMap<(u32, u32), Ratio>,
     states: &[ExactEntry],
     discretes: &[ExactEntry],
@@ -420,7 +416,7 @@ fn set_form_product_table(
         (map named discretes.now)) }
 {
     for state in states {
-        match set_form_product_pairs(row, state.var, discretes, state.coef)? {
+        match set_scaled_pairs(row, state.var, discretes, state.coef)? {
             Ok(()) => {}
             Err(fault) => return Ok(Err(fault)),
         }
@@ -430,7 +426,7 @@ fn set_form_product_table(
 
 // Sets the coefficient of the pair of a state with each of these discrete variables to the
 // coefficient in the list times a number.
-fn set_form_product_pairs(
+fn set_scaled_pairs(
     row: &mut BTreeMap<(u32, u32), Ratio>,
     state: u32,
     discretes: &[ExactEntry],
@@ -442,7 +438,7 @@ fn set_form_product_pairs(
 {
     for discrete in discretes {
         match discrete.coef.mul(by) {
-            Ok(coef) => set_form_product_pair(row, (state, discrete.var), coef)?,
+            Ok(coef) => set_pair_coefficient(row, (state, discrete.var), coef)?,
             Err(fault) => return Ok(Err(fault)),
         }
     }
@@ -450,7 +446,7 @@ fn set_form_product_pairs(
 }
 
 // Sets the coefficient of a pair of variables.
-fn set_form_product_pair(
+fn set_pair_coefficient(
     row: &mut BTreeMap<(u32, u32), Ratio>,
     pair: (u32, u32),
     value: Ratio,

@@ -48,19 +48,19 @@ impl RunningForm {
         requires reduced { IsReducedSum self.old }
         ensures { IfOk result (JoinsForm minus self.old self.new form.now) }
     {
-        match add_form_sum_names(&mut self.names, minus, form.entries.as_slice())? {
+        match add_coefficients(&mut self.names, minus, form.entries.as_slice())? {
             Ok(()) => {}
             Err(fault) => return Ok(Err(fault)),
         }
-        match add_form_sum_pairs(&mut self.pairs, minus, form.products.as_slice())? {
+        match add_pair_coefficients(&mut self.pairs, minus, form.products.as_slice())? {
             Ok(()) => {}
             Err(fault) => return Ok(Err(fault)),
         }
-        match add_form_sum_ratio(minus, self.time, form.time) {
+        match combine_ratios(minus, self.time, form.time) {
             Ok(time) => self.time = time,
             Err(fault) => return Ok(Err(fault)),
         }
-        match add_form_sum_ratio(minus, self.constant, form.constant) {
+        match combine_ratios(minus, self.constant, form.constant) {
             Ok(constant) => self.constant = constant,
             Err(fault) => return Ok(Err(fault)),
         }
@@ -72,8 +72,8 @@ impl RunningForm {
         requires { IsReducedSum self.now }
         ensures { IfOk result (Finishes self.now) }
     {
-        let entries = finish_form_sum_names(alloc, &self.names)?;
-        let products = finish_form_sum_pairs(alloc, &self.pairs)?;
+        let entries = nonzero_coefficients(alloc, &self.names)?;
+        let products = nonzero_pair_coefficients(alloc, &self.pairs)?;
         Ok(ExactForm {
             entries: Items::new(entries),
             products: Items::new(products),
@@ -85,7 +85,7 @@ impl RunningForm {
 
 /// Adds the coefficients of variables to a row, or subtracts them. After an error the row has some
 /// of them.
-pub(crate) fn add_form_sum_names(
+pub(crate) fn add_coefficients(
     row: &mut BTreeMap<u32, Ratio>,
     minus: bool,
     entries: &[ExactEntry],
@@ -96,7 +96,7 @@ pub(crate) fn add_form_sum_names(
         (JoinsList nat_cmp minus row.old.entries row.new.entries (map named entries.now)) }
 {
     for entry in entries {
-        match add_form_sum_name(row, minus, entry.var, entry.coef)? {
+        match add_to_coefficient(row, minus, entry.var, entry.coef)? {
             Ok(()) => {}
             Err(fault) => return Ok(Err(fault)),
         }
@@ -105,7 +105,7 @@ pub(crate) fn add_form_sum_names(
 }
 
 // Adds a fraction to the coefficient of a variable, or subtracts it.
-fn add_form_sum_name(
+fn add_to_coefficient(
     row: &mut BTreeMap<u32, Ratio>,
     minus: bool,
     var: u32,
@@ -113,7 +113,7 @@ fn add_form_sum_name(
 ) -> Result<Result<(), NumErr>, AllocError>
     ensures { IfOk result (JoinsAt nat_cmp minus row.old.entries row.new.entries var value) }
 {
-    match add_form_sum_ratio(minus, form_sum_coefficient(row, var), value) {
+    match combine_ratios(minus, coefficient_of_variable(row, var), value) {
         Ok(total) => {
             row.insert(var, total)?;
             Ok(Ok(()))
@@ -123,7 +123,7 @@ fn add_form_sum_name(
 }
 
 // Returns the sum or the difference of two fractions.
-pub(crate) fn add_form_sum_ratio(minus: bool, left: Ratio, right: Ratio) -> Result<Ratio, NumErr>
+pub(crate) fn combine_ratios(minus: bool, left: Ratio, right: Ratio) -> Result<Ratio, NumErr>
     ensures { result ≡ checked (joined minus left right) }
 {
     if minus {
@@ -134,7 +134,7 @@ pub(crate) fn add_form_sum_ratio(minus: bool, left: Ratio, right: Ratio) -> Resu
 }
 
 // Returns the coefficient of a variable.
-fn form_sum_coefficient(row: &BTreeMap<u32, Ratio>, var: u32) -> Ratio
+fn coefficient_of_variable(row: &BTreeMap<u32, Ratio>, var: u32) -> Ratio
     ensures { result ≡ value_at nat_cmp row.now.entries var }
 {
     match row.get(&var) {
@@ -145,7 +145,7 @@ fn form_sum_coefficient(row: &BTreeMap<u32, Ratio>, var: u32) -> Ratio
 
 /// Adds the coefficients of pairs to a row, or subtracts them. After an error the row has some of
 /// them.
-pub(crate) fn add_form_sum_pairs(
+pub(crate) fn add_pair_coefficients(
     row: &mut BTreeMap<(u32, u32), Ratio>,
     minus: bool,
     products: &[ExactProduct],
@@ -157,7 +157,7 @@ pub(crate) fn add_form_sum_pairs(
 {
     for product in products {
         let pair = (product.state, product.discrete);
-        match add_form_sum_pair(row, minus, pair, product.coef)? {
+        match add_to_pair_coefficient(row, minus, pair, product.coef)? {
             Ok(()) => {}
             Err(fault) => return Ok(Err(fault)),
         }
@@ -166,7 +166,7 @@ pub(crate) fn add_form_sum_pairs(
 }
 
 // Adds a fraction to the coefficient of a pair, or subtracts it.
-fn add_form_sum_pair(
+fn add_to_pair_coefficient(
     row: &mut BTreeMap<(u32, u32), Ratio>,
     minus: bool,
     pair: (u32, u32),
@@ -174,7 +174,7 @@ fn add_form_sum_pair(
 ) -> Result<Result<(), NumErr>, AllocError>
     ensures { IfOk result (JoinsAt pair_cmp minus row.old.entries row.new.entries pair value) }
 {
-    match add_form_sum_ratio(minus, form_sum_pair_coefficient(row, pair), value) {
+    match combine_ratios(minus, coefficient_of_pair(row, pair), value) {
         Ok(total) => {
             row.insert(pair, total)?;
             Ok(Ok(()))
@@ -184,7 +184,7 @@ fn add_form_sum_pair(
 }
 
 // Returns the coefficient of a pair of variables.
-fn form_sum_pair_coefficient(row: &BTreeMap<(u32, u32), Ratio>, pair: (u32, u32)) -> Ratio
+fn coefficient_of_pair(row: &BTreeMap<(u32, u32), Ratio>, pair: (u32, u32)) -> Ratio
     ensures { result ≡ value_at pair_cmp row.now.entries pair }
 {
     match row.get(&pair) {
@@ -194,7 +194,7 @@ fn form_sum_pair_coefficient(row: &BTreeMap<(u32, u32), Ratio>, pair: (u32, u32)
 }
 
 /// Returns the nonzero coefficients of variables.
-pub(crate) fn finish_form_sum_names(
+pub(crate) fn nonzero_coefficients(
     alloc: Global,
     row: &BTreeMap<u32, Ratio>,
 ) -> Result<Vec<ExactEntry>, AllocError>
@@ -215,7 +215,7 @@ pub(crate) fn finish_form_sum_names(
 }
 
 /// Returns the nonzero coefficients of pairs.
-pub(crate) fn finish_form_sum_pairs(
+pub(crate) fn nonzero_pair_coefficients(
     alloc: Global,
     row: &BTreeMap<(u32, u32), Ratio>,
 ) -> Result<Vec<ExactProduct>, AllocError>

@@ -26,7 +26,7 @@ ghost use Rattle.mu_affine.specs.FormOf.{form_of};
 
 use crate::affine_fault::AffineErr;
 use crate::exact_form::{ExactForm, Forms, Place, Sizes};
-use crate::expression_form::{action_expression_form, condition_expression_form, expression_form};
+use crate::expression_form::{expression_form, form_of_action, form_of_condition};
 use mu_causal::causal_outcome::Order;
 use mu_io::Items;
 use mu_num::Ratio;
@@ -54,9 +54,9 @@ pub fn normal(alloc: Global, m: &FlatModel, order: &Order) -> Result<Forms, Affi
     ensures ok { IfOk result (AreForms (flat_model m.now) order.now.vars) }
     ensures err { IfErr result (IsAffineFault (flat_model m.now) order.now.vars) }
 {
-    let sizes = normal_form_sizes(&m.vars);
+    let sizes = count_states_and_discretes(&m.vars);
     let firsts = first_normal_equations(alloc, m.vars.len(), &m.equations)?;
-    let solved = solve_normal_forms(alloc, sizes, m, &firsts, order.vars.as_slice())?;
+    let solved = solve_algebraic_variables(alloc, sizes, m, &firsts, order.vars.as_slice())?;
     let mut kept = CountedForms {
         forms: Vec::new(alloc),
         count: solved.count,
@@ -69,7 +69,7 @@ pub fn normal(alloc: Global, m: &FlatModel, order: &Order) -> Result<Forms, Affi
 }
 
 /// Counts the states and the discrete variables.
-pub(crate) fn normal_form_sizes(vars: &[FlatVar]) -> Sizes
+pub(crate) fn count_states_and_discretes(vars: &[FlatVar]) -> Sizes
     requires { length vars.now < 2 ^ 32 }
     ensures states { result.states ≡ count_of_role State (map flat_variable vars.now) }
     ensures discretes { result.discretes ≡ count_of_role Discrete (map flat_variable vars.now) }
@@ -109,7 +109,7 @@ pub(crate) fn first_normal_equations(
 
 /// Returns the forms of the algebraic variables by number, solved in this order. All other forms
 /// are 0.
-pub(crate) fn solve_normal_forms(
+pub(crate) fn solve_algebraic_variables(
     alloc: Global,
     sizes: Sizes,
     m: &FlatModel,
@@ -125,16 +125,16 @@ pub(crate) fn solve_normal_forms(
     ensures { SolvesAll sizes (length firsts.now)
         (solve_all (flat_model m.now) order.now nothing_taken) result }
 {
-    let forms = zero_normal_forms(alloc, firsts.len())?;
+    let forms = zero_forms(alloc, firsts.len())?;
     let mut solved = CountedForms { forms, count: 0 };
     for var in order {
-        solve_normal_form(alloc, sizes, m, firsts, &mut solved, *var)?;
+        solve_next_variable(alloc, sizes, m, firsts, &mut solved, *var)?;
     }
     Ok(solved)
 }
 
 // Returns `count` zero forms.
-fn zero_normal_forms(alloc: Global, count: usize) -> Result<Vec<ExactForm>, AllocError>
+fn zero_forms(alloc: Global, count: usize) -> Result<Vec<ExactForm>, AllocError>
     ensures zeros { IfOk result (λ forms. AreZeros forms.items) }
     ensures one_each { IfOk result (λ forms. length forms.items ≡ count) }
 {
@@ -146,7 +146,7 @@ fn zero_normal_forms(alloc: Global, count: usize) -> Result<Vec<ExactForm>, Allo
 }
 
 // Computes the form of the next algebraic variable.
-fn solve_normal_form(
+fn solve_next_variable(
     alloc: Global,
     sizes: Sizes,
     m: &FlatModel,
@@ -164,14 +164,14 @@ fn solve_normal_form(
     ensures { Solves sizes (length firsts.now)
         (solve (flat_model m.now) var (solved_so_far solved.old)) solved.new result }
 {
-    let form = right_side_normal_form(alloc, sizes, &m.equations, firsts, &solved.forms, var)?;
-    solved.count = count_normal_form(solved.count, &form)?;
+    let form = right_side_form(alloc, sizes, &m.equations, firsts, &solved.forms, var)?;
+    solved.count = count_coefficients(solved.count, &form)?;
     solved.forms[var as usize] = form;
     Ok(())
 }
 
 /// Returns the form of the right-hand side of a variable's equation.
-pub(crate) fn right_side_normal_form(
+pub(crate) fn right_side_form(
     alloc: Global,
     sizes: Sizes,
     equations: &[FlatEquation],
@@ -201,14 +201,14 @@ pub(crate) fn right_side_normal_form(
 }
 
 /// Adds the number of a form's nonzero coefficients to the count.
-pub(crate) fn count_normal_form(count: u32, form: &ExactForm) -> Result<u32, AffineErr>
+pub(crate) fn count_coefficients(count: u32, form: &ExactForm) -> Result<u32, AffineErr>
     requires { count ≤ 2 ^ 16 }
     ensures { (p : Place) → IsFinished p form.now
         → result ≡ counted p.sizes count (form_meaning form.now) }
 {
     let with_names = add_to_normal_count(count, form.entries.as_slice().len())?;
     let with_pairs = add_to_normal_count(with_names, form.products.as_slice().len())?;
-    if has_normal_form_time(form) {
+    if has_time_coefficient(form) {
         add_to_normal_count(with_pairs, 1)
     } else {
         Ok(with_pairs)
@@ -229,7 +229,7 @@ fn add_to_normal_count(count: u32, more: usize) -> Result<u32, AffineErr>
 }
 
 // Returns whether a form has a coefficient of time.
-fn has_normal_form_time(form: &ExactForm) -> bool
+fn has_time_coefficient(form: &ExactForm) -> bool
     ensures { result ≡ is_nonzero form.now.time }
 {
     form.time.num() != 0
@@ -258,18 +258,18 @@ pub(crate) fn keep_normal_state_forms(
         result }
 {
     for var in 0..sizes.states {
-        let form = right_side_normal_form(alloc, sizes, &m.equations, firsts, solved, var)?;
-        keep_normal_form(kept, form)?;
+        let form = right_side_form(alloc, sizes, &m.equations, firsts, solved, var)?;
+        push_counted_form(kept, form)?;
     }
     Ok(())
 }
 
 /// Appends a form and counts its coefficients.
-pub(crate) fn keep_normal_form(kept: &mut CountedForms, form: ExactForm) -> Result<(), AffineErr>
+pub(crate) fn push_counted_form(kept: &mut CountedForms, form: ExactForm) -> Result<(), AffineErr>
     requires { kept.old.count ≤ 2 ^ 16 }
     ensures { (p : Place) → IsFinished p form → Keeps p.sizes form kept.old kept.new result }
 {
-    let count = count_normal_form(kept.count, &form)?;
+    let count = count_coefficients(kept.count, &form)?;
     kept.forms.push(form)?;
     kept.count = count;
     Ok(())
@@ -320,8 +320,8 @@ fn keep_normal_branch_forms(
         in_equation: false,
     };
     for branch in branches {
-        let form = condition_expression_form(alloc, place, solved, branch)?;
-        keep_normal_form(kept, form)?;
+        let form = form_of_condition(alloc, place, solved, branch)?;
+        push_counted_form(kept, form)?;
         keep_normal_action_forms(alloc, sizes, solved, &branch.body, kept)?;
     }
     Ok(())
@@ -349,8 +349,8 @@ fn keep_normal_action_forms(
         in_equation: false,
     };
     for action in actions {
-        let form = action_expression_form(alloc, place, solved, action)?;
-        keep_normal_form(kept, form)?;
+        let form = form_of_action(alloc, place, solved, action)?;
+        push_counted_form(kept, form)?;
     }
     Ok(())
 }

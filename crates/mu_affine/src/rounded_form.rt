@@ -19,12 +19,12 @@ use crate::machine_fault::MachineErr;
 use crate::rounded_machine::Units;
 use mu_io::Items;
 use mu_num::{Ratio, ceil_div, exceeds_power_of_two, floor_div, nearest, times_power_of_two};
-use qss_machine::{Entry, Form, Product, SlopeRow, is_slope_row_in_limits};
+use qss_machine::{Entry, Form, Product, SlopeRow, is_row_in_limits};
 use std::alloc::{AllocError, Global};
 
 /// Returns an error for the first right-hand side whose absolute row sum exceeds its limit at the
 /// start.
-pub(crate) fn check_rounded_form_starts(
+pub(crate) fn check_start_row_sums(
     alloc: Global,
     forms: &[ExactForm],
     levels: &[i64],
@@ -75,7 +75,7 @@ pub(crate) fn round_form(
     };
     let time = round_form_number(form.time, units.p);
     let gamma = round_form_number(form.constant, units.f + units.p);
-    if !is_rounded_form_within(entries.as_slice(), time, gamma) {
+    if !is_form_in_limits(entries.as_slice(), time, gamma) {
         return Ok(None);
     }
     Ok(Some(Form {
@@ -151,7 +151,7 @@ fn is_rounded_start_valid(
     let Some(row) = round_form_row(alloc, form, units)? else {
         return Ok(true);
     };
-    Ok(is_slope_row_in_limits(&row, units.f, levels, values))
+    Ok(is_row_in_limits(&row, units.f, levels, values))
 }
 
 /// Rounds a right-hand side. Returns `None` if a coefficient or the constant exceeds its limit.
@@ -227,14 +227,14 @@ fn push_rounded_entry(entries: &mut Vec<Entry>, entry: Entry) -> Result<(), Allo
         (entries.new.items
         ≡ entries.old.items ++ (if is_some_number entry.coef then entry ∷ [] else [])) }
 {
-    if is_rounded_form_number(i128::from(entry.coef)) {
+    if is_nonzero_coefficient(i128::from(entry.coef)) {
         entries.push(entry)?;
     }
     Ok(())
 }
 
 /// Returns whether a number is not 0.
-pub(crate) fn is_rounded_form_number(z: i128) -> bool
+pub(crate) fn is_nonzero_coefficient(z: i128) -> bool
     ensures { result ≡ is_some_number z }
 {
     z != 0
@@ -277,7 +277,7 @@ fn push_rounded_product(products: &mut Vec<Product>, product: Product) -> Result
         (products.new.items
         ≡ products.old.items ++ (if is_some_number product.coef then product ∷ [] else [])) }
 {
-    if is_rounded_form_number(i128::from(product.coef)) {
+    if is_nonzero_coefficient(i128::from(product.coef)) {
         products.push(product)?;
     }
     Ok(())
@@ -285,31 +285,31 @@ fn push_rounded_product(products: &mut Vec<Product>, product: Product) -> Result
 
 // Returns whether the coefficients, including the coefficient of time, and the constant are within
 // the limits of a form.
-fn is_rounded_form_within(entries: &[Entry], time: i128, gamma: i128) -> bool
+fn is_form_in_limits(entries: &[Entry], time: i128, gamma: i128) -> bool
     requires count_limit { length entries.now < 2 ^ 64 }
     ensures { result ≡ form_fits (record { entries = entries.now; time = time; gamma = gamma }) }
 {
     let most = 1u128 << 38;
-    let sum = rounded_form_size_sum(entries);
+    let sum = sum_of_sizes(entries);
     let own = time.unsigned_abs();
     sum <= most && own <= most && sum + own <= most && !exceeds_power_of_two(gamma, 78)
 }
 
 // Returns the sum of the absolute values of coefficients.
-fn rounded_form_size_sum(entries: &[Entry]) -> u128
+fn sum_of_sizes(entries: &[Entry]) -> u128
     requires { length entries.now < 2 ^ 64 }
     ensures value { result ≡ sum_by (λ e. unsigned_abs e.coef) entries.now }
     ensures bound { result ≤ 2 ^ 127 }
 {
     let mut sum: u128 = 0;
     for entry in entries {
-        sum += rounded_form_entry_size(entry);
+        sum += size_of_coefficient(entry);
     }
     sum
 }
 
 // Returns the absolute value of a coefficient.
-fn rounded_form_entry_size(entry: &Entry) -> u128
+fn size_of_coefficient(entry: &Entry) -> u128
     ensures value { result ≡ unsigned_abs entry.now.coef }
     ensures bound { result ≤ 2 ^ 63 }
 {

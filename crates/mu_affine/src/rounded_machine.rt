@@ -25,7 +25,7 @@ ghost use Rattle.mu_affine.specs.RoundedMachines.{AreFormsFor, IsMachineOf};
 use crate::exact_form::{ExactForm, Forms};
 use crate::machine_fault::MachineErr;
 use crate::rounded_form::{
-    check_rounded_form_starts, round_form, round_form_number, round_form_number_down,
+    check_start_row_sums, round_form, round_form_number, round_form_number_down,
     round_form_number_up, round_form_rows,
 };
 use mu_io::Items;
@@ -79,23 +79,23 @@ pub fn to_machine(
     ensures refused { IfErr result
         (IsRefusal (machine_checks f.now.forms (flat_model m.now) s.now)) }
 {
-    let units = rounded_machine_units(s)?;
-    let kinds = rounded_machine_kinds(&m.vars);
+    let units = machine_units(s)?;
+    let kinds = split_variables(&m.vars);
     let first = kinds.states.len();
     let forms = f.forms.as_slice();
     let rights = &forms[..first];
     let levels = round_machine_levels(alloc, kinds.states, units)?;
     let values = round_machine_values(alloc, kinds.discretes, first, units)?;
-    check_rounded_form_starts(alloc, rights, &levels, &values, units)?;
+    check_start_row_sums(alloc, rights, &levels, &values, units)?;
     let states = round_machine_states(alloc, kinds.states, units)?;
     let discretes = round_machine_discretes(alloc, kinds.discretes, &values, units.f)?;
     let rows = round_form_rows(alloc, rights, units)?;
     let clauses = round_machine_clauses(alloc, &m.clauses, forms, first, units)?;
-    Ok(assemble_rounded_machine(units, states, discretes, rows, clauses))
+    Ok(assemble_machine(units, states, discretes, rows, clauses))
 }
 
 /// Computes the units. The error is the first invalid setting.
-pub(crate) fn rounded_machine_units(s: &Settings) -> Result<Units, MachineErr>
+pub(crate) fn machine_units(s: &Settings) -> Result<Units, MachineErr>
     ensures ok { IfOk result (λ _. first_failed (setting_checks s.now) ≡ None) }
     ensures bits { IfOk result
         (λ u. (u.p ≡ bits_of s.now.coef_bits)
@@ -105,28 +105,28 @@ pub(crate) fn rounded_machine_units(s: &Settings) -> Result<Units, MachineErr>
     ensures err { IfErr result (λ fault. first_failed (setting_checks s.now) ≡ Some fault) }
 {
     if s.start.num() != 0 {
-        return Err(refuse_rounded_machine(SettingName::StartTime, s.start));
+        return Err(refuse_setting(SettingName::StartTime, s.start));
     }
     if s.stop.num() < 0 {
-        return Err(refuse_rounded_machine(SettingName::StopTime, s.stop));
+        return Err(refuse_setting(SettingName::StopTime, s.stop));
     }
     let Some(p) = bits(s.coef_bits, 32) else {
-        return Err(refuse_rounded_machine(SettingName::CoefBits, s.coef_bits));
+        return Err(refuse_setting(SettingName::CoefBits, s.coef_bits));
     };
-    let Some(k) = rounded_machine_more_bits(s.tick_bits, 20, p, 44) else {
-        return Err(refuse_rounded_machine(SettingName::TickBits, s.tick_bits));
+    let Some(k) = bits_within_sum(s.tick_bits, 20, p, 44) else {
+        return Err(refuse_setting(SettingName::TickBits, s.tick_bits));
     };
-    let Some(f) = rounded_machine_more_bits(s.level_bits, 24, p + k, 62) else {
-        return Err(refuse_rounded_machine(SettingName::LevelBits, s.level_bits));
+    let Some(f) = bits_within_sum(s.level_bits, 24, p + k, 62) else {
+        return Err(refuse_setting(SettingName::LevelBits, s.level_bits));
     };
-    let Some(last) = rounded_machine_last_tick(s.stop, k) else {
-        return Err(refuse_rounded_machine(SettingName::StopTime, s.stop));
+    let Some(last) = last_tick_before(s.stop, k) else {
+        return Err(refuse_setting(SettingName::StopTime, s.stop));
     };
     Ok(Units { p, k, f, last })
 }
 
 // Creates the error of an invalid setting.
-fn refuse_rounded_machine(which: SettingName, value: Ratio) -> MachineErr
+fn refuse_setting(which: SettingName, value: Ratio) -> MachineErr
     ensures { result ≡ MachineErr.Setting which value }
 {
     MachineErr::Setting { which, value }
@@ -139,7 +139,7 @@ fn bits(value: Ratio, limit: u8) -> Option<u8>
     ensures some { IfSome result
         (λ bits. (is_bits limit value ≡ true) × (bits ≡ bits_of value) × (bits ≤ limit)) }
 {
-    if has_rounded_machine_bits(value, limit) {
+    if is_integer_up_to(value, limit) {
         Some(value.num() as u8)
     } else {
         None
@@ -147,14 +147,14 @@ fn bits(value: Ratio, limit: u8) -> Option<u8>
 }
 
 // Returns whether a number is an integer from 0 to a limit.
-fn has_rounded_machine_bits(value: Ratio, limit: u8) -> bool
+fn is_integer_up_to(value: Ratio, limit: u8) -> bool
     ensures { result ≡ is_bits limit value }
 {
     value.den() == 1 && 0 <= value.num() && value.num() <= i128::from(limit)
 }
 
 // Converts a number like `bits`. Returns `None` also if the sum with `others` exceeds `most`.
-fn rounded_machine_more_bits(value: Ratio, limit: u8, others: u8, most: u8) -> Option<u8>
+fn bits_within_sum(value: Ratio, limit: u8, others: u8, most: u8) -> Option<u8>
     requires limit { limit ≤ 64 }
     requires others { others ≤ 64 }
     ensures none { IfNone result
@@ -174,7 +174,7 @@ fn rounded_machine_more_bits(value: Ratio, limit: u8, others: u8, most: u8) -> O
 }
 
 // Returns the last tick, or `None` if it is not below 2^32.
-fn rounded_machine_last_tick(stop: Ratio, tick_bits: u8) -> Option<u64>
+fn last_tick_before(stop: Ratio, tick_bits: u8) -> Option<u64>
     requires bits { tick_bits ≤ 20 }
     requires stop { pos 0 ≤ℤ stop.num }
     ensures none { IfNone result (int_lt (rounded_up tick_bits stop) (pos (2 ^ 32)) ≡ false) }
@@ -192,7 +192,7 @@ fn rounded_machine_last_tick(stop: Ratio, tick_bits: u8) -> Option<u64>
 }
 
 /// Splits the variables. The states come first and the discrete variables next.
-pub(crate) fn rounded_machine_kinds(vars: &[FlatVar]) -> Kinds<'_>
+pub(crate) fn split_variables(vars: &[FlatVar]) -> Kinds<'_>
     ensures states { map flat_variable result.states.now ≡ states_of (map flat_variable vars.now) }
     ensures discretes { map flat_variable result.discretes.now
         ≡ discretes_of (map flat_variable vars.now) }
@@ -200,24 +200,22 @@ pub(crate) fn rounded_machine_kinds(vars: &[FlatVar]) -> Kinds<'_>
     ensures discrete_count { length result.discretes.now
         ≡ discrete_count (map flat_variable vars.now) }
 {
-    let first = rounded_machine_state_count(vars);
-    let past = first + rounded_machine_discrete_count(vars);
+    let first = count_state_variables(vars);
+    let past = first + count_discrete_variables(vars);
     let states = &vars[..first];
     let discretes = &vars[first..past];
     Kinds { states, discretes }
 }
 
 // Counts the states.
-fn rounded_machine_state_count(vars: &[FlatVar]) -> usize
+fn count_state_variables(vars: &[FlatVar]) -> usize
     ensures { result ≡ state_count (map flat_variable vars.now) }
 {
-    vars.iter()
-        .filter(|v| is_rounded_machine_state(v.role))
-        .count()
+    vars.iter().filter(|v| is_state_role(v.role)).count()
 }
 
 // Returns whether a role is that of states.
-fn is_rounded_machine_state(role: FlatRole) -> bool
+fn is_state_role(role: FlatRole) -> bool
     ensures { result ≡ is_state role }
 {
     match role {
@@ -227,16 +225,14 @@ fn is_rounded_machine_state(role: FlatRole) -> bool
 }
 
 // Counts the discrete variables.
-fn rounded_machine_discrete_count(vars: &[FlatVar]) -> usize
+fn count_discrete_variables(vars: &[FlatVar]) -> usize
     ensures { result ≡ discrete_count (map flat_variable vars.now) }
 {
-    vars.iter()
-        .filter(|v| is_rounded_machine_discrete(v.role))
-        .count()
+    vars.iter().filter(|v| is_discrete_role(v.role)).count()
 }
 
 // Returns whether a role is that of discrete variables.
-fn is_rounded_machine_discrete(role: FlatRole) -> bool
+fn is_discrete_role(role: FlatRole) -> bool
     ensures { result ≡ is_discrete role }
 {
     match role {
@@ -592,7 +588,7 @@ fn round_machine_relation(rel: ReadRel) -> Rel
 }
 
 // Assembles the machine from these parts.
-fn assemble_rounded_machine(
+fn assemble_machine(
     units: Units,
     states: Vec<StateInfo>,
     discretes: Vec<DiscreteInfo>,

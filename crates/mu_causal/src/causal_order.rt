@@ -9,9 +9,9 @@ ghost use Rattle.mu_causal.specs.OrderResults.{IsCausalFault};
 
 use crate::causal_outcome::{CausalErr, Order};
 use crate::dependency_graph::{
-    Causality, causality_of_graph, dependency_graph_of, known_dependencies,
+    Causality, causality_of_graph, known_dependencies, list_dependencies,
 };
-use crate::equation_counts::check_equation_counts;
+use crate::equation_counts::check_one_equation_each;
 use mu_io::Items;
 use mu_tree::FlatModel;
 use std::alloc::Global;
@@ -26,10 +26,10 @@ pub fn order(alloc: Global, m: &FlatModel) -> Result<Order, CausalErr>
         (λ o. IsOrder (IsAlgebraic (flat_model m.now)) (DependsOn (flat_model m.now)) o.vars) }
     ensures refused { IfErr result (IsCausalFault (flat_model m.now)) }
 {
-    if let Err(fault) = check_equation_counts(alloc, m) {
+    if let Err(fault) = check_one_equation_each(alloc, m) {
         return Err(fault);
     }
-    let Ok(graph) = dependency_graph_of(alloc, m) else {
+    let Ok(graph) = list_dependencies(alloc, m) else {
         return Err(CausalErr::Memory);
     };
     let Ok(known) = known_dependencies(alloc, &m.vars) else {
@@ -48,7 +48,7 @@ pub fn order(alloc: Global, m: &FlatModel) -> Result<Order, CausalErr>
 
 /// A flat model with a causal order has no algebraic loop. So a loop is reported if and only if
 /// there is one.
-pub fn causal_order_excludes_cycle()
+pub fn order_excludes_cycle()
     ensures { (m : FlatModelTree) (vars round : List ℕ)
         → IsOrder (IsAlgebraic m) (DependsOn m) vars
         → IsCycle (DependsOn m) round
@@ -57,7 +57,7 @@ pub fn causal_order_excludes_cycle()
 
 /// A flat model with a causal order has no closed chain of dependencies, even if the chain repeats
 /// variables or does not begin with the least one.
-pub fn causal_order_excludes_chains()
+pub fn order_excludes_chains()
     ensures { (m : FlatModelTree) (vars : List ℕ) (v : ℕ) (vs : List ℕ)
         → IsOrder (IsAlgebraic m) (DependsOn m) vars
         → Chain (DependsOn m) v vs v
@@ -65,7 +65,7 @@ pub fn causal_order_excludes_chains()
 {}
 
 /// A flat model has at most one causal order.
-pub fn causal_order_is_unique()
+pub fn order_is_unique()
     ensures { (m : FlatModelTree) (a b : List ℕ) → IsOrder (IsAlgebraic m) (DependsOn m) a
         → IsOrder (IsAlgebraic m) (DependsOn m) b
         → a ≡ b }

@@ -55,7 +55,7 @@ pub fn causality_of_graph(
 /// Returns the dependency graph. The row of an algebraic variable has the variables that its
 /// equations read. Other rows are empty. The function reads each equation once. Errors: allocation
 /// failure.
-pub fn dependency_graph_of(alloc: Global, m: &FlatModel) -> Result<Vec<Vec<u32>>, AllocError>
+pub fn list_dependencies(alloc: Global, m: &FlatModel) -> Result<Vec<Vec<u32>>, AllocError>
     requires { length m.now.vars.items < 2 ^ 32 }
     ensures { IfOk result (λ graph. IsGraphOf (flat_model m.now) graph.items) }
 {

@@ -38,7 +38,7 @@ impl Given {
 
 /// Checks that each state and each algebraic variable has exactly one equation. Errors: the least
 /// variable that does not, or out of memory.
-pub fn check_equation_counts(alloc: Global, m: &FlatModel) -> Result<(), CausalErr>
+pub fn check_one_equation_each(alloc: Global, m: &FlatModel) -> Result<(), CausalErr>
     requires { IsNumbered (flat_model m.now) }
     ensures ok { OnOk result (EachHasOneEquation (flat_model m.now)) }
     ensures err { IfErr result (IsCausalFault (flat_model m.now)) }
@@ -47,7 +47,7 @@ pub fn check_equation_counts(alloc: Global, m: &FlatModel) -> Result<(), CausalE
         return Err(CausalErr::Memory);
     };
     for (place, variable) in m.vars.iter().enumerate() {
-        if wants_equation_count(variable.role) {
+        if needs_equation(variable.role) {
             let var = place as u32;
             match given[place] {
                 Given::Never => return Err(CausalErr::NoEquation { var }),
@@ -86,7 +86,7 @@ fn count_equations_by_target(
 }
 
 // Returns whether a variable with this role needs an equation: a state or an algebraic variable.
-fn wants_equation_count(role: FlatRole) -> bool
+fn needs_equation(role: FlatRole) -> bool
     ensures { result ≡ wants_equation role }
 {
     match role {

@@ -24,7 +24,7 @@ impl Copied for FlatExpr {
     fn copy(&self, alloc: Global) -> Result<FlatExpr, AllocError>
         ensures { IfOk result (λ copy. flat_expression copy ≡ flat_expression self.now) }
     {
-        copy_flat_expression(alloc, self)
+        duplicate_expression(alloc, self)
     }
 }
 
@@ -32,13 +32,13 @@ impl Copied for FlatModel {
     fn copy(&self, alloc: Global) -> Result<FlatModel, AllocError>
         ensures { IfOk result (λ copy. flat_model copy ≡ flat_model self.now) }
     {
-        copy_flat_model(alloc, self)
+        duplicate_model(alloc, self)
     }
 }
 
 // Returns a copy of an expression.
 #[cycle(copying_flat)]
-fn copy_flat_expression(alloc: Global, value: &FlatExpr) -> Result<FlatExpr, AllocError>
+fn duplicate_expression(alloc: Global, value: &FlatExpr) -> Result<FlatExpr, AllocError>
     ensures { IfOk result (λ copy. flat_expression copy ≡ flat_expression value.now) }
 {
     match value {
@@ -50,15 +50,15 @@ fn copy_flat_expression(alloc: Global, value: &FlatExpr) -> Result<FlatExpr, All
         FlatExpr::Pre { var, at } => Ok(FlatExpr::Pre { var: *var, at: *at }),
         FlatExpr::Time { at } => Ok(FlatExpr::Time { at: *at }),
         FlatExpr::Sum { terms } => {
-            let terms = copy_flat_terms(alloc, terms)?;
+            let terms = duplicate_terms(alloc, terms)?;
             Ok(FlatExpr::Sum { terms })
         }
         FlatExpr::Product { factors } => {
-            let factors = copy_flat_factors(alloc, factors)?;
+            let factors = duplicate_factors(alloc, factors)?;
             Ok(FlatExpr::Product { factors })
         }
         FlatExpr::Pow { base, exp, at } => {
-            let base = copy_flat_expression(alloc, base)?;
+            let base = duplicate_expression(alloc, base)?;
             let base = Box::new(alloc, base)?;
             Ok(FlatExpr::Pow {
                 base,
@@ -71,12 +71,12 @@ fn copy_flat_expression(alloc: Global, value: &FlatExpr) -> Result<FlatExpr, All
 
 // Returns a copy of the terms.
 #[cycle(copying_flat)]
-fn copy_flat_terms(alloc: Global, terms: &[FlatTerm]) -> Result<Vec<FlatTerm>, AllocError>
+fn duplicate_terms(alloc: Global, terms: &[FlatTerm]) -> Result<Vec<FlatTerm>, AllocError>
     ensures { IfOk result (λ copy. map flat_signed copy.items ≡ map flat_signed terms.now) }
 {
     let mut all = Vec::new(alloc);
     for term in terms {
-        let value = copy_flat_expression(alloc, &term.value)?;
+        let value = duplicate_expression(alloc, &term.value)?;
         all.push(FlatTerm {
             minus: term.minus,
             at: term.at,
@@ -88,12 +88,12 @@ fn copy_flat_terms(alloc: Global, terms: &[FlatTerm]) -> Result<Vec<FlatTerm>, A
 
 // Returns a copy of the factors.
 #[cycle(copying_flat)]
-fn copy_flat_factors(alloc: Global, factors: &[FlatFactor]) -> Result<Vec<FlatFactor>, AllocError>
+fn duplicate_factors(alloc: Global, factors: &[FlatFactor]) -> Result<Vec<FlatFactor>, AllocError>
     ensures { IfOk result (λ copy. map flat_scaled copy.items ≡ map flat_scaled factors.now) }
 {
     let mut all = Vec::new(alloc);
     for factor in factors {
-        let value = copy_flat_expression(alloc, &factor.value)?;
+        let value = duplicate_expression(alloc, &factor.value)?;
         all.push(FlatFactor {
             divide: factor.divide,
             at: factor.at,
@@ -104,12 +104,12 @@ fn copy_flat_factors(alloc: Global, factors: &[FlatFactor]) -> Result<Vec<FlatFa
 }
 
 // Returns a copy of a flat model.
-fn copy_flat_model(alloc: Global, m: &FlatModel) -> Result<FlatModel, AllocError>
+fn duplicate_model(alloc: Global, m: &FlatModel) -> Result<FlatModel, AllocError>
     ensures { IfOk result (λ copy. flat_model copy ≡ flat_model m.now) }
 {
-    let vars = copy_flat_variables(alloc, &m.vars)?;
-    let equations = copy_flat_equations(alloc, &m.equations)?;
-    let clauses = copy_flat_clauses(alloc, &m.clauses)?;
+    let vars = duplicate_variables(alloc, &m.vars)?;
+    let equations = duplicate_equations(alloc, &m.equations)?;
+    let clauses = duplicate_clauses(alloc, &m.clauses)?;
     Ok(FlatModel {
         vars,
         equations,
@@ -118,19 +118,19 @@ fn copy_flat_model(alloc: Global, m: &FlatModel) -> Result<FlatModel, AllocError
 }
 
 // Returns a copy of the variables.
-fn copy_flat_variables(alloc: Global, vars: &[FlatVar]) -> Result<Vec<FlatVar>, AllocError>
+fn duplicate_variables(alloc: Global, vars: &[FlatVar]) -> Result<Vec<FlatVar>, AllocError>
     ensures { IfOk result (λ copy. map flat_variable copy.items ≡ map flat_variable vars.now) }
 {
     let mut all = Vec::new(alloc);
     for one in vars {
-        let copy = copy_flat_variable(alloc, one)?;
+        let copy = duplicate_variable(alloc, one)?;
         all.push(copy)?;
     }
     Ok(all)
 }
 
 /// Returns a copy of a variable.
-pub fn copy_flat_variable(alloc: Global, one: &FlatVar) -> Result<FlatVar, AllocError>
+pub fn duplicate_variable(alloc: Global, one: &FlatVar) -> Result<FlatVar, AllocError>
     ensures { IfOk result (λ copy. flat_variable copy ≡ flat_variable one.now) }
 {
     let name = one.name.copy(alloc)?;
@@ -143,7 +143,7 @@ pub fn copy_flat_variable(alloc: Global, one: &FlatVar) -> Result<FlatVar, Alloc
 }
 
 // Returns a copy of the equations.
-fn copy_flat_equations(
+fn duplicate_equations(
     alloc: Global,
     equations: &[FlatEquation],
 ) -> Result<Vec<FlatEquation>, AllocError>
@@ -151,17 +151,17 @@ fn copy_flat_equations(
 {
     let mut all = Vec::new(alloc);
     for one in equations {
-        let copy = copy_flat_equation(alloc, one)?;
+        let copy = duplicate_equation(alloc, one)?;
         all.push(copy)?;
     }
     Ok(all)
 }
 
 /// Returns a copy of an equation.
-pub fn copy_flat_equation(alloc: Global, one: &FlatEquation) -> Result<FlatEquation, AllocError>
+pub fn duplicate_equation(alloc: Global, one: &FlatEquation) -> Result<FlatEquation, AllocError>
     ensures { IfOk result (λ copy. flat_equation copy ≡ flat_equation one.now) }
 {
-    let value = copy_flat_expression(alloc, &one.value)?;
+    let value = duplicate_expression(alloc, &one.value)?;
     Ok(FlatEquation {
         der: one.der,
         target: one.target,
@@ -170,36 +170,36 @@ pub fn copy_flat_equation(alloc: Global, one: &FlatEquation) -> Result<FlatEquat
 }
 
 // Returns a copy of the clauses.
-fn copy_flat_clauses(alloc: Global, clauses: &[FlatClause]) -> Result<Vec<FlatClause>, AllocError>
+fn duplicate_clauses(alloc: Global, clauses: &[FlatClause]) -> Result<Vec<FlatClause>, AllocError>
     ensures { IfOk result (λ copy. map flat_clause copy.items ≡ map flat_clause clauses.now) }
 {
     let mut all = Vec::new(alloc);
     for one in clauses {
-        let copy = copy_flat_clause(alloc, one)?;
+        let copy = duplicate_clause(alloc, one)?;
         all.push(copy)?;
     }
     Ok(all)
 }
 
 /// Returns a copy of a clause.
-pub fn copy_flat_clause(alloc: Global, clause: &FlatClause) -> Result<FlatClause, AllocError>
+pub fn duplicate_clause(alloc: Global, clause: &FlatClause) -> Result<FlatClause, AllocError>
     ensures { IfOk result (λ copy. flat_clause copy ≡ flat_clause clause.now) }
 {
     let mut branches = Vec::new(alloc);
     for one in &clause.branches {
-        let copy = copy_flat_branch(alloc, one)?;
+        let copy = duplicate_branch(alloc, one)?;
         branches.push(copy)?;
     }
     Ok(FlatClause { branches })
 }
 
 /// Returns a copy of a branch.
-pub fn copy_flat_branch(alloc: Global, one: &FlatBranch) -> Result<FlatBranch, AllocError>
+pub fn duplicate_branch(alloc: Global, one: &FlatBranch) -> Result<FlatBranch, AllocError>
     ensures { IfOk result (λ copy. flat_branch copy ≡ flat_branch one.now) }
 {
-    let left = copy_flat_expression(alloc, &one.left)?;
-    let right = copy_flat_expression(alloc, &one.right)?;
-    let body = copy_flat_statements(alloc, &one.body)?;
+    let left = duplicate_expression(alloc, &one.left)?;
+    let right = duplicate_expression(alloc, &one.right)?;
+    let body = duplicate_statements(alloc, &one.body)?;
     Ok(FlatBranch {
         left,
         rel: one.rel,
@@ -210,7 +210,7 @@ pub fn copy_flat_branch(alloc: Global, one: &FlatBranch) -> Result<FlatBranch, A
 }
 
 // Returns a copy of the statements.
-fn copy_flat_statements(
+fn duplicate_statements(
     alloc: Global,
     statements: &[FlatStatement],
 ) -> Result<Vec<FlatStatement>, AllocError>
@@ -218,23 +218,23 @@ fn copy_flat_statements(
 {
     let mut all = Vec::new(alloc);
     for one in statements {
-        let copy = copy_flat_statement(alloc, one)?;
+        let copy = duplicate_statement(alloc, one)?;
         all.push(copy)?;
     }
     Ok(all)
 }
 
 /// Returns a copy of a statement.
-pub fn copy_flat_statement(alloc: Global, one: &FlatStatement) -> Result<FlatStatement, AllocError>
+pub fn duplicate_statement(alloc: Global, one: &FlatStatement) -> Result<FlatStatement, AllocError>
     ensures { IfOk result (λ copy. flat_action copy ≡ flat_action one.now) }
 {
     match one {
         FlatStatement::FlatSet { var, value } => {
-            let value = copy_flat_expression(alloc, value)?;
+            let value = duplicate_expression(alloc, value)?;
             Ok(FlatStatement::FlatSet { var: *var, value })
         }
         FlatStatement::FlatReinit { var, value } => {
-            let value = copy_flat_expression(alloc, value)?;
+            let value = duplicate_expression(alloc, value)?;
             Ok(FlatStatement::FlatReinit { var: *var, value })
         }
     }

@@ -59,7 +59,7 @@ impl Counts {
     {
         if let Some(i) = find_name_index(&self.entries, name) {
             let count = self.entries[i].1;
-            self.entries[i].1 = next_fault_count(count);
+            self.entries[i].1 = count_further_fault(count);
         }
     }
 }
@@ -75,7 +75,7 @@ pub(crate) fn is_fault_call(listed: &[u32], call: u64) -> bool
 }
 
 /// Returns the count plus one. The count saturates at 2^64 - 1.
-pub(crate) fn next_fault_count(count: u64) -> u64
+pub(crate) fn count_further_fault(count: u64) -> u64
     ensures rose { HasOneMoreFault count result }
     ensures counts_never_fall { count ≤ result }
 {

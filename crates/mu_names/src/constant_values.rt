@@ -14,7 +14,7 @@ ghost use Rattle.mu_names.specs.Constant.{name_faults, indexed_faults, value, su
 ghost use Rattle.mu_names.specs.Constant.{product_value, reference_value, faults, sum_faults};
 ghost use Rattle.mu_names.specs.Constant.{product_faults, reference_faults, previous_faults};
 
-use crate::name_fault::{NameErr, note_name_fault};
+use crate::name_fault::{NameErr, keep_least_fault};
 use mu_num::{NumErr, Ratio, decimal};
 use mu_tree::expr::{Expr, Factor, Ref, Term};
 
@@ -77,7 +77,7 @@ pub fn evaluate_constant<M: Meanings>(
         Expr::Num { digits, at } => valued(decimal(digits.bytes()), *at, least),
         Expr::Var(target) => evaluate_constant_reference(meanings, target, least),
         Expr::Time { at } => {
-            note_name_fault(least, NameErr::Misused { at: *at });
+            keep_least_fault(least, NameErr::Misused { at: *at });
             None
         }
         Expr::Pre(target) => {
@@ -101,7 +101,7 @@ fn valued(answer: Result<Ratio, NumErr>, at: u32, least: &mut Option<NameErr>) -
     match answer {
         Ok(value) => Some(value),
         Err(fault) => {
-            note_name_fault(least, NameErr::ConstFault { at, fault });
+            keep_least_fault(least, NameErr::ConstFault { at, fault });
             None
         }
     }
@@ -138,11 +138,11 @@ fn look_up_constant(meaning: Meaning, at: u32, least: &mut Option<NameErr>) -> O
     match meaning {
         Meaning::Constant(value) => value,
         Meaning::Variable => {
-            note_name_fault(least, NameErr::Misused { at });
+            keep_least_fault(least, NameErr::Misused { at });
             None
         }
         Meaning::Undeclared => {
-            note_name_fault(least, NameErr::Unknown { at });
+            keep_least_fault(least, NameErr::Unknown { at });
             None
         }
     }
@@ -153,8 +153,8 @@ fn note_constant_misuse(meaning: Meaning, at: u32, least: &mut Option<NameErr>)
     ensures { least.new ≡ least_of least.old (indexed_faults at meaning) }
 {
     match meaning {
-        Meaning::Undeclared => note_name_fault(least, NameErr::Unknown { at }),
-        _ => note_name_fault(least, NameErr::Misused { at }),
+        Meaning::Undeclared => keep_least_fault(least, NameErr::Unknown { at }),
+        _ => keep_least_fault(least, NameErr::Misused { at }),
     }
 }
 

@@ -23,7 +23,7 @@ ghost use Rattle.mu_names.specs.NameTables.{added_at, entry_at, name_kind_at, is
 
 use crate::constant_values::{Meaning, Meanings, evaluate_constant};
 use crate::name_checks::{check_declared_standing, check_name_taken};
-use crate::name_fault::{NameErr, note_name_fault};
+use crate::name_fault::{NameErr, keep_least_fault};
 use crate::name_kind::{NameKind, Role};
 use crate::name_table::{add, find};
 use mu_io::{Items, Name};
@@ -380,12 +380,12 @@ fn declared_array_size(value: Option<Ratio>, at: u32, least: &mut Option<NameErr
 {
     let value = value?;
     if !is_whole_declared_value(value) {
-        note_name_fault(least, NameErr::NotWhole { at });
+        keep_least_fault(least, NameErr::NotWhole { at });
         return None;
     }
     let number = value.num();
     if !is_declared_array_size(number) {
-        note_name_fault(least, NameErr::Size { at, value: number });
+        keep_least_fault(least, NameErr::Size { at, value: number });
         return None;
     }
     Some(number.unsigned_abs() as u32)
@@ -424,7 +424,7 @@ fn note_whole_declaration(whole: bool, at: u32, value: Option<Ratio>, least: &mu
             None => {}
             Some(value) => {
                 if !is_whole_declared_value(value) {
-                    note_name_fault(least, NameErr::NotWhole { at });
+                    keep_least_fault(least, NameErr::NotWhole { at });
                 }
             }
         }
@@ -444,13 +444,13 @@ fn note_declaration_binding(
 {
     if constant {
         if array {
-            note_name_fault(least, NameErr::Misused { at });
+            keep_least_fault(least, NameErr::Misused { at });
         }
         if !bound {
-            note_name_fault(least, NameErr::NoValue { at });
+            keep_least_fault(least, NameErr::NoValue { at });
         }
     } else if bound {
-        note_name_fault(least, NameErr::Misused { at });
+        keep_least_fault(least, NameErr::Misused { at });
     }
 }
 
@@ -542,7 +542,7 @@ fn note_repeated_setting(again: bool, at: u32, least: &mut Option<NameErr>)
     ensures { least.new ≡ least_of least.old (if again then Duplicate at ∷ [] else []) }
 {
     if again {
-        note_name_fault(least, NameErr::Duplicate { at });
+        keep_least_fault(least, NameErr::Duplicate { at });
     }
 }
 

@@ -23,7 +23,7 @@ use crate::declared_scope::{
     Scope, declared_names, derived_names, evaluate_declarations, known_declared_names,
     model_settings,
 };
-use crate::name_fault::{NameErr, note_name_fault};
+use crate::name_fault::{NameErr, keep_least_fault};
 use crate::name_kind::{NameContext, NameKind, NameRequirement};
 use crate::name_table::find;
 use mu_io::{Items, Name};
@@ -82,7 +82,7 @@ fn check_end_name(m: &Model, least: &mut Option<NameErr>)
         ∷ []) }
 {
     if m.name.bytes() != m.end_name.bytes() {
-        note_name_fault(least, NameErr::EndName { at: m.end_at });
+        keep_least_fault(least, NameErr::EndName { at: m.end_at });
     }
 }
 
@@ -240,15 +240,15 @@ fn check_name_use(
     ensures { least.new ≡ least_of least.old (named_faults want indexed at standing) }
 {
     match standing {
-        NameKind::Missing => note_name_fault(least, NameErr::Unknown { at }),
+        NameKind::Missing => keep_least_fault(least, NameErr::Unknown { at }),
         NameKind::Loop => {
             if !(want.allows_loop_name_kind() && !indexed) {
-                note_name_fault(least, NameErr::Misused { at });
+                keep_least_fault(least, NameErr::Misused { at });
             }
         }
         NameKind::Declared(role, array) => {
             if !(want.fits_name_kind(role) && array == indexed) {
-                note_name_fault(least, NameErr::Misused { at });
+                keep_least_fault(least, NameErr::Misused { at });
             }
         }
     }
@@ -300,7 +300,7 @@ fn check_time_use(reading: NameContext, at: u32, least: &mut Option<NameErr>)
 {
     match reading {
         NameContext::Equation | NameContext::Clause => {}
-        NameContext::Constant => note_name_fault(least, NameErr::Misused { at }),
+        NameContext::Constant => keep_least_fault(least, NameErr::Misused { at }),
     }
 }
 
@@ -371,7 +371,7 @@ pub fn check_name_taken(at: u32, standing: NameKind, least: &mut Option<NameErr>
 {
     match standing {
         NameKind::Missing => {}
-        NameKind::Loop | NameKind::Declared(_, _) => note_name_fault(
+        NameKind::Loop | NameKind::Declared(_, _) => keep_least_fault(
             least,
             NameErr::Duplicate { at },
         ),

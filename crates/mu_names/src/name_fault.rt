@@ -62,7 +62,7 @@ impl NameErr {
 
 /// Records the fault if it is before the least one so far.
 #[tactic(auto, unfolding(crate::specs::LeastFaults::lesser))]
-pub fn note_name_fault(least: &mut Option<NameErr>, fault: NameErr)
+pub fn keep_least_fault(least: &mut Option<NameErr>, fault: NameErr)
     ensures { least.new ≡ lesser least.old fault }
 {
     match *least {

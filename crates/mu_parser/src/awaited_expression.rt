@@ -35,7 +35,7 @@ use mu_tree::tree::{SettingItem, SettingName};
 use std::alloc::{AllocError, Global};
 
 /// Parses a token of an expression.
-pub fn awaited_expression_token(
+pub fn expression_token(
     alloc: Global,
     waiting: Waiting,
     position: Position,
@@ -59,7 +59,7 @@ pub fn awaited_expression_token(
             return Err(error);
         }
     };
-    move_awaited_expression(alloc, waiting, level, next, frames, symbol)
+    apply_expression_move(alloc, waiting, level, next, frames, symbol)
 }
 
 // Returns the nesting depth in an expression.
@@ -101,7 +101,7 @@ fn awaited_side_level(aim: &Aim) -> u128
 }
 
 // Returns the effect of a move in an expression. `d` is the nesting depth.
-fn move_awaited_expression(
+fn apply_expression_move(
     alloc: Global,
     waiting: Waiting,
     level: u128,
@@ -115,7 +115,7 @@ fn move_awaited_expression(
     match next {
         Move::Moves(next) => Ok(Effect::Advances(State::Sum(waiting, next, frames))),
         Move::Opens(next) => Ok(Effect::Descends(level, State::Sum(waiting, next, frames))),
-        Move::Ends(value) => receive_awaited_expression(alloc, waiting, value, symbol),
+        Move::Ends(value) => follow_complete_expression(alloc, waiting, value, symbol),
         Move::Wrong => {
             drop(waiting);
             Ok(Effect::Refuses)
@@ -124,7 +124,7 @@ fn move_awaited_expression(
 }
 
 // Parses the token after a complete expression.
-fn receive_awaited_expression(
+fn follow_complete_expression(
     alloc: Global,
     waiting: Waiting,
     value: Expr,

@@ -21,7 +21,7 @@ ghost use Rattle.mu_grammar.specs.Symbols.{symbols};
 use crate::annotation_item::{
     begin_bare_item, begin_first_item, begin_item, follow_item, skip_item_token,
 };
-use crate::awaited_expression::awaited_expression_token;
+use crate::awaited_expression::expression_token;
 use crate::declaration::{
     begin_declaration, begin_declaration_value, declaration_component_token,
     declaration_import_token, declaration_type_token, follow_declaration_component,
@@ -115,7 +115,7 @@ fn turn(alloc: Global, state: State, symbol: Symbol) -> Result<Effect, AllocErro
     match state {
         State::Expects(expected, then) => Ok(parse_fixed_token(alloc, expected, then, symbol)),
         State::Sum(waiting, position, frames) => {
-            awaited_expression_token(alloc, waiting, position, frames, symbol)
+            expression_token(alloc, waiting, position, frames, symbol)
         }
         State::Condition(clause, stage) => clause_condition_token(alloc, clause, stage, symbol),
         State::ModelName => parse_title_token(alloc, symbol),

@@ -68,7 +68,7 @@ impl Next {
 
 /// Returns all scalar variables: states, then discrete variables, then algebraic variables. Errors:
 /// allocation failure.
-pub fn list_flat_variables(alloc: Global, known: &[Known]) -> Result<Vec<FlatVar>, AllocError>
+pub fn list_scalar_variables(alloc: Global, known: &[Known]) -> Result<Vec<FlatVar>, AllocError>
     ensures { IfOk result (λ vars. map flat_variable vars.items ≡ scalars_in known.now) }
 {
     let mut vars = Vec::new(alloc);
@@ -79,7 +79,7 @@ pub fn list_flat_variables(alloc: Global, known: &[Known]) -> Result<Vec<FlatVar
 }
 
 /// Returns what each declared name denotes. Errors: allocation failure.
-pub fn flat_variable_denotations<'a>(
+pub fn list_denotations<'a>(
     alloc: Global,
     known: &'a [Known],
 ) -> Result<BTreeMap<&'a [u8], NameDenotation>, AllocError>
@@ -87,8 +87,8 @@ pub fn flat_variable_denotations<'a>(
     ensures names { IfOk result (λ table. meant_at table ≡ declared_in known.now) }
     ensures placed { IfOk result (λ table. ArePlaced 4096 (meant_at table)) }
 {
-    let discrete = count_flat_variables(FlatRole::State, known);
-    let algebraic = discrete + count_flat_variables(FlatRole::Discrete, known);
+    let discrete = count_scalar_variables(FlatRole::State, known);
+    let algebraic = discrete + count_scalar_variables(FlatRole::Discrete, known);
     let mut next = Next {
         state: 0,
         discrete,
@@ -110,9 +110,9 @@ pub fn flat_variable_denotations<'a>(
 pub fn are_too_many_variables(known: &[Known]) -> bool
     ensures { result ≡ nat_lt (2 ^ 12) (scalar_count known.now) }
 {
-    let states = count_flat_variables(FlatRole::State, known);
-    let discretes = count_flat_variables(FlatRole::Discrete, known);
-    let algebraics = count_flat_variables(FlatRole::Algebraic, known);
+    let states = count_scalar_variables(FlatRole::State, known);
+    let discretes = count_scalar_variables(FlatRole::Discrete, known);
+    let algebraics = count_scalar_variables(FlatRole::Algebraic, known);
     states + discretes + algebraics >= MANY
 }
 
@@ -128,7 +128,7 @@ fn push_variables_of_kind(
         ≡ map flat_variable vars.old.items ++ scalars_of_kind kind known.now) }
 {
     for one in known {
-        if is_flat_variable_kind(kind, one) {
+        if has_flat_role(kind, one) {
             push_scalar_variables(alloc, kind, one, vars)?;
         }
     }
@@ -136,17 +136,17 @@ fn push_variables_of_kind(
 }
 
 // Returns whether a declared name is a variable with this role.
-fn is_flat_variable_kind(kind: FlatRole, known: &Known) -> bool
+fn has_flat_role(kind: FlatRole, known: &Known) -> bool
     ensures { result ≡ has_kind kind known.now }
 {
-    match flat_variable_kind(known.role) {
+    match flat_role_of(known.role) {
         Some(other) => is_flattened_kind(kind, other),
         None => false,
     }
 }
 
 // Returns the flat role of a variable; a parameter has none.
-fn flat_variable_kind(role: Role) -> Option<FlatRole>
+fn flat_role_of(role: Role) -> Option<FlatRole>
     ensures { result ≡ kind_of role }
 {
     match role {
@@ -196,7 +196,7 @@ fn push_element_variables(
         ≡ map flat_variable vars.old.items ++ elements_from kind known.now 1 count) }
 {
     for before in 0..count {
-        let name = flat_variable_element_name(alloc, known.name.bytes(), before + 1)?;
+        let name = name_element(alloc, known.name.bytes(), before + 1)?;
         vars.push(FlatVar {
             name,
             role: kind,
@@ -208,7 +208,7 @@ fn push_element_variables(
 }
 
 // Returns the name of an array element, such as `x[3]`. Errors: allocation failure.
-fn flat_variable_element_name(alloc: Global, name: &[u8], index: u32) -> Result<Name, AllocError>
+fn name_element(alloc: Global, name: &[u8], index: u32) -> Result<Name, AllocError>
     ensures { IfOk result (λ element. element ≡ element_name name.now index) }
 {
     let digits = index.to_string(alloc)?;
@@ -220,20 +220,20 @@ fn flat_variable_element_name(alloc: Global, name: &[u8], index: u32) -> Result<
 }
 
 // Returns the number of scalar variables with this role, saturated.
-fn count_flat_variables(kind: FlatRole, known: &[Known]) -> u32
+fn count_scalar_variables(kind: FlatRole, known: &[Known]) -> u32
     ensures { result ≡ min (count_of_kind kind known.now) 4097 }
 {
     let mut count = 0;
     for one in known {
-        if is_flat_variable_kind(kind, one) {
-            count = (count + flat_variable_width(one.size).min(MANY)).min(MANY);
+        if has_flat_role(kind, one) {
+            count = (count + count_elements(one.size).min(MANY)).min(MANY);
         }
     }
     count
 }
 
 // Returns the number of scalar variables of a name.
-fn flat_variable_width(size: Option<u32>) -> u32
+fn count_elements(size: Option<u32>) -> u32
     ensures { result ≡ width size }
 {
     match size {
@@ -246,7 +246,7 @@ fn flat_variable_width(size: Option<u32>) -> u32
 fn next_variable_denotation(next: Next, known: &Known) -> NameDenotation
     ensures { result ≡ meant_at_next next known.now }
 {
-    match flat_variable_kind(known.role) {
+    match flat_role_of(known.role) {
         None => NameDenotation::Constant(known.value),
         Some(kind) => NameDenotation::Variable(kind, next.number(kind), known.size),
     }
@@ -257,8 +257,8 @@ fn next_after_variable(next: Next, known: &Known) -> Next
     requires { HasRoom next known.now }
     ensures { result ≡ after_known next known.now }
 {
-    match flat_variable_kind(known.role) {
+    match flat_role_of(known.role) {
         None => next,
-        Some(kind) => next.after(kind, flat_variable_width(known.size)),
+        Some(kind) => next.after(kind, count_elements(known.size)),
     }
 }

@@ -56,7 +56,7 @@ fn has_long_inner_equation(one: &Equation) -> bool {
             has_long_index(target) || has_long_operand(value)
         }
         Equation::For { from, to, body, .. } => {
-            if is_long_constant(from) || is_long_constant(to) {
+            if has_many_nodes(from) || has_many_nodes(to) {
                 return true;
             }
             for inner in body {
@@ -72,13 +72,13 @@ fn has_long_inner_equation(one: &Equation) -> bool {
 // Returns whether the index of a reference is long.
 fn has_long_index(target: &Ref) -> bool {
     match &target.index {
-        Some(index) => is_long_constant(index),
+        Some(index) => has_many_nodes(index),
         None => false,
     }
 }
 
 // Returns whether a constant expression is long.
-fn is_long_constant(e: &Expr) -> bool {
+fn has_many_nodes(e: &Expr) -> bool {
     count_constant_nodes(0, e) > SHORT
 }
 
@@ -181,12 +181,10 @@ fn has_long_start(one: &Statement) -> bool {
 fn has_long_inner_statement(is_start: bool, one: &Statement) -> bool {
     match one {
         Statement::Set { target, value } | Statement::Reinit { target, value } => {
-            has_long_index(target)
-                || has_long_operand(value)
-                || (is_start && is_long_constant(value))
+            has_long_index(target) || has_long_operand(value) || (is_start && has_many_nodes(value))
         }
         Statement::For { from, to, body, .. } => {
-            if is_long_constant(from) || is_long_constant(to) {
+            if has_many_nodes(from) || has_many_nodes(to) {
                 return true;
             }
             for inner in body {
@@ -223,7 +221,7 @@ fn has_long_inner_clause(one: &Clause) -> bool {
     match one {
         Clause::When { branches } => branches.iter().any(|branch| has_long_branch(branch)),
         Clause::For { from, to, body, .. } => {
-            if is_long_constant(from) || is_long_constant(to) {
+            if has_many_nodes(from) || has_many_nodes(to) {
                 return true;
             }
             for inner in body {

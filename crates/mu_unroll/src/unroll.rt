@@ -18,16 +18,12 @@ ghost use Rattle.mu_unroll.specs.ListUnrolling.{UnrollsClauses, UnrollsEquations
 ghost use Rattle.mu_unroll.specs.ListUnrolling.{clauses_from, equations_from, starts_from};
 
 use crate::environment::{Environment, NameDenotation};
-use crate::flat_variables::{
-    are_too_many_variables, flat_variable_denotations, list_flat_variables,
-};
+use crate::flat_variables::{are_too_many_variables, list_denotations, list_scalar_variables};
 use crate::flatten::{flatten, flattened_number_of_kind, found};
 use crate::long_constants::{has_long_clauses, has_long_equations, has_long_starts};
 use crate::loop_folding::{fold_clauses, fold_equations, fold_starts};
 use crate::start_values::unroll_starts;
-use crate::unroll_counts::{
-    Counts, count_expression, count_round, count_sides, zero_unroll_counts,
-};
+use crate::unroll_counts::{Counts, count_expression, count_round, count_sides, zero_counts};
 use crate::unroll_fault::UnrollErr;
 use crate::unrolled_values::unrolled_bound_values;
 use mu_names::declared_scope::Scope;
@@ -60,8 +56,8 @@ pub fn unroll(alloc: Global, m: &Model, s: &Scope) -> Result<FlatModel, UnrollEr
     if are_too_many_variables(known) {
         return Err(UnrollErr::TooMany { count: 4097 });
     }
-    let declared = flat_variable_denotations(alloc, known)?;
-    let vars = list_flat_variables(alloc, known)?;
+    let declared = list_denotations(alloc, known)?;
+    let vars = list_scalar_variables(alloc, known)?;
     unroll_with(alloc, declared, m, vars)
 }
 
@@ -86,7 +82,7 @@ fn unroll_with(
     };
     let mut vars = Output {
         done: vars,
-        counts: zero_unroll_counts(),
+        counts: zero_counts(),
     };
     unroll_all_starts(alloc, &mut env, &m.starts, &mut vars)?;
     let mut equations = Output {

@@ -49,7 +49,7 @@ pub fn count_sides(counts: Counts, left: &Expr, right: &Expr) -> Result<Counts, 
 }
 
 /// Returns counts of 0.
-pub fn zero_unroll_counts() -> Counts
+pub fn zero_counts() -> Counts
     ensures { result ≡ no_counts }
 {
     Counts {

@@ -109,7 +109,7 @@ pub fn constant_value(env: &Environment, e: &Expr) -> Result<Ratio, UnrollErr>
         Expr::Product { factors } => product_value(env, factors),
         Expr::Pow { base, exp, at } => {
             let base = constant_value(env, base)?;
-            locate_unrolled_value(base.pow(*exp), *at)
+            locate_number_fault(base.pow(*exp), *at)
         }
     }
 }
@@ -118,11 +118,11 @@ pub fn constant_value(env: &Environment, e: &Expr) -> Result<Ratio, UnrollErr>
 pub fn unrolled_literal_value(digits: &[u8], at: u32) -> Result<Ratio, UnrollErr>
     ensures { result ≡ placed at (decimal_value digits.now) }
 {
-    locate_unrolled_value(decimal(digits), at)
+    locate_number_fault(decimal(digits), at)
 }
 
 // Returns the number, or its error as a fault at the offset.
-fn locate_unrolled_value(answer: Result<Ratio, NumErr>, at: u32) -> Result<Ratio, UnrollErr>
+fn locate_number_fault(answer: Result<Ratio, NumErr>, at: u32) -> Result<Ratio, UnrollErr>
     ensures { result ≡ placed at answer }
 {
     match answer {
@@ -166,7 +166,7 @@ fn sum_value(env: &Environment, terms: &[Term]) -> Result<Ratio, UnrollErr>
     let mut total = Ratio::whole(0);
     for term in terms {
         let value = constant_value(env, &term.value)?;
-        total = locate_unrolled_value(combine_constant_terms(total, term.minus, value), term.at)?;
+        total = locate_number_fault(combine_constant_terms(total, term.minus, value), term.at)?;
     }
     Ok(total)
 }
@@ -181,7 +181,7 @@ fn product_value(env: &Environment, factors: &[Factor]) -> Result<Ratio, UnrollE
     let mut total = Ratio::whole(1);
     for factor in factors {
         let value = constant_value(env, &factor.value)?;
-        total = locate_unrolled_value(
+        total = locate_number_fault(
             combine_constant_factors(total, factor.divide, value),
             factor.at,
         )?;
@@ -195,7 +195,7 @@ pub fn unrolled_whole_value(value: Ratio, at: u32) -> Result<i128, UnrollErr>
     ensures value { result ≡ whole_at at value }
     ensures size { IfOk result (λ number. unsigned_abs number ≤ 2 ^ 62) }
 {
-    if is_unrolled_value_whole(value) {
+    if is_integer_value(value) {
         Ok(value.num())
     } else {
         Err(UnrollErr::NotWhole { at })
@@ -203,7 +203,7 @@ pub fn unrolled_whole_value(value: Ratio, at: u32) -> Result<i128, UnrollErr>
 }
 
 // Returns whether a value is an integer.
-fn is_unrolled_value_whole(value: Ratio) -> bool
+fn is_integer_value(value: Ratio) -> bool
     ensures { result ≡ nat_eq value.den 1 }
 {
     value.den() == 1

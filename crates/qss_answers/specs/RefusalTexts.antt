@@ -54,23 +54,23 @@ broken_line place fact state left right =
     ∷ signed_decimal right ∷ codes "\n" ∷ [])
 
 -- the line that reports a rejection
-abbrev pub refusal_line : Refusal → List ℕ
-refusal_line (refusal.Outside why) = outside_line why
-refusal_line (refusal.Clauses count) = outside_line (outside.HasClauses count)
-refusal_line refusal.CertificateTooLong = codes "certificate refused: top 1\n"
-refusal_line refusal.TraceTooLong = codes "trace refused: top 1\n"
-refusal_line (refusal.NotCertificate why) = cause_line (codes "certificate") why
-refusal_line (refusal.NotTrace why) = cause_line (codes "trace") why
-refusal_line (refusal.Rejected verdict) = verdict_line verdict
-refusal_line (refusal.Broken place fact state left right) = broken_line place fact state left right
-refusal_line (refusal.NoCandidate step) =
+abbrev pub write_refusal : Refusal → List ℕ
+write_refusal (refusal.Outside why) = outside_line why
+write_refusal (refusal.Clauses count) = outside_line (outside.HasClauses count)
+write_refusal refusal.CertificateTooLong = codes "certificate refused: top 1\n"
+write_refusal refusal.TraceTooLong = codes "trace refused: top 1\n"
+write_refusal (refusal.NotCertificate why) = cause_line (codes "certificate") why
+write_refusal (refusal.NotTrace why) = cause_line (codes "trace") why
+write_refusal (refusal.Rejected verdict) = verdict_line verdict
+write_refusal (refusal.Broken place fact state left right) = broken_line place fact state left right
+write_refusal (refusal.NoCandidate step) =
     concat (codes "rejected: no candidate " ∷ decimal step ∷ codes "\n" ∷ [])
-refusal_line refusal.Start = codes "rejected: start\n"
-refusal_line (refusal.Quantum run state) =
+write_refusal refusal.Start = codes "rejected: start\n"
+write_refusal (refusal.Quantum run state) =
     concat (codes "rejected: quantum trace " ∷ decimal run ∷ codes " state " ∷ decimal state
     ∷ codes "\n" ∷ [])
-refusal_line (refusal.Long last) =
+write_refusal (refusal.Long last) =
     concat (codes "rejected: long " ∷ decimal last ∷ codes "\n" ∷ [])
-refusal_line (refusal.Range place1 place2) =
+write_refusal (refusal.Range place1 place2) =
     concat (codes "rejected: range places " ∷ decimal place1 ∷ codes " " ∷ decimal place2
     ∷ codes "\n" ∷ [])

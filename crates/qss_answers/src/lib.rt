@@ -28,6 +28,6 @@ pub use comparison_ending::ComparisonStop;
 pub use comparison_side::{first_side, second_side, traced_side};
 pub use proposing::propose_text;
 pub use refusal::Refusal;
-pub use refusal_lines::{cause_line, refusal_line, verdict_line};
+pub use refusal_lines::{cause_line, verdict_line, write_refusal};
 pub use trace_reading::{TRACE_LIMIT, TraceText};
 pub use upgrading::upgrade;

@@ -8,8 +8,8 @@ use cert_check::{Outside, TextErr, Verdict};
 use std::alloc::{AllocError, Global};
 
 /// The line that reports a rejection, with its line feed.
-pub fn refusal_line(alloc: Global, why: Refusal) -> Result<Vec<u8>, AllocError>
-    ensures { IfOk result (λ line. line.items ≡ Spec.refusal_line why) }
+pub fn write_refusal(alloc: Global, why: Refusal) -> Result<Vec<u8>, AllocError>
+    ensures { IfOk result (λ line. line.items ≡ Spec.write_refusal why) }
 {
     let line = match why {
         Refusal::Outside(why) => return outside_line(alloc, why),

@@ -164,23 +164,23 @@ impl Refused {
 
 /// Returns the line for standard error: the phase, the number of the error and its fields, with a
 /// line feed. An allocation failure has its own line.
-pub fn model_refusal_line(alloc: Global, refused: &Refused) -> Result<Vec<u8>, AllocError>
+pub fn phase_fault_line(alloc: Global, refused: &Refused) -> Result<Vec<u8>, AllocError>
     ensures { IfOk result (λ line. line.items ≡ Spec.line_of refused.now) }
 {
     let names = refused.names.as_slice();
     match &refused.error {
-        ModelErr::Lex(fault) => lexer_model_refusal(alloc, names, fault),
-        ModelErr::Parse(fault) => parser_model_refusal(alloc, names, fault),
-        ModelErr::Names(fault) => names_model_refusal(alloc, names, fault),
-        ModelErr::Unroll(fault) => unrolling_model_refusal(alloc, names, fault),
-        ModelErr::Causal(fault) => order_model_refusal(alloc, names, fault),
-        ModelErr::Affine(fault) => forms_model_refusal(alloc, names, fault),
-        ModelErr::Machine(fault) => rounding_model_refusal(alloc, names, fault),
+        ModelErr::Lex(fault) => lexer_fault_line(alloc, names, fault),
+        ModelErr::Parse(fault) => parser_fault_line(alloc, names, fault),
+        ModelErr::Names(fault) => names_fault_line(alloc, names, fault),
+        ModelErr::Unroll(fault) => unrolling_fault_line(alloc, names, fault),
+        ModelErr::Causal(fault) => order_fault_line(alloc, names, fault),
+        ModelErr::Affine(fault) => forms_fault_line(alloc, names, fault),
+        ModelErr::Machine(fault) => rounding_fault_line(alloc, names, fault),
         ModelErr::Memory => b"out of memory\n".to_vec(alloc),
     }
 }
 
-fn lexer_model_refusal(alloc: Global, names: &[Name], fault: &LexErr) -> Result<Vec<u8>, AllocError>
+fn lexer_fault_line(alloc: Global, names: &[Name], fault: &LexErr) -> Result<Vec<u8>, AllocError>
     ensures { IfOk result (λ line. line.items ≡ Spec.reason_line (Spec.lexer_reason fault.now)) }
 {
     match fault {
@@ -215,13 +215,13 @@ fn refusal_reason(
     line.extend_from_slice(phase)?;
     line.extend_from_slice(b" ")?;
     line.extend_from_slice(number.as_bytes())?;
-    write_model_refusal_fields(alloc, names, &mut line, fields)?;
+    append_spaced_fields(alloc, names, &mut line, fields)?;
     line.extend_from_slice(b"\n")?;
     Ok(line)
 }
 
 // Appends fields, each after one space.
-fn write_model_refusal_fields(
+fn append_spaced_fields(
     alloc: Global,
     names: &[Name],
     line: &mut Vec<u8>,
@@ -233,13 +233,13 @@ fn write_model_refusal_fields(
 {
     for field in fields {
         line.push(b' ')?;
-        write_model_refusal_field(alloc, names, line, *field)?;
+        append_fault_field(alloc, names, line, *field)?;
     }
     Ok(())
 }
 
 // Appends a field. `names` are the names of the variables.
-fn write_model_refusal_field(
+fn append_fault_field(
     alloc: Global,
     names: &[Name],
     line: &mut Vec<u8>,
@@ -248,20 +248,16 @@ fn write_model_refusal_field(
     ensures { OnOk result (line.new.items ≡ line.old.items ++ field_text names.now field) }
 {
     match field {
-        Field::Number(number) => write_model_refusal_number(alloc, line, number),
-        Field::Whole(number) => write_model_refusal_whole(alloc, line, number),
-        Field::Share(value) => write_model_refusal_ratio(alloc, line, value),
-        Field::Setting(which) => line.extend_from_slice(model_refusal_setting(which)),
-        Field::Variable(var) => line.extend_from_slice(model_refusal_variable(names, var)),
+        Field::Number(number) => append_natural_number(alloc, line, number),
+        Field::Whole(number) => append_integer(alloc, line, number),
+        Field::Share(value) => append_fraction(alloc, line, value),
+        Field::Setting(which) => line.extend_from_slice(setting_word(which)),
+        Field::Variable(var) => line.extend_from_slice(variable_name_at(names, var)),
     }
 }
 
 // Appends a natural number.
-fn write_model_refusal_number(
-    alloc: Global,
-    line: &mut Vec<u8>,
-    number: u32,
-) -> Result<(), AllocError>
+fn append_natural_number(alloc: Global, line: &mut Vec<u8>, number: u32) -> Result<(), AllocError>
     ensures { OnOk result (line.new.items ≡ line.old.items ++ decimal number) }
 {
     let text = number.to_string(alloc)?;
@@ -270,11 +266,7 @@ fn write_model_refusal_number(
 }
 
 // Appends an integer.
-fn write_model_refusal_whole(
-    alloc: Global,
-    line: &mut Vec<u8>,
-    number: i128,
-) -> Result<(), AllocError>
+fn append_integer(alloc: Global, line: &mut Vec<u8>, number: i128) -> Result<(), AllocError>
     ensures { OnOk result (line.new.items ≡ line.old.items ++ signed_decimal number) }
 {
     let text = number.to_string(alloc)?;
@@ -283,11 +275,7 @@ fn write_model_refusal_whole(
 }
 
 // Appends a fraction.
-fn write_model_refusal_ratio(
-    alloc: Global,
-    line: &mut Vec<u8>,
-    value: Ratio,
-) -> Result<(), AllocError>
+fn append_fraction(alloc: Global, line: &mut Vec<u8>, value: Ratio) -> Result<(), AllocError>
     ensures { OnOk result (line.new.items ≡ line.old.items ++ Spec.ratio_text value) }
 {
     let num = value.num().to_string(alloc)?;
@@ -299,7 +287,7 @@ fn write_model_refusal_ratio(
 }
 
 // Returns the name of a setting.
-fn model_refusal_setting(which: SettingName) -> &'static [u8]
+fn setting_word(which: SettingName) -> &'static [u8]
     ensures { result.now ≡ Spec.setting_text which }
 {
     match which {
@@ -313,7 +301,7 @@ fn model_refusal_setting(which: SettingName) -> &'static [u8]
 }
 
 // Returns the name of a variable.
-fn model_refusal_variable(names: &[Name], var: u32) -> &[u8]
+fn variable_name_at(names: &[Name], var: u32) -> &[u8]
     ensures { result.now ≡ Spec.variable_text names.now var }
 {
     let var = var as usize;
@@ -324,11 +312,7 @@ fn model_refusal_variable(names: &[Name], var: u32) -> &[u8]
     }
 }
 
-fn parser_model_refusal(
-    alloc: Global,
-    names: &[Name],
-    fault: &ParseErr,
-) -> Result<Vec<u8>, AllocError>
+fn parser_fault_line(alloc: Global, names: &[Name], fault: &ParseErr) -> Result<Vec<u8>, AllocError>
     ensures { IfOk result (λ line. line.items ≡ Spec.reason_line (Spec.parser_reason fault.now)) }
 {
     match fault {
@@ -350,11 +334,7 @@ fn parser_model_refusal(
     }
 }
 
-fn names_model_refusal(
-    alloc: Global,
-    names: &[Name],
-    fault: &NameErr,
-) -> Result<Vec<u8>, AllocError>
+fn names_fault_line(alloc: Global, names: &[Name], fault: &NameErr) -> Result<Vec<u8>, AllocError>
     ensures { IfOk result (λ line. line.items ≡ Spec.reason_line (Spec.names_reason fault.now)) }
 {
     match fault {
@@ -388,7 +368,7 @@ fn names_model_refusal(
         NameErr::ConstFault { at, fault } => {
             let fields = [
                 Field::Number(*at),
-                Field::Number(model_refusal_number(*fault)),
+                Field::Number(arithmetic_fault_number(*fault)),
             ];
             refusal_reason(alloc, names, b"names", 8, &fields)
         }
@@ -397,7 +377,7 @@ fn names_model_refusal(
 }
 
 // Returns the number of an arithmetic fault.
-fn model_refusal_number(fault: NumErr) -> u32
+fn arithmetic_fault_number(fault: NumErr) -> u32
     ensures { result ≡ Spec.fault_number fault }
 {
     match fault {
@@ -406,7 +386,7 @@ fn model_refusal_number(fault: NumErr) -> u32
     }
 }
 
-fn unrolling_model_refusal(
+fn unrolling_fault_line(
     alloc: Global,
     names: &[Name],
     fault: &UnrollErr,
@@ -440,7 +420,7 @@ fn unrolling_model_refusal(
         UnrollErr::ConstFault { at, fault } => {
             let fields = [
                 Field::Number(*at),
-                Field::Number(model_refusal_number(*fault)),
+                Field::Number(arithmetic_fault_number(*fault)),
             ];
             refusal_reason(alloc, names, b"unroll", 4, &fields)
         }
@@ -448,11 +428,7 @@ fn unrolling_model_refusal(
     }
 }
 
-fn order_model_refusal(
-    alloc: Global,
-    names: &[Name],
-    fault: &CausalErr,
-) -> Result<Vec<u8>, AllocError>
+fn order_fault_line(alloc: Global, names: &[Name], fault: &CausalErr) -> Result<Vec<u8>, AllocError>
     ensures { IfOk result
         (λ line. line.items ≡ Spec.reason_line (Spec.order_reason names.now fault.now)) }
 {
@@ -469,7 +445,7 @@ fn order_model_refusal(
             refusal_reason(alloc, names, b"causal", 2, &fields)
         }
         CausalErr::Loop { vars } => {
-            let fields = model_refusal_cycle(alloc, vars.as_slice())?;
+            let fields = cycle_fields(alloc, vars.as_slice())?;
             refusal_reason(alloc, names, b"causal", 3, &fields)
         }
         CausalErr::Memory => refusal_reason(alloc, names, b"causal", 4, &[]),
@@ -477,17 +453,13 @@ fn order_model_refusal(
 }
 
 // Returns the variables of a cycle as fields.
-fn model_refusal_cycle(alloc: Global, vars: &[u32]) -> Result<Vec<Field>, AllocError>
+fn cycle_fields(alloc: Global, vars: &[u32]) -> Result<Vec<Field>, AllocError>
     ensures { IfOk result (λ fields. fields.items ≡ map Field.Variable vars.now) }
 {
     vars.iter().map(|var| Field::Variable(*var)).collect(alloc)
 }
 
-fn forms_model_refusal(
-    alloc: Global,
-    names: &[Name],
-    fault: &AffineErr,
-) -> Result<Vec<u8>, AllocError>
+fn forms_fault_line(alloc: Global, names: &[Name], fault: &AffineErr) -> Result<Vec<u8>, AllocError>
     ensures { IfOk result (λ line. line.items ≡ Spec.reason_line (Spec.forms_reason fault.now)) }
 {
     match fault {
@@ -508,7 +480,7 @@ fn forms_model_refusal(
         AffineErr::ConstFault { at, fault } => {
             let fields = [
                 Field::Number(*at),
-                Field::Number(model_refusal_number(*fault)),
+                Field::Number(arithmetic_fault_number(*fault)),
             ];
             refusal_reason(alloc, names, b"affine", 3, &fields)
         }
@@ -523,7 +495,7 @@ fn forms_model_refusal(
     }
 }
 
-fn rounding_model_refusal(
+fn rounding_fault_line(
     alloc: Global,
     names: &[Name],
     fault: &MachineErr,

@@ -82,8 +82,8 @@ module _ (m : Machine) (tick ticks : ℕ) (v : Values) where
     entries = a.entries;
     not_later = omega (arith, a.not_later);
     lines = λ k d h. input_later (get_or c.inputs k d) (a.lines k d h);
-    here = line_more c.watch.value c.watch.speed c.watch.tick tick ticks a.not_later
-        ∙ ap (λ z. z +ℤ pos ticks *ℤ c.watch.speed) a.here
+    here = line_more c.detector.value c.detector.speed c.detector.tick tick ticks a.not_later
+        ∙ ap (λ z. z +ℤ pos ticks *ℤ c.detector.speed) a.here
         ∙ ap (λ z. form_at m c.inputs c.time c.gamma tick +ℤ pos ticks *ℤ z) a.own_speed
         ∙ sym (form_moves m c.inputs c.time c.gamma tick ticks (λ k d h. (a.lines k d h).not_later));
     own_speed = a.own_speed;

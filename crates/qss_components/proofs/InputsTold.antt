@@ -45,13 +45,13 @@ module _ (m : Machine) (tick : ℕ) (i : Input) (message : Message) (var : ℕ) 
       (sym (if-false (i.var == var || i.var == var + discrete_count m) (record i { tick = tick; at = value *ℤ level_unit m; speed = pos 0 }) i other))
 
 -- a crossing whose inputs and detector are those that a message makes is given it
-pub given_so : (m : Machine) (c : Crossing) (tick : ℕ) (message : Message) (inputs : List Input) (watch : DetectorView) → inputs ≡ map (input_after_message m tick message) c.inputs →
-    watch ≡ record { rel = c.watch.rel; tick = tick; value = form_at m inputs c.time c.gamma tick; speed = speed_by m inputs c.time } →
-    record c { watch = watch; inputs = inputs } ≡ crossing_after_message m c tick message
-given_so m c tick message inputs watch of_inputs of_watch =
-    ap (λ (w : DetectorView). record c { watch = w; inputs = inputs }) of_watch
+pub given_so : (m : Machine) (c : Crossing) (tick : ℕ) (message : Message) (inputs : List Input) (detector : DetectorView) → inputs ≡ map (input_after_message m tick message) c.inputs →
+    detector ≡ record { rel = c.detector.rel; tick = tick; value = form_at m inputs c.time c.gamma tick; speed = speed_by m inputs c.time } →
+    record c { detector = detector; inputs = inputs } ≡ crossing_after_message m c tick message
+given_so m c tick message inputs detector of_inputs of_watch =
+    ap (λ (w : DetectorView). record c { detector = w; inputs = inputs }) of_watch
     ∙ ap (λ (xs : List Input). record c {
-      watch = record { rel = c.watch.rel; tick = tick; value = form_at m xs c.time c.gamma tick; speed = speed_by m xs c.time };
+      detector = record { rel = c.detector.rel; tick = tick; value = form_at m xs c.time c.gamma tick; speed = speed_by m xs c.time };
       inputs = xs;
     })
     of_inputs

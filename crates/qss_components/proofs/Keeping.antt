@@ -265,7 +265,7 @@ turned_crossing m tick v place condition c a = record {
   entries = a.entries;
   not_later = omega arith;
   lines = a.lines;
-  here = no_ticks (value_at c.watch tick) c.watch.speed tick ∙ a.here;
+  here = no_ticks (value_at c.detector tick) c.detector.speed tick ∙ a.here;
   own_speed = a.own_speed;
 }
 

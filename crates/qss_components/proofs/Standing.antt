@@ -136,7 +136,7 @@ module _ (m : Machine) (tick : ℕ) (w : Snapshot) (states : length w.states ≡
     along_lines : All (λ (i : Input). i.speed ≡ int_at (slopes_of m w) i.var) c.inputs
     along_lines k d h = let i = get_or c.inputs k d in ap (λ (r : Moving). r.speed) (a.lines k d h).here ∙ variable_speed i.var
 
-    value_is : value_at c.watch tick ≡ value_of m condition.form w.states w.discretes w.discretes tick
+    value_is : value_at c.detector tick ≡ value_of m condition.form w.states w.discretes w.discretes tick
     value_is =
         let sum : sum_over (λ (i : Input). i.coef *ℤ input_at tick i) c.inputs ≡ weighted_sum condition.form.entries values =
         sum_entries c.inputs (input_at tick) (int_at values) at_lines
@@ -146,7 +146,7 @@ module _ (m : Machine) (tick : ℕ) (w : Snapshot) (states : length w.states ≡
         let constant : c.gamma *ℤ level_unit m ≡ condition.form.gamma *ℤ level_unit m = ap (λ z. z *ℤ level_unit m) a.own_constant in
         omega (arith, ints, a.here, sum, time, constant)
 
-    speed_is : c.watch.speed ≡ speed_of m condition.form (slopes_of m w)
+    speed_is : c.detector.speed ≡ speed_of m condition.form (slopes_of m w)
     speed_is =
         let sum : sum_over (λ (i : Input). i.coef *ℤ i.speed) c.inputs ≡ weighted_sum condition.form.entries (slopes_of m w) =
         sum_entries c.inputs (λ (i : Input). i.speed) (int_at (slopes_of m w)) along_lines
@@ -204,7 +204,7 @@ components_move m tick (suc k) w line s c stand = record {
 pub crossings_tell : CrossingsTell
 crossings_tell m tick place w line s c states discretes h stand =
     let a = stand.agree.crossings place h in
-    ap (λ rel. compares rel (value_at (c place).watch tick)) a.own_rel
+    ap (λ rel. compares rel (value_at (c place).detector tick)) a.own_rel
     ∙ ap (compares (condition_at m place).rel) (value_is m tick w states discretes place (condition_at m place) (c place) a)
 
 pub components_stand : ComponentsStand
@@ -219,7 +219,7 @@ components_stand m tick w line s c due in_time left states discretes after_handl
   rising = next.rising;
 }
   where
-    watch_of : (place : ℕ) → place < length (conditions m) → IsDetectorOf m tick w place (c place).watch
+    watch_of : (place : ℕ) → place < length (conditions m) → IsDetectorOf m tick w place (c place).detector
     watch_of place h =
         let a = stand.agree.crossings place h in
         record {
@@ -229,21 +229,21 @@ components_stand m tick w line s c due in_time left states discretes after_handl
           own_rel = a.own_rel;
         }
 
-    settled_flag : (place : ℕ) → place < length (conditions m) → holds_at (c place).watch tick ≡ flag_at w.after_handlers place
+    settled_flag : (place : ℕ) → place < length (conditions m) → holds_at (c place).detector tick ≡ flag_at w.after_handlers place
     settled_flag place h =
         let none : Condition = record { form = record { entries = []; time = pos 0; gamma = pos 0 }; rel = Less } in
         crossings_tell m tick place w line s c states discretes h stand
         ∙ sym (get_or-map (λ (condition : Condition). truth m condition w.states w.discretes tick) (conditions m) place none false h)
         ∙ ap (λ flags. flag_at flags place) (sym after_handlers)
 
-    same_truth : (place : ℕ) → place < length (conditions m) → holds_at (c place).watch tick ≡ compares (c place).watch.rel (c place).watch.value
+    same_truth : (place : ℕ) → place < length (conditions m) → holds_at (c place).detector tick ≡ compares (c place).detector.rel (c place).detector.value
     same_truth place h =
-        still_holds (c place).watch tick (due (state_count m + place)) (stand.agree.crossings place h).not_later in_time (next.later (state_count m + place)) (next.crossings place h)
+        still_holds (c place).detector tick (due (state_count m + place)) (stand.agree.crossings place h).not_later in_time (next.later (state_count m + place)) (next.crossings place h)
 
-    change_of : (place : ℕ) → place < length (conditions m) → IsChange tick (flag_at w.after_handlers place) (c place).watch (due (state_count m + place))
+    change_of : (place : ℕ) → place < length (conditions m) → IsChange tick (flag_at w.after_handlers place) (c place).detector (due (state_count m + place))
     change_of place h =
-        let watch : DetectorView = (c place).watch in
+        let detector : DetectorView = (c place).detector in
         let a = stand.agree.crossings place h in
         let found = due (state_count m + place) in
-        let at_tick = from_later (λ t. holds_at (c place).watch t ≢ compares (c place).watch.rel (c place).watch.value) (c place).watch.tick tick found a.not_later (next.later (state_count m + place)) (next.crossings place h) in
-        subst (λ flag. FirstAfter (λ t. holds_at (c place).watch t ≢ flag) tick found) (sym (same_truth place h) ∙ settled_flag place h) at_tick
+        let at_tick = from_later (λ t. holds_at (c place).detector t ≢ compares (c place).detector.rel (c place).detector.value) (c place).detector.tick tick found a.not_later (next.later (state_count m + place)) (next.crossings place h) in
+        subst (λ flag. FirstAfter (λ t. holds_at (c place).detector t ≢ flag) tick found) (sym (same_truth place h) ∙ settled_flag place h) at_tick

@@ -74,14 +74,14 @@ pub record InputAgrees (m : Machine) (tick : ℕ) (v : Values) (i : Input) : Typ
 -- increment per tick
 pub record CrossingAgrees (m : Machine) (tick : ℕ) (v : Values) (place : ℕ) (condition : Condition) (c : Crossing) : Type 0 where
   pub own : c.place ≡ place
-  pub own_rel : c.watch.rel ≡ condition.rel
+  pub own_rel : c.detector.rel ≡ condition.rel
   pub own_time : c.time ≡ condition.form.time
   pub own_constant : c.gamma ≡ condition.form.gamma
   pub entries : map entry_of c.inputs ≡ condition.form.entries
-  pub not_later : c.watch.tick ≤ tick
+  pub not_later : c.detector.tick ≤ tick
   pub lines : All (InputAgrees m tick v) c.inputs
-  pub here : value_at c.watch tick ≡ form_at m c.inputs c.time c.gamma tick
-  pub own_speed : c.watch.speed ≡ speed_by m c.inputs c.time
+  pub here : value_at c.detector tick ≡ form_at m c.inputs c.time c.gamma tick
+  pub own_speed : c.detector.speed ≡ speed_by m c.inputs c.time
 
 -- components agree with values at a tick: a line and a function for each state, and a crossing for
 -- each condition
@@ -99,6 +99,6 @@ pub record ComponentsRepresent (m : Machine) (tick : ℕ) (w : Snapshot) (line :
 -- condition true; all are later
 pub record AreNext (m : Machine) (tick : ℕ) (w : Snapshot) (line : ℕ → Line) (c : ℕ → Crossing) (due : ℕ → Option ℕ) : Type 0 where
   pub lines : (j : ℕ) → j < state_count m → IsLineNext m j (line j) (due j)
-  pub crossings : (place : ℕ) → place < length (conditions m) → IsCrossingNext (c place).watch (due (state_count m + place))
+  pub crossings : (place : ℕ) → place < length (conditions m) → IsCrossingNext (c place).detector (due (state_count m + place))
   pub rising : due (state_count m + length (conditions m)) ≡ rising_tick tick w
   pub later : (place next : ℕ) → due place ≡ Some next → tick < next

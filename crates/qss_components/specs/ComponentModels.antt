@@ -21,7 +21,7 @@ function_state_of s = record {
 
 -- a crossing without the machine that it shares
 abbrev pub crossing_of : CrossingModel → Crossing
-crossing_of c = record { place = c.place; watch = c.watch; inputs = c.inputs.items; time = c.time; gamma = c.gamma }
+crossing_of c = record { place = c.place; detector = c.detector; inputs = c.inputs.items; time = c.time; gamma = c.gamma }
 
 -- the integrator after it received a message
 pub record IsGivenLine {X : Type 0} {g : _} (s : IntegratorModel X g) (tick : ℕ) (message : Message) (t : IntegratorModel X g) : Type 0 where

@@ -120,7 +120,7 @@ abbrev pub ComponentsStand : Type 0
 ComponentsStand =
     (m : Machine) (tick : ℕ) (w : Snapshot) (line : ℕ → Line) (s : ℕ → FunctionState) (c : ℕ → Crossing) (due : ℕ → Option ℕ) →
     tick ≤ tick_limit → MayFollowTick m w → length w.states ≡ state_count m → length w.discretes ≡ discrete_count m → w.after_handlers ≡ truths m w.states w.discretes tick →
-    ComponentsRepresent m tick w line s c → AreNext m tick w line c due → IsScheduleOf m tick w line (λ place. (c place).watch) due
+    ComponentsRepresent m tick w line s c → AreNext m tick w line c due → IsScheduleOf m tick w line (λ place. (c place).detector) due
 
 -- components that agree with a snapshot represent it if no function has a sum to send and each sum
 -- is within the limit of slopes; then no row exceeds its limits
@@ -143,7 +143,7 @@ abbrev pub CrossingsTell : Type 0
 CrossingsTell =
     (m : Machine) (tick place : ℕ) (w : Snapshot) (line : ℕ → Line) (s : ℕ → FunctionState) (c : ℕ → Crossing) →
     length w.states ≡ state_count m → length w.discretes ≡ discrete_count m → place < length (conditions m) → ComponentsRepresent m tick w line s c →
-    holds_at (c place).watch tick ≡ truth m (condition_at m place) w.states w.discretes tick
+    holds_at (c place).detector tick ≡ truth m (condition_at m place) w.states w.discretes tick
 
 -- the values after a row of this kind: a reinitialized state, or an assigned discrete variable
 abbrev pub values_after_row : Machine → Values → RowKind → Row → Values

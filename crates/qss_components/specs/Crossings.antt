@@ -18,7 +18,7 @@ use Rattle.qss_components.specs.declared.atomic.Message.TheVariants.{Truth}
 -- time and constant
 pub record Crossing : Type 0 where
   pub place : ℕ
-  pub watch : DetectorView
+  pub detector : DetectorView
   pub inputs : List Input
   pub time : ℤ
   pub gamma : ℤ
@@ -43,7 +43,7 @@ IsCrossingNext w next = IsChange w.tick (compares w.rel w.value) w next
 
 -- the crossing after its internal transition at a tick
 abbrev pub crossing_after_transition : Crossing → ℕ → Crossing
-crossing_after_transition c tick = record c { watch = record { rel = c.watch.rel; tick = tick; value = value_at c.watch tick; speed = c.watch.speed } }
+crossing_after_transition c tick = record c { detector = record { rel = c.detector.rel; tick = tick; value = value_at c.detector tick; speed = c.detector.speed } }
 
 -- on arrival at a tick a crossing is unchanged, or makes its transition
 abbrev pub IsRead : ℕ → Crossing → Crossing → Type 0
@@ -65,8 +65,8 @@ abbrev pub crossing_after_message : Machine → Crossing → ℕ → Message →
 crossing_after_message m c tick message =
     let inputs = map (input_after_message m tick message) c.inputs in
     record c {
-      watch = record {
-        rel = c.watch.rel;
+      detector = record {
+        rel = c.detector.rel;
         tick = tick;
         value = form_at m inputs c.time c.gamma tick;
         speed = speed_by m inputs c.time;

@@ -16,7 +16,7 @@ use crate::atomic::{Atomic, Message};
 use qss_cross::Detector;
 use qss_machine::{
     Machine, add_form_parts, form_constant_part, form_time_part, multiply_form_coefficient,
-    scale_form_value,
+    scale_discrete_value,
 };
 use std::rc::Rc;
 
@@ -28,14 +28,14 @@ pub struct CrossingModel {
     /// The number of the condition, in source order.
     pub place: u32,
     /// The zero-crossing detector of its form, in units of 2^-(f+2p+k).
-    pub watch: Detector,
+    pub detector: Detector,
     /// The entries of its form, with the lines of their variables.
     pub inputs: Vec<Input>,
     /// The coefficient of time, in units of 2^-p.
     pub time: i64,
     /// The constant, in units of 2^-(f+p).
     pub gamma: i128,
-    pub ghost lines: { All (IsInput watch.tick) inputs.items },
+    pub ghost lines: { All (IsInput detector.tick) inputs.items },
     pub ghost stays: { All (StaysIfDiscrete (state_count machine.value)) inputs.items },
     pub ghost parts: { AreParts inputs.items time gamma },
 }
@@ -49,11 +49,11 @@ impl Atomic for CrossingModel {
 
     ghost part_of = { λ c. c.machine.value };
 
-    ghost own_tick = { λ c. c.watch.tick };
+    ghost own_tick = { λ c. c.detector.tick };
 
-    ghost is_next = { λ c next. IsCrossingNext c.watch next };
+    ghost is_next = { λ c next. IsCrossingNext c.detector next };
 
-    ghost sends = { λ c tick sent. sent ≡ Truth c.place (holds_at c.watch tick) };
+    ghost sends = { λ c tick sent. sent ≡ Truth c.place (holds_at c.detector tick) };
 
     ghost turns = { λ c tick sent d. (d.machine.value ≡ c.machine.value)
         × (crossing_of d ≡ crossing_after_transition (crossing_of c) tick) };
@@ -64,28 +64,28 @@ impl Atomic for CrossingModel {
         × (crossing_of d ≡ crossing_after_message c.machine.value (crossing_of c) tick message) };
 
     fn advance(&self) -> Option<u64> {
-        self.watch.next_change()
+        self.detector.next_change()
     }
 
     fn output(&self) -> Option<Message> {
         self.advance()?;
         Some(Message::Truth {
             condition: self.place,
-            now: !self.watch.truth(),
+            now: !self.detector.truth(),
         })
     }
 
     fn internal(&mut self) {
         if let Some(tick) = self.advance() {
-            self.watch = crossing_detector_at_change(&self.watch, tick);
+            self.detector = crossing_detector_at_change(&self.detector, tick);
         }
     }
 
     fn external(&mut self, tick: u64, msg: Message) {
         update_crossing_inputs(&self.machine, self.inputs.as_mut_slice(), tick, msg);
-        self.watch = crossing_detector_of(
+        self.detector = crossing_detector_of(
             &self.machine,
-            &self.watch,
+            &self.detector,
             self.inputs.as_slice(),
             self.time,
             self.gamma,
@@ -111,13 +111,14 @@ pub struct Input {
 }
 
 // A detector moved to the tick at which its truth value changes. Its next change is later.
-fn crossing_detector_at_change(watch: &Detector, tick: u64) -> Detector
-    requires { IsCrossingNext watch.now (Some tick) }
-    ensures moved { result ≡ record watch.now { tick = tick; value = value_at watch.now tick } }
+fn crossing_detector_at_change(detector: &Detector, tick: u64) -> Detector
+    requires { IsCrossingNext detector.now (Some tick) }
+    ensures moved { result
+        ≡ record detector.now { tick = tick; value = value_at detector.now tick } }
     ensures later { (next : ℕ) → IsCrossingNext result (Some next) → tick < next }
 {
-    let _ = &watch.speed;
-    let mut next = *watch;
+    let _ = &detector.speed;
+    let mut next = *detector;
     next.move_to(tick);
     next
 }
@@ -158,7 +159,7 @@ fn crossing_input_after_message(m: &Machine, input: Input, tick: u64, msg: Messa
         }
         Message::Discrete { var, value } => {
             if is_crossing_input_of(m, input.var, var) {
-                begin_crossing_input(input, tick, scale_form_value(value, m.p + m.k), 0)
+                begin_crossing_input(input, tick, scale_discrete_value(value, m.p + m.k), 0)
             } else {
                 input
             }
@@ -196,11 +197,11 @@ fn is_crossing_input_of(m: &Machine, input: u32, var: u32) -> bool
 }
 
 /// The detector of a form with these inputs, at a tick below 2^32: the form's value and its
-/// increment per tick, in units of 2^-(f+2p+k). The comparison is that of `watch`. The inputs are
-/// within 2^88 at the tick.
+/// increment per tick, in units of 2^-(f+2p+k). The comparison is that of `detector`. The inputs
+/// are within 2^88 at the tick.
 pub fn crossing_detector_of(
     m: &Machine,
-    watch: &Detector,
+    detector: &Detector,
     inputs: &[Input],
     time: i64,
     gamma: i128,
@@ -211,7 +212,7 @@ pub fn crossing_detector_of(
     requires size_limit { All (λ i. IsWithin 88 (input_at tick i)) inputs.now }
     requires tick_limit { tick < 2 ^ 32 }
     ensures { result ≡ record {
-      rel = watch.now.rel;
+      rel = detector.now.rel;
       tick = tick;
       value = form_at m.now inputs.now time gamma tick;
       speed = speed_by m.now inputs.now time;
@@ -220,7 +221,7 @@ pub fn crossing_detector_of(
     let value = crossing_form_at(m, inputs, time, gamma, tick);
     let speed = crossing_speed_by(m, inputs, time);
     Detector {
-        rel: watch.rel,
+        rel: detector.rel,
         tick,
         value,
         speed,

@@ -25,7 +25,7 @@ pub struct FunctionInput {
 }
 
 /// Sets the level or the discrete value of a message, if the row reads the variable.
-pub(crate) fn set_function_inputs(m: &Machine, row: u32, inputs: &mut [FunctionInput], msg: Message)
+pub(crate) fn receive_input(m: &Machine, row: u32, inputs: &mut [FunctionInput], msg: Message)
     requires message { IsMessage m.now msg }
     requires inputs { AreInputs m.now row inputs.old }
     ensures inputs { AreInputs m.now row inputs.new }
@@ -35,26 +35,26 @@ pub(crate) fn set_function_inputs(m: &Machine, row: u32, inputs: &mut [FunctionI
         ≡ discretes_after_message m.now row (input_discretes m.now inputs.old) msg }
 {
     match msg {
-        Message::Level { var, level } => set_function_input(m, row, inputs, var, level as i64),
-        Message::Discrete { var, value } => set_function_input(m, row, inputs, var, value),
+        Message::Level { var, level } => set_input_value(m, row, inputs, var, level as i64),
+        Message::Discrete { var, value } => set_input_value(m, row, inputs, var, value),
         Message::Slope { .. } | Message::State { .. } | Message::Truth { .. } => {}
     }
 }
 
 /// The value of a variable, or 0 if it is not an input.
-pub(crate) fn function_input_value(inputs: &[FunctionInput], var: u32) -> i64
+pub(crate) fn value_of_input(inputs: &[FunctionInput], var: u32) -> i64
     requires { AreValued inputs.now }
     ensures value { result ≡ input_value inputs.now var }
     ensures bound { IsWithin 43 result }
 {
-    match function_input_place(inputs, var) {
+    match find_input_place(inputs, var) {
         Some(place) => inputs[place].value,
         None => 0,
     }
 }
 
 // Sets the value of a variable, if the row reads it.
-fn set_function_input(m: &Machine, row: u32, inputs: &mut [FunctionInput], var: u32, value: i64)
+fn set_input_value(m: &Machine, row: u32, inputs: &mut [FunctionInput], var: u32, value: i64)
     requires inputs { AreInputs m.now row inputs.old }
     requires value { IsWithin 43 value }
     ensures inputs { AreInputs m.now row inputs.new }
@@ -62,13 +62,13 @@ fn set_function_input(m: &Machine, row: u32, inputs: &mut [FunctionInput], var: 
         ≡ (if row_reads var (row_at m.now row) && i == var then value
         else input_value inputs.old i) }
 {
-    if let Some(place) = function_input_place(inputs, var) {
+    if let Some(place) = find_input_place(inputs, var) {
         inputs[place] = with_function_value(inputs[place], value);
     }
 }
 
 // The index of the input of a variable, if there is one.
-fn function_input_place(inputs: &[FunctionInput], var: u32) -> Option<usize>
+fn find_input_place(inputs: &[FunctionInput], var: u32) -> Option<usize>
     requires { AreValued inputs.now }
     ensures { MatchOption result (All (λ input. input.var ≢ var) inputs.now)
         (λ place. (place < length inputs.now) × ((d : FunctionInput)

@@ -7,8 +7,8 @@ ghost use Rattle.qss_components.specs.Functions.{sum_at, change_by};
 ghost use Rattle.qss_components.specs.FunctionInputs.{AreInputs, input_levels, input_discretes};
 
 use crate::atomic::{Atomic, Message};
-use crate::function_inputs::{FunctionInput, set_function_inputs};
-use crate::function_sums::function_sum_at;
+use crate::function_inputs::{FunctionInput, receive_input};
+use crate::function_sums::slope_at_inputs;
 use qss_machine::Machine;
 use std::rc::Rc;
 
@@ -37,7 +37,7 @@ impl FunctionModel {
             (input_levels self.now.machine.value self.now.inputs.items)
             (input_discretes self.now.machine.value self.now.inputs.items) }
     {
-        function_sum_at(&self.machine, self.row, self.inputs.as_slice())
+        slope_at_inputs(&self.machine, self.row, self.inputs.as_slice())
     }
 }
 
@@ -84,7 +84,7 @@ impl Atomic for FunctionModel {
 
     fn external(&mut self, tick: u64, msg: Message) {
         let before = self.sum();
-        set_function_inputs(&self.machine, self.row, self.inputs.as_mut_slice(), msg);
+        receive_input(&self.machine, self.row, self.inputs.as_mut_slice(), msg);
         self.tick = tick;
         self.changed = function_change_by(self.changed, tick, before, self.sum());
     }

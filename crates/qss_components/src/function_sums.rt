@@ -13,7 +13,7 @@ ghost use Rattle.qss_components.specs.Functions.{sum_at};
 ghost use Rattle.qss_components.specs.FunctionInputs.{input_value, input_levels, input_discretes};
 ghost use Rattle.qss_components.specs.FunctionInputs.{AreValued, AreInputs};
 
-use crate::function_inputs::{FunctionInput, function_input_value};
+use crate::function_inputs::{FunctionInput, value_of_input};
 use mu_num::{exceeds_power_of_two, near_div, unit};
 use qss_machine::{Machine, Product, SlopeRow, slope_term};
 
@@ -22,7 +22,7 @@ const PAST_SLOPES: i128 = (1 << 88) + 1;
 
 /// The slope of a row at these inputs, or one more than the greatest slope if a mode coefficient or
 /// the absolute row sum exceeds its limit.
-pub(crate) fn function_sum_at(m: &Machine, row: u32, inputs: &[FunctionInput]) -> i128
+pub(crate) fn slope_at_inputs(m: &Machine, row: u32, inputs: &[FunctionInput]) -> i128
     requires row { row < state_count m.now }
     requires inputs { AreInputs m.now row inputs.now }
     ensures { result ≡ sum_at m.now row
@@ -119,7 +119,7 @@ fn function_product_term(product: Product, inputs: &[FunctionInput]) -> i128
     ensures value { result ≡ product.coef *ℤ input_value inputs.now product.discrete }
     ensures bound { unsigned_abs result ≤ 2 ^ 87 }
 {
-    slope_term(product.coef, function_input_value(inputs, product.discrete))
+    slope_term(product.coef, value_of_input(inputs, product.discrete))
 }
 
 // A mode coefficient times a level, or a coefficient times a discrete value.

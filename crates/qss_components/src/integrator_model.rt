@@ -12,9 +12,9 @@ ghost use Rattle.qss_components.specs.Messages.{IsMessage, IsTimely};
 ghost use Rattle.qss_components.specs.Integrators.{IsLineNext, line_moved, line_told};
 
 use crate::atomic::{Atomic, Message};
-use qss_events::{event_tick_leaving_level, next_event_level};
+use qss_events::{event_tick_leaving_level, requantize_level};
 use qss_machine::Machine;
-use qss_quant::{Integrator, LevelRule, Quantizer, level_gap_in_units};
+use qss_quant::{Integrator, LevelRule, Quantizer, levels_in_units};
 use std::rc::Rc;
 
 /// A state of a machine as a component (quantized integrator; Kofman and Junco 2001). It moves
@@ -55,14 +55,14 @@ impl IntegratorModel {
         match msg {
             Message::Slope { var, slope } => {
                 if var == self.var {
-                    set_integrator_model_slope(line, slope)
+                    line_with_slope(line, slope)
                 } else {
                     line
                 }
             }
             Message::State { var, state } => {
                 if var == self.var {
-                    set_integrator_model_state(line, state)
+                    line_with_state(line, state)
                 } else {
                     line
                 }
@@ -125,18 +125,12 @@ impl Atomic for IntegratorModel {
         × (j.line ≡ line_after_message i.var i.line tick message) };
 
     fn advance(&self) -> Option<u64> {
-        integrator_model_due(&self.machine, self.var, &self.line)
+        next_transition_tick(&self.machine, self.var, &self.line)
     }
 
     fn output(&self) -> Option<Message> {
         let tick = self.advance()?;
-        let level = integrator_model_level(
-            &self.machine,
-            &self.quantizer,
-            self.var,
-            &self.line,
-            tick,
-        );
+        let level = level_on_leaving(&self.machine, &self.quantizer, self.var, &self.line, tick);
         Some(Message::Level {
             var: self.var,
             level,
@@ -145,7 +139,7 @@ impl Atomic for IntegratorModel {
 
     fn internal(&mut self) {
         if let Some(tick) = self.advance() {
-            let level = integrator_model_level(
+            let level = level_on_leaving(
                 &self.machine,
                 &self.quantizer,
                 self.var,
@@ -163,7 +157,7 @@ impl Atomic for IntegratorModel {
 }
 
 // The line with another slope.
-fn set_integrator_model_slope(line: Integrator, slope: i128) -> Integrator
+fn line_with_slope(line: Integrator, slope: i128) -> Integrator
     requires { IsWithin 88 slope }
     ensures { result ≡ record line { slope = slope } }
 {
@@ -171,7 +165,7 @@ fn set_integrator_model_slope(line: Integrator, slope: i128) -> Integrator
 }
 
 // The line with another state.
-fn set_integrator_model_state(line: Integrator, state: i128) -> Integrator
+fn line_with_state(line: Integrator, state: i128) -> Integrator
     requires { IsWithin 88 state }
     ensures { result ≡ record line { x = state } }
 {
@@ -179,12 +173,12 @@ fn set_integrator_model_state(line: Integrator, state: i128) -> Integrator
 }
 
 // The tick of the next transition of a state's line.
-fn integrator_model_due(m: &Machine, var: u32, line: &Integrator) -> Option<u64>
+fn next_transition_tick(m: &Machine, var: u32, line: &Integrator) -> Option<u64>
     requires { var < state_count m.now }
     ensures next { IsLineNext m.now var line.now result }
     ensures only { (next : Option ℕ) → IsLineNext m.now var line.now next → next ≡ result }
 {
-    if is_integrator_model_near(m, var, line.x, line.level) {
+    if is_inside_own_quantum(m, var, line.x, line.level) {
         event_tick_leaving_level(m, var, line)
     } else {
         Some(line.tick)
@@ -192,37 +186,37 @@ fn integrator_model_due(m: &Machine, var: u32, line: &Integrator) -> Option<u64>
 }
 
 // Whether a state is less than its quantum away from its level.
-fn is_integrator_model_near(m: &Machine, var: u32, x: i128, level: i64) -> bool
+fn is_inside_own_quantum(m: &Machine, var: u32, x: i128, level: i64) -> bool
     requires known { var < state_count m.now }
     requires state { IsWithin 89 x }
     requires level { IsWithin 43 level }
     ensures { result ≡ is_within_quantum m.now var x level }
 {
-    is_integrator_model_inside(x, level, m.quantum_at(var, level), m.level_unit())
+    is_inside_quantum(x, level, m.quantum_at(var, level), m.level_unit())
 }
 
 // Whether a state is less than `quantum` levels away from a level.
-fn is_integrator_model_inside(x: i128, level: i64, quantum: i64, unit: i128) -> bool
+fn is_inside_quantum(x: i128, level: i64, quantum: i64, unit: i128) -> bool
     requires state { IsWithin 89 x }
     requires level { IsWithin 43 level }
     requires quantum { IsPositiveWithin 43 quantum }
     requires unit { IsPositiveWithin 44 unit }
     ensures { result ≡ int_lt (pos (unsigned_abs (x -ℤ unit *ℤ level))) (unit *ℤ quantum) }
 {
-    let place = level_gap_in_units(level, unit);
-    let limit = level_gap_in_units(quantum, unit);
-    is_integrator_model_less(integrator_model_distance(x, place), limit)
+    let place = levels_in_units(level, unit);
+    let limit = levels_in_units(quantum, unit);
+    is_distance_less(distance_from_level(x, place), limit)
 }
 
 // Whether a number is less than another.
-fn is_integrator_model_less(a: i128, b: i128) -> bool
+fn is_distance_less(a: i128, b: i128) -> bool
     ensures { result ≡ int_lt a b }
 {
     a < b
 }
 
 // The distance of a state from its level, in units of a state.
-fn integrator_model_distance(x: i128, level: i128) -> i128
+fn distance_from_level(x: i128, level: i128) -> i128
     requires state { IsWithin 89 x }
     requires level { IsWithin 87 level }
     ensures { result ≡ pos (unsigned_abs (x -ℤ level)) }
@@ -231,13 +225,7 @@ fn integrator_model_distance(x: i128, level: i128) -> i128
 }
 
 // A level that the rule returns for a state at the tick at which it leaves its quantum.
-fn integrator_model_level(
-    m: &Machine,
-    q: &Quantizer,
-    var: u32,
-    line: &Integrator,
-    tick: u64,
-) -> i128
+fn level_on_leaving(m: &Machine, q: &Quantizer, var: u32, line: &Integrator, tick: u64) -> i128
     requires known { var < state_count m.now }
     requires next { IsLineNext m.now var line.now (Some tick) }
     ensures allowed { IsAnswer q.now.name (state_at line.now tick) line.now.level
@@ -247,5 +235,5 @@ fn integrator_model_level(
 {
     let level = line.level;
     let x = line.value_at(tick);
-    next_event_level(m, q, var, x, level, m.level_unit())
+    requantize_level(m, q, var, x, level, m.level_unit())
 }

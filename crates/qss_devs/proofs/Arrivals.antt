@@ -110,24 +110,24 @@ module _ {X : Type 0} {g : _} (m : Machine) (name : Option Rule) (tick : ℕ) (s
   lines_early j h = (stands.stand.agree.integrators j h).not_later
 
   -- crossings may be read
-  pub crossing_timely : (place : ℕ) → place < length (conditions m) → IsTimely (crossing_at s.parts place).watch.tick (IsCrossingNext (crossing_at s.parts place).watch) (tick + 1)
+  pub crossing_timely : (place : ℕ) → place < length (conditions m) → IsTimely (crossing_at s.parts place).detector.tick (IsCrossingNext (crossing_at s.parts place).detector) (tick + 1)
   crossing_timely place h = record {
     not_before = omega (arith, (stands.stand.agree.crossings place h).not_later);
     in_time = omega (arith, before, last);
     not_past = λ next found. omega (arith, stands.crossings place next h found);
   }
 
-  pub crossing_held : (place : ℕ) → place < length (conditions m) → flag_at s.truths.after_handlers.items place ≡ compares (crossing_at s.parts place).watch.rel (crossing_at s.parts place).watch.value
+  pub crossing_held : (place : ℕ) → place < length (conditions m) → flag_at s.truths.after_handlers.items place ≡ compares (crossing_at s.parts place).detector.rel (crossing_at s.parts place).detector.value
   crossing_held place h =
       let none : Condition = record { form = record { entries = []; time = pos 0; gamma = pos 0 }; rel = Less } in
       ap (λ (flags : List Bool). flag_at flags place) stands.after_handlers
       ∙ get_or-map (λ (condition : Condition). truth m condition w.states w.discretes tick) (conditions m) place none false h
       ∙ sym (crossings_tell m tick place w (line_at s.parts) (function_state_at s.parts) (crossing_at s.parts) states_many discretes_many h stands.stand)
-      ∙ holds_still (crossing_at s.parts place).watch tick (stands.stand.agree.crossings place h).not_later (omega (arith, before, last)) (λ next found. stands.crossings place next h found)
+      ∙ holds_still (crossing_at s.parts place).detector tick (stands.stand.agree.crossings place h).not_later (omega (arith, before, last)) (λ next found. stands.crossings place next h found)
 
   -- the truth values that they send are those of the conditions on arrival
   pub arrived_truths : (now : List Bool) → length now ≡ length (conditions m) →
-      ((place : ℕ) → place < length (conditions m) → flag_at now place ≡ holds_at (crossing_at s.parts place).watch (tick + 1)) → now ≡ truths m (moved_states m w) w.discretes (tick + 1)
+      ((place : ℕ) → place < length (conditions m) → flag_at now place ≡ holds_at (crossing_at s.parts place).detector (tick + 1)) → now ≡ truths m (moved_states m w) w.discretes (tick + 1)
   arrived_truths now many told =
       same_lists false now (truths m (moved_states m w) w.discretes (tick + 1)) (many ∙ sym all) each
     where

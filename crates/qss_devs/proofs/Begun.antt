@@ -228,7 +228,7 @@ module _ (m : Machine) where
             let none : Entry = record { var = 0; coef = pos 0 } in
             let inside : k < length condition.form.entries = omega (arith, h, length-map condition.form.entries (first_input m (start_values m))) in
             subst (InputAgrees m 0 (start_values m)) (sym (get_or-map (first_input m (start_values m)) condition.form.entries k none d inside)) (input_agrees (get_or condition.form.entries k none));
-        here = no_ticks first.watch.value first.watch.speed 0;
+        here = no_ticks first.detector.value first.detector.speed 0;
         own_speed = refl;
       }
 

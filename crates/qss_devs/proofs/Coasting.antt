@@ -50,7 +50,7 @@ module _ {X : Type 0} {g : _} (m : Machine) (name : Option Rule) (tick : ℕ) (s
   count : length (states_at tick s.parts) ≡ state_count m
   count = length-map s.parts.integrators.items (λ (i : IntegratorModel X g). state_at i.line tick) ∙ stands.fits.parts.integrators
 
-  standing : tick ≤ tick_limit → (visit : ℕ) (dues : Dues visit) → IsScheduleOf m tick (snapshot_of tick s) (line_at s.parts) (λ place. (crossing_at s.parts place).watch) dues.due
+  standing : tick ≤ tick_limit → (visit : ℕ) (dues : Dues visit) → IsScheduleOf m tick (snapshot_of tick s) (line_at s.parts) (λ place. (crossing_at s.parts place).detector) dues.due
   standing in_time visit dues =
       components_stand m tick (snapshot_of tick s) (line_at s.parts) (function_state_at s.parts) (crossing_at s.parts) dues.due in_time stands.left count stands.fits.values.discretes stands.after_handlers stands.stand dues.are
 
@@ -106,14 +106,14 @@ module _ {X : Type 0} {g : _} (m : Machine) (name : Option Rule) (tick : ℕ) (s
       stands.after_handlers ∙ ap (truths m (states_at tick s.parts) s.work.d) e
   still_settled (suc k) before dues =
       let d : Dues (tick + suc k + 1) = dues (omega arith) in
-      (stands_still m tick (snapshot_of tick s) (line_at s.parts) (λ place. (crossing_at s.parts place).watch) d.due (tick + suc k) (suc k)
+      (stands_still m tick (snapshot_of tick s) (line_at s.parts) (λ place. (crossing_at s.parts place).detector) d.due (tick + suc k) (suc k)
       (standing (omega (arith, before, m.has_units.last_tick)) (tick + suc k + 1) d) (omega arith) (omega (arith, before, m.has_units.last_tick))
       (λ place t e. omega (arith, d.none place t e)) (omega arith)).after_handlers
 
   pub stands_then : (ticks : ℕ) (at_arrival : Vec Bool Global) → tick + ticks < m.last → (0 < ticks → Dues (tick + ticks + 1)) →
       at_arrival.items ≡ arrived_then ticks s.truths.at_arrival.items s.truths.after_handlers.items →
       ((j next : ℕ) → j < state_count m → IsLineNext m j (line_at s.parts j) (Some next) → tick + ticks < next) →
-      ((place next : ℕ) → place < length (conditions m) → IsCrossingNext (crossing_at s.parts place).watch (Some next) → tick + ticks < next) →
+      ((place next : ℕ) → place < length (conditions m) → IsCrossingNext (crossing_at s.parts place).detector (Some next) → tick + ticks < next) →
       StoreRepresents m name (tick + ticks) (with_arrived s at_arrival)
   stands_then ticks at_arrival before dues is lines crossings =
       let same = world_then ticks at_arrival is in
@@ -136,7 +136,7 @@ module _ {X : Type 0} {g : _} (m : Machine) (name : Option Rule) (tick : ℕ) (s
   silent_then Rule zero before dues = record { leads = tt; as_many = refl; reached = refl }
   silent_then Rule (suc k) before dues =
       let d : Dues (tick + suc k + 1) = dues (omega arith) in
-      let quiet = silence m tick (snapshot_of tick s) (line_at s.parts) (λ place. (crossing_at s.parts place).watch) d.due (tick + suc k)
+      let quiet = silence m tick (snapshot_of tick s) (line_at s.parts) (λ place. (crossing_at s.parts place).detector) d.due (tick + suc k)
       (standing (omega (arith, before, m.has_units.last_tick)) (tick + suc k + 1) d) (omega arith) (omega (arith, before, m.has_units.last_tick))
       (λ place t e. omega (arith, d.none place t e)) in
       quiet_leads Rule m tick (snapshot_of tick s) (suc k) stands.left quiet.0 (λ t positive below. quiet.1 t positive (omega (arith, below)))

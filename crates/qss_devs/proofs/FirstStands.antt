@@ -48,7 +48,7 @@ mapped_at f [] j e v h each = absurd (omega (arith, h))
 mapped_at f (x ∷ xs) j e v h each = get_or-map f (x ∷ xs) j x e h ∙ each x
 
 abbrev pub held : CrossingModel → Bool
-held c = compares c.watch.rel c.watch.value
+held c = compares c.detector.rel c.detector.value
 
 -- what is kept, made of the components at the start
 pub record AreFirst {X : Type 0} {g : _} (m : Machine) (q : Quantizer X g) (s : Store X g) : Type 0 where
@@ -57,9 +57,9 @@ pub record AreFirst {X : Type 0} {g : _} (m : Machine) (q : Quantizer X g) (s : 
   pub functions : EachAt (IsFirstFunction m) s.parts.functions.items
   pub crossings : EachAt (IsFirstAt m) s.parts.crossings.items
   pub work : s.work ≡ record { x = start_states m; d = start_discretes m; pre = start_discretes m; tick = 0; log = []; room = row_room m.clauses }
-  pub now : s.truths.now.items ≡ map (λ c. compares c.watch.rel c.watch.value) s.parts.crossings.items
-  pub at_arrival : s.truths.at_arrival.items ≡ map (λ c. compares c.watch.rel c.watch.value) s.parts.crossings.items
-  pub after_handlers : s.truths.after_handlers.items ≡ map (λ c. compares c.watch.rel c.watch.value) s.parts.crossings.items
+  pub now : s.truths.now.items ≡ map (λ c. compares c.detector.rel c.detector.value) s.parts.crossings.items
+  pub at_arrival : s.truths.at_arrival.items ≡ map (λ c. compares c.detector.rel c.detector.value) s.parts.crossings.items
+  pub after_handlers : s.truths.after_handlers.items ≡ map (λ c. compares c.detector.rel c.detector.value) s.parts.crossings.items
   pub room : row_room m.clauses + state_count m + discrete_count m + 1 ≤ vec_capacity s.rows
 
 module _ {X : Type 0} {g : _} (m : Machine) (q : Quantizer X g) (s : Store X g) (first : AreFirst m q s) where
@@ -111,7 +111,7 @@ module _ {X : Type 0} {g : _} (m : Machine) (q : Quantizer X g) (s : Store X g) 
   discretes_count = length-map m.discretes (λ (d : DiscreteInfo). d.d0)
 
   -- each crossing says whether its condition holds
-  flags_are : map (λ (c : CrossingModel). compares c.watch.rel c.watch.value) s.parts.crossings.items ≡ truths m (start_states m) (start_discretes m) 0
+  flags_are : map (λ (c : CrossingModel). compares c.detector.rel c.detector.value) s.parts.crossings.items ≡ truths m (start_states m) (start_discretes m) 0
   flags_are =
       truths_are m (start_states m) (start_discretes m) 0 (map held s.parts.crossings.items) (length-map s.parts.crossings.items held ∙ first.parts.crossings)
       (λ place h.
@@ -119,9 +119,9 @@ module _ {X : Type 0} {g : _} (m : Machine) (q : Quantizer X g) (s : Store X g) 
       let here : Crossing = first_crossing m (start_values m) place (condition_at m place) in
       mapped_at held s.parts.crossings.items place false (truth m (condition_at m place) (start_states m) (start_discretes m) 0) inside
       (λ d.
-      ap (λ (k : Crossing). compares k.watch.rel k.watch.value) (first.crossings place d inside).crossing
-      ∙ ap (compares here.watch.rel) (sym (no_ticks here.watch.value here.watch.speed 0))
-      ∙ ap (λ (k : Crossing). holds_at k.watch 0) (sym (crossing_first place h))
+      ap (λ (k : Crossing). compares k.detector.rel k.detector.value) (first.crossings place d inside).crossing
+      ∙ ap (compares here.detector.rel) (sym (no_ticks here.detector.value here.detector.speed 0))
+      ∙ ap (λ (k : Crossing). holds_at k.detector 0) (sym (crossing_first place h))
       ∙ crossings_tell m 0 place (start_snapshot m) (line_at s.parts) (function_state_at s.parts) (crossing_at s.parts) states_count discretes_count h stand))
 
   pub first_snapshot : snapshot_of 0 s ≡ start_snapshot m
@@ -158,9 +158,9 @@ module _ {X : Type 0} {g : _} (m : Machine) (q : Quantizer X g) (s : Store X g) 
       let line : Line = first_line (start_values m) j in
       near_later m j line (start_near m j h) next (subst (λ (l : Line). IsLineNext m j l (Some next)) (line_first j h) is)
 
-  crossing_later : (place next : ℕ) → place < length (conditions m) → IsCrossingNext (crossing_at s.parts place).watch (Some next) → 0 < next
+  crossing_later : (place next : ℕ) → place < length (conditions m) → IsCrossingNext (crossing_at s.parts place).detector (Some next) → 0 < next
   crossing_later place next h is =
-      let own : (crossing_at s.parts place).watch.tick ≡ 0 = ap (λ (k : Crossing). k.watch.tick) (crossing_first place h) in
+      let own : (crossing_at s.parts place).detector.tick ≡ 0 = ap (λ (k : Crossing). k.detector.tick) (crossing_first place h) in
       omega (arith, own, is.later)
 
   pub first_stands : StoreRepresents m q.name 0 s

@@ -112,22 +112,22 @@ map_crossings f (c ∷ xs) = ap (λ rest. f (crossing_of c) ∷ rest) (map_cross
 -- they hold as the crossings say that change only later
 pub settled_are : {X : Type 0} {g : _} (m : Machine) (tick : ℕ) (w : Snapshot) (parts : Components X g) → AreComponents m parts → tick ≤ tick_limit → length w.states ≡ state_count m → length w.discretes ≡ discrete_count m →
     ComponentsRepresent m tick w (line_at parts) (function_state_at parts) (crossing_at parts) → CrossingsLater m tick (crossing_at parts) →
-    map (λ (c : CrossingModel). compares c.watch.rel c.watch.value) parts.crossings.items ≡ truths m w.states w.discretes tick
+    map (λ (c : CrossingModel). compares c.detector.rel c.detector.value) parts.crossings.items ≡ truths m w.states w.discretes tick
 settled_are {X} {g} m tick w parts are in_time states discretes stand later =
-    map_crossings (λ (c : Crossing). compares c.watch.rel c.watch.value) parts.crossings.items
-    ∙ same_lists false (map (λ (c : Crossing). compares c.watch.rel c.watch.value) (map crossing_of parts.crossings.items)) (truths m w.states w.discretes tick)
-    (length-map (map crossing_of parts.crossings.items) (λ (c : Crossing). compares c.watch.rel c.watch.value) ∙ count ∙ sym (length-map (conditions m) (λ (condition : Condition). truth m condition w.states w.discretes tick)))
+    map_crossings (λ (c : Crossing). compares c.detector.rel c.detector.value) parts.crossings.items
+    ∙ same_lists false (map (λ (c : Crossing). compares c.detector.rel c.detector.value) (map crossing_of parts.crossings.items)) (truths m w.states w.discretes tick)
+    (length-map (map crossing_of parts.crossings.items) (λ (c : Crossing). compares c.detector.rel c.detector.value) ∙ count ∙ sym (length-map (conditions m) (λ (condition : Condition). truth m condition w.states w.discretes tick)))
     each
   where
     count : length (map crossing_of parts.crossings.items) ≡ length (conditions m)
     count = length-map parts.crossings.items crossing_of ∙ are.crossings
 
     each : (k : ℕ) → k < length (truths m w.states w.discretes tick) →
-        get_or (map (λ (c : Crossing). compares c.watch.rel c.watch.value) (map crossing_of parts.crossings.items)) k false ≡ get_or (truths m w.states w.discretes tick) k false
+        get_or (map (λ (c : Crossing). compares c.detector.rel c.detector.value) (map crossing_of parts.crossings.items)) k false ≡ get_or (truths m w.states w.discretes tick) k false
     each k inside =
         let none : Condition = record { form = record { entries = []; time = pos 0; gamma = pos 0 }; rel = Less } in
         let here : k < length (conditions m) = omega (arith, inside, length-map (conditions m) (λ (condition : Condition). truth m condition w.states w.discretes tick)) in
-        get_or-map (λ (c : Crossing). compares c.watch.rel c.watch.value) (map crossing_of parts.crossings.items) k no_crossing false (omega (arith, here, count))
-        ∙ sym (holds_still (crossing_at parts k).watch tick (stand.agree.crossings k here).not_later in_time (λ next found. later k next here found))
+        get_or-map (λ (c : Crossing). compares c.detector.rel c.detector.value) (map crossing_of parts.crossings.items) k no_crossing false (omega (arith, here, count))
+        ∙ sym (holds_still (crossing_at parts k).detector tick (stand.agree.crossings k here).not_later in_time (λ next found. later k next here found))
         ∙ crossings_tell m tick k w (line_at parts) (function_state_at parts) (crossing_at parts) states discretes here stand
         ∙ sym (get_or-map (λ (condition : Condition). truth m condition w.states w.discretes tick) (conditions m) k none false here)

@@ -48,8 +48,8 @@ module _ {X : Type 0} {g : _} (m : Machine) (parts : Components X g) (are : AreC
       subst (λ (n : Machine). IsLineNext n i.var i.line next) (sym own.machine)
       (subst (λ (v : ℕ). IsLineNext m v i.line next) (sym own.own) (subst (λ (l : Line). IsLineNext m j l next) line is))
 
-  pub watch_of : (place : ℕ) (d : CrossingModel) → place < length parts.crossings.items → (crossing_at parts place).watch ≡ (get_or parts.crossings.items place d).watch
-  watch_of place d h = ap (λ (c : Crossing). c.watch) (get_or-map crossing_of parts.crossings.items place d no_crossing h)
+  pub watch_of : (place : ℕ) (d : CrossingModel) → place < length parts.crossings.items → (crossing_at parts place).detector ≡ (get_or parts.crossings.items place d).detector
+  watch_of place d h = ap (λ (c : Crossing). c.detector) (get_or-map crossing_of parts.crossings.items place d no_crossing h)
 
 -- a function's next transition by its place
 pub summing_of_place : {X : Type 0} {g : _} (parts : Components X g) (j : ℕ) (d : FunctionModel) → j < length parts.functions.items → (function_state_at parts j).changed ≡ (get_or parts.functions.items j d).changed
@@ -57,7 +57,7 @@ summing_of_place {X} {g} parts j d h = ap (λ (f : FunctionState). f.changed) (g
 
 module _ {X : Type 0} {g : _} (m : Machine) (tick : ℕ) (w : Snapshot) (parts : Components X g) (lines crossings : List (Option ℕ)) (many : length lines ≡ state_count m) (count : length crossings ≡ length (conditions m))
     (own_lines : (j : ℕ) → j < state_count m → IsLineNext m j (line_at parts j) (get_or lines j None))
-    (own_crossings : (place : ℕ) → place < length (conditions m) → IsCrossingNext (crossing_at parts place).watch (get_or crossings place None)) where
+    (own_crossings : (place : ℕ) → place < length (conditions m) → IsCrossingNext (crossing_at parts place).detector (get_or crossings place None)) where
   pub due_of : ℕ → Option ℕ
   due_of place = get_or (lines ++ crossings) place None
 
@@ -77,32 +77,32 @@ module _ {X : Type 0} {g : _} (m : Machine) (tick : ℕ) (w : Snapshot) (parts :
 
   -- each due tick is that of a line or of a crossing
   kind_of : (place t : ℕ) → due_of place ≡ Some t →
-      ((j : ℕ) × (j < state_count m) × IsLineNext m j (line_at parts j) (Some t)) ⊎ ((k : ℕ) × (k < length (conditions m)) × IsCrossingNext (crossing_at parts k).watch (Some t))
+      ((j : ℕ) × (j < state_count m) × IsLineNext m j (line_at parts j) (Some t)) ⊎ ((k : ℕ) × (k < length (conditions m)) × IsCrossingNext (crossing_at parts k).detector (Some t))
   kind_of place t e = by_line (cases_lt place (state_count m))
     where
       by_crossing : state_count m ≤ place → ((place - state_count m) < length (conditions m)) ⊎ (length (conditions m) ≤ (place - state_count m)) →
-          ((j : ℕ) × (j < state_count m) × IsLineNext m j (line_at parts j) (Some t)) ⊎ ((k : ℕ) × (k < length (conditions m)) × IsCrossingNext (crossing_at parts k).watch (Some t))
+          ((j : ℕ) × (j < state_count m) × IsLineNext m j (line_at parts j) (Some t)) ⊎ ((k : ℕ) × (k < length (conditions m)) × IsCrossingNext (crossing_at parts k).detector (Some t))
       by_crossing past (inl inside) =
           let k : ℕ = place - state_count m in
           let same : state_count m + k ≡ place = omega (arith, past) in
           let found : get_or crossings k None ≡ Some t = sym (crossing_due k) ∙ ap due_of same ∙ e in
-          inr (k, inside, subst (IsCrossingNext (crossing_at parts k).watch) found (own_crossings k inside))
+          inr (k, inside, subst (IsCrossingNext (crossing_at parts k).detector) found (own_crossings k inside))
       by_crossing past (inr out) = let none : due_of place ≡ None = past_due place (omega (arith, past, out)) in absurd (cc)
 
       by_line : (place < state_count m) ⊎ (state_count m ≤ place) →
-          ((j : ℕ) × (j < state_count m) × IsLineNext m j (line_at parts j) (Some t)) ⊎ ((k : ℕ) × (k < length (conditions m)) × IsCrossingNext (crossing_at parts k).watch (Some t))
+          ((j : ℕ) × (j < state_count m) × IsLineNext m j (line_at parts j) (Some t)) ⊎ ((k : ℕ) × (k < length (conditions m)) × IsCrossingNext (crossing_at parts k).detector (Some t))
       by_line (inl below) = inl (place, below, subst (IsLineNext m place (line_at parts place)) (sym (line_due place below) ∙ e) (own_lines place below))
       by_line (inr past) = by_crossing past (cases_lt (place - state_count m) (length (conditions m)))
 
   pub none_before : (visit : ℕ) → ((j t : ℕ) → j < state_count m → IsLineNext m j (line_at parts j) (Some t) → visit ≤ t) →
-      ((k t : ℕ) → k < length (conditions m) → IsCrossingNext (crossing_at parts k).watch (Some t) → visit ≤ t) → HasNoEventBefore visit due_of
+      ((k t : ℕ) → k < length (conditions m) → IsCrossingNext (crossing_at parts k).detector (Some t) → visit ≤ t) → HasNoEventBefore visit due_of
   none_before visit of_lines of_crossings place t e = elim (kind_of place t e) [ inl line ↦ of_lines line.0 t line.1 line.2 | inr crossing ↦ of_crossings crossing.0 t crossing.1 crossing.2 ]
 
   pub are_next : rises w ≡ false → ((j t : ℕ) → j < state_count m → IsLineNext m j (line_at parts j) (Some t) → tick < t) →
-      ((k t : ℕ) → k < length (conditions m) → IsCrossingNext (crossing_at parts k).watch (Some t) → tick < t) → AreNext m tick w (line_at parts) (crossing_at parts) due_of
+      ((k t : ℕ) → k < length (conditions m) → IsCrossingNext (crossing_at parts k).detector (Some t) → tick < t) → AreNext m tick w (line_at parts) (crossing_at parts) due_of
   are_next calm of_lines of_crossings = record {
     lines = λ j h. subst (IsLineNext m j (line_at parts j)) (sym (line_due j h)) (own_lines j h);
-    crossings = λ place h. subst (IsCrossingNext (crossing_at parts place).watch) (sym (crossing_due place)) (own_crossings place h);
+    crossings = λ place h. subst (IsCrossingNext (crossing_at parts place).detector) (sym (crossing_due place)) (own_crossings place h);
     rising = past_due (state_count m + length (conditions m)) (omega arith) ∙ sym (ap (λ b. if b then Some (tick + 1) else None) calm);
     later = λ place t e. elim (kind_of place t e) [ inl line ↦ of_lines line.0 t line.1 line.2 | inr crossing ↦ of_crossings crossing.0 t crossing.1 crossing.2 ];
   }

@@ -27,27 +27,27 @@ use Rattle.qss_devs.proofs.Readings.{read_agrees}
 
 -- what holds of each condition's crossing holds of all crossings
 pub crossings_timely : {X : Type 0} {g : _} (m : Machine) (tick : ℕ) (parts : Components X g) → AreComponents m parts →
-    ((place : ℕ) → place < length (conditions m) → IsTimely (crossing_at parts place).watch.tick (IsCrossingNext (crossing_at parts place).watch) tick) →
-    All (λ (c : CrossingModel). IsTimely c.watch.tick (IsCrossingNext c.watch) tick) parts.crossings.items
+    ((place : ℕ) → place < length (conditions m) → IsTimely (crossing_at parts place).detector.tick (IsCrossingNext (crossing_at parts place).detector) tick) →
+    All (λ (c : CrossingModel). IsTimely c.detector.tick (IsCrossingNext c.detector) tick) parts.crossings.items
 crossings_timely {X} {g} m tick parts are timely k d h =
-    subst (λ (c : Crossing). IsTimely c.watch.tick (IsCrossingNext c.watch) tick) (get_or-map crossing_of parts.crossings.items k d no_crossing h) (timely k (omega (arith, h, are.crossings)))
+    subst (λ (c : Crossing). IsTimely c.detector.tick (IsCrossingNext c.detector) tick) (get_or-map crossing_of parts.crossings.items k d no_crossing h) (timely k (omega (arith, h, are.crossings)))
 
 pub crossings_hold : {X : Type 0} {g : _} (m : Machine) (parts : Components X g) → AreComponents m parts → (now : List Bool) → length now ≡ length (conditions m) →
-    ((place : ℕ) → place < length (conditions m) → flag_at now place ≡ compares (crossing_at parts place).watch.rel (crossing_at parts place).watch.value) →
-    now ≡ map (λ (c : CrossingModel). compares c.watch.rel c.watch.value) parts.crossings.items
+    ((place : ℕ) → place < length (conditions m) → flag_at now place ≡ compares (crossing_at parts place).detector.rel (crossing_at parts place).detector.value) →
+    now ≡ map (λ (c : CrossingModel). compares c.detector.rel c.detector.value) parts.crossings.items
 crossings_hold {X} {g} m parts are now many held =
-    same_lists false now (map (λ (c : CrossingModel). compares c.watch.rel c.watch.value) parts.crossings.items)
-    (many ∙ sym are.crossings ∙ sym (length-map parts.crossings.items (λ (c : CrossingModel). compares c.watch.rel c.watch.value)))
-    (λ k h. by k (omega (arith, h, length-map parts.crossings.items (λ (c : CrossingModel). compares c.watch.rel c.watch.value), are.crossings)))
+    same_lists false now (map (λ (c : CrossingModel). compares c.detector.rel c.detector.value) parts.crossings.items)
+    (many ∙ sym are.crossings ∙ sym (length-map parts.crossings.items (λ (c : CrossingModel). compares c.detector.rel c.detector.value)))
+    (λ k h. by k (omega (arith, h, length-map parts.crossings.items (λ (c : CrossingModel). compares c.detector.rel c.detector.value), are.crossings)))
   where
-    by : (k : ℕ) → k < length (conditions m) → flag_at now k ≡ flag_at (map (λ (c : CrossingModel). compares c.watch.rel c.watch.value) parts.crossings.items) k
+    by : (k : ℕ) → k < length (conditions m) → flag_at now k ≡ flag_at (map (λ (c : CrossingModel). compares c.detector.rel c.detector.value) parts.crossings.items) k
     by k here = held k here ∙ crossing_flag
       where
         inside : k < length parts.crossings.items
         inside = omega (arith, here, are.crossings)
 
-        crossing_flag : compares (crossing_at parts k).watch.rel (crossing_at parts k).watch.value ≡ flag_at (map (λ (c : CrossingModel). compares c.watch.rel c.watch.value) parts.crossings.items) k
-        crossing_flag = sym (at_twice crossing_of (λ (c : Crossing). compares c.watch.rel c.watch.value) parts.crossings.items k no_crossing false inside)
+        crossing_flag : compares (crossing_at parts k).detector.rel (crossing_at parts k).detector.value ≡ flag_at (map (λ (c : CrossingModel). compares c.detector.rel c.detector.value) parts.crossings.items) k
+        crossing_flag = sym (at_twice crossing_of (λ (c : Crossing). compares c.detector.rel c.detector.value) parts.crossings.items k no_crossing false inside)
 
 module _ {X : Type 0} {g : _} (m : Machine) (tick : ℕ) (old new : Components X g) (are : AreComponents m old)
     (same_lines : new.integrators.items ≡ old.integrators.items) (same_functions : new.functions.items ≡ old.functions.items) (same_uses : new.uses ≡ old.uses)
@@ -65,7 +65,7 @@ module _ {X : Type 0} {g : _} (m : Machine) (tick : ℕ) (old new : Components X
   }
 
   module _ (read : (k : ℕ) (d : CrossingModel) → k < length old.crossings.items → IsRead tick (crossing_of (get_or old.crossings.items k d)) (crossing_of (get_or new.crossings.items k d)))
-      (later : All (λ (c : CrossingModel). (next : ℕ) → IsCrossingNext c.watch (Some next) → tick < next) new.crossings.items) where
+      (later : All (λ (c : CrossingModel). (next : ℕ) → IsCrossingNext c.detector (Some next) → tick < next) new.crossings.items) where
     was_read : (place : ℕ) → place < length (conditions m) → IsRead tick (crossing_at old place) (crossing_at new place)
     was_read place h =
         let inside : place < length old.crossings.items = omega (arith, h, are.crossings) in
@@ -85,4 +85,4 @@ module _ {X : Type 0} {g : _} (m : Machine) (tick : ℕ) (old new : Components X
     read_later place next h is =
         let here : place < length new.crossings.items = omega (arith, h, are.crossings, as_many) in
         let d : CrossingModel = some_element new.crossings.items place here in
-        later place d here next (subst (λ (c : Crossing). IsCrossingNext c.watch (Some next)) (get_or-map crossing_of new.crossings.items place d no_crossing here) is)
+        later place d here next (subst (λ (c : Crossing). IsCrossingNext c.detector (Some next)) (get_or-map crossing_of new.crossings.items place d no_crossing here) is)

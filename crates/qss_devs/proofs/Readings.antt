@@ -31,7 +31,7 @@ read_agrees m tick v place condition old new (inr turned) a = subst (CrossingAgr
   entries = a.entries;
   not_later = omega arith;
   lines = a.lines;
-  here = no_ticks (value_at old.watch tick) old.watch.speed tick ∙ a.here;
+  here = no_ticks (value_at old.detector tick) old.detector.speed tick ∙ a.here;
   own_speed = a.own_speed;
 })
 
@@ -40,7 +40,7 @@ pub record AreReadUpTo (tick place : ℕ) (old new : List CrossingModel) : Type 
   pub as_many : length new ≡ length old
   pub machines : (k : ℕ) (d : CrossingModel) → k < place → k < length old → (get_or new k d).machine.value ≡ (get_or old k d).machine.value
   pub read : (k : ℕ) (d : CrossingModel) → k < place → k < length old → IsRead tick (crossing_of (get_or old k d)) (crossing_of (get_or new k d))
-  pub later : (k n : ℕ) (d : CrossingModel) → k < place → k < length old → IsCrossingNext (get_or new k d).watch (Some n) → tick < n
+  pub later : (k n : ℕ) (d : CrossingModel) → k < place → k < length old → IsCrossingNext (get_or new k d).detector (Some n) → tick < n
   pub rest : (k : ℕ) (d : CrossingModel) → place ≤ k → get_or new k d ≡ get_or old k d
 
 pub none_read : (tick : ℕ) (xs : List CrossingModel) → AreReadUpTo tick 0 xs xs
@@ -54,7 +54,7 @@ none_read tick xs = record {
 
 module _ (tick place : ℕ) (old now : List CrossingModel) (x e : CrossingModel) (h : place < length old) (are : AreReadUpTo tick place old now)
     (machine : x.machine.value ≡ (get_or old place e).machine.value) (read : IsRead tick (crossing_of (get_or old place e)) (crossing_of x))
-    (later : (n : ℕ) → IsCrossingNext x.watch (Some n) → tick < n) where
+    (later : (n : ℕ) → IsCrossingNext x.detector (Some n) → tick < n) where
   here : (k : ℕ) (d : CrossingModel) → k ≡ place → get_or (set now place x) k d ≡ x
   here k d same = ap (λ (n : ℕ). get_or (set now place x) n d) same ∙ get_or-set_same now place x d (omega (arith, h, are.as_many))
 
@@ -92,10 +92,10 @@ module _ (tick place : ℕ) (old now : List CrossingModel) (x e : CrossingModel)
           subst (λ (c : CrossingModel). IsRead tick (crossing_of (get_or old k d)) (crossing_of c)) (sym (here k d same))
           (subst (λ (c : CrossingModel). IsRead tick (crossing_of c) (crossing_of x)) (sym (old_at k d same)) read)
 
-      later_before : (k n : ℕ) (d : CrossingModel) → k < place → k < length old → IsCrossingNext (get_or (set now place x) k d).watch (Some n) → tick < n
+      later_before : (k n : ℕ) (d : CrossingModel) → k < place → k < length old → IsCrossingNext (get_or (set now place x) k d).detector (Some n) → tick < n
       later_before k n d less inside is =
           let ne : k ≢ place = λ same. omega (arith, less, same) in
-          are.later k n d less inside (subst (λ (c : CrossingModel). IsCrossingNext c.watch (Some n)) (there k d ne) is)
+          are.later k n d less inside (subst (λ (c : CrossingModel). IsCrossingNext c.detector (Some n)) (there k d ne) is)
 
-      later_here : (k n : ℕ) (d : CrossingModel) → k ≡ place → IsCrossingNext (get_or (set now place x) k d).watch (Some n) → tick < n
-      later_here k n d same is = later n (subst (λ (c : CrossingModel). IsCrossingNext c.watch (Some n)) (here k d same) is)
+      later_here : (k n : ℕ) (d : CrossingModel) → k ≡ place → IsCrossingNext (get_or (set now place x) k d).detector (Some n) → tick < n
+      later_here k n d same is = later n (subst (λ (c : CrossingModel). IsCrossingNext c.detector (Some n)) (here k d same) is)

@@ -86,7 +86,7 @@ function_machines m xs at s t inside is same machines =
     All-set (λ (f : FunctionModel). f.machine.value ≡ m) xs at t (same ∙ subst (λ (f : FunctionModel). f.machine.value ≡ m) (sym is) (machines at s inside)) machines
 
 -- the crossings that are ready may receive a message
-pub crossing_timely : (m : Machine) (tick : ℕ) (s : CrossingModel) → tick < 2 ^ 32 → IsCrossingReady m tick (crossing_of s) → IsTimely s.watch.tick (IsCrossingNext s.watch) tick
+pub crossing_timely : (m : Machine) (tick : ℕ) (s : CrossingModel) → tick < 2 ^ 32 → IsCrossingReady m tick (crossing_of s) → IsTimely s.detector.tick (IsCrossingNext s.detector) tick
 crossing_timely m tick s in_time ready = record {
   not_before = ready.not_later;
   in_time = in_time;

@@ -128,7 +128,7 @@ module _ {X : Type 0} {g : _} (m : Machine) (name : Option Rule) (tick : ℕ) (w
           pub ended_levels : levels_of parts ≡ taken.levels
           ended_levels = levels_are m tick (record { states = handled.states; slopes = slopes; levels = taken.levels; discretes = handled.discretes }) parts are agree taken.allowed.one_each
 
-          pub ended_settled : map (λ (c : CrossingModel). compares c.watch.rel c.watch.value) parts.crossings.items ≡ truths m handled.states handled.discretes tick
+          pub ended_settled : map (λ (c : CrossingModel). compares c.detector.rel c.detector.value) parts.crossings.items ≡ truths m handled.states handled.discretes tick
           ended_settled = settled_are m tick ended parts are (omega (arith, ready.in_time)) states_many discretes_many ended_stand ended_crossings
 
           pub ended_step : (snapshot : Snapshot) → snapshot ≡ ended → IsStep (IsAllowedLevel name) m tick w (Ok snapshot)

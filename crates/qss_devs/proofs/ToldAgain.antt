@@ -97,7 +97,7 @@ module _ (m : Machine) (tick var : ℕ) (value : ℤ) where
   pub told_twice : (c : Crossing) → crossing_after_message m (crossing_after_message m c tick (Discrete var value)) tick (Discrete var value) ≡ crossing_after_message m c tick (Discrete var value)
   told_twice c =
       ap (λ (inputs : List Input). record c {
-        watch = record { rel = c.watch.rel; tick = tick; value = form_at m inputs c.time c.gamma tick; speed = speed_by m inputs c.time };
+        detector = record { rel = c.detector.rel; tick = tick; value = form_at m inputs c.time c.gamma tick; speed = speed_by m inputs c.time };
         inputs = inputs;
       })
       (inputs_twice c.inputs)

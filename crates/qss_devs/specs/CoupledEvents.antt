@@ -49,7 +49,7 @@ pub record FitsMachine {X : Type 0} {g : _} (m : Machine) (name : Option Rule) (
 
 -- no crossing is due at or before this tick
 abbrev pub CrossingsLater : Machine → ℕ → (ℕ → Crossing) → Type 0
-CrossingsLater m tick c = (place next : ℕ) → place < length (conditions m) → IsCrossingNext (c place).watch (Some next) → tick < next
+CrossingsLater m tick c = (place next : ℕ) → place < length (conditions m) → IsCrossingNext (c place).detector (Some next) → tick < next
 
 -- a coupled model represents its snapshot at a tick, and the next transitions of its components are
 -- later

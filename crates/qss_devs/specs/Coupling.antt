@@ -25,7 +25,7 @@ abbrev pub no_summing : FunctionState
 no_summing = record { row = 0; tick = 0; levels = []; discretes = []; changed = None }
 
 abbrev pub no_crossing : Crossing
-no_crossing = record { place = 0; watch = no_detector; inputs = []; time = pos 0; gamma = pos 0 }
+no_crossing = record { place = 0; detector = no_detector; inputs = []; time = pos 0; gamma = pos 0 }
 
 -- the line of a state's integrator
 abbrev pub line_at : {X : Type 0} {g : _} → Components X g → ℕ → Line
@@ -67,8 +67,8 @@ pub record IsSummingReady (tick : ℕ) (s : FunctionState) : Type 0 where
 -- a crossing may receive a message at a tick: it is not due by then, and its states are within
 -- their limits
 pub record IsCrossingReady (m : Machine) (tick : ℕ) (c : Crossing) : Type 0 where
-  pub not_later : c.watch.tick ≤ tick
-  pub later : (next : ℕ) → IsCrossingNext c.watch (Some next) → tick < next
+  pub not_later : c.detector.tick ≤ tick
+  pub later : (next : ℕ) → IsCrossingNext c.detector (Some next) → tick < next
   pub small : AreSmallAt m c.inputs tick
 
 -- components that may receive messages at a tick: conditions were read there, and no level or sum

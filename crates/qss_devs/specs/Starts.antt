@@ -87,7 +87,7 @@ first_crossing m v place condition =
     let inputs : List Input = map (first_input m v) condition.form.entries in
     record {
       place = place;
-      watch = record {
+      detector = record {
         rel = condition.rel;
         tick = 0;
         value = form_at m inputs condition.form.time condition.form.gamma 0;

@@ -26,7 +26,7 @@ use qss_components::{Atomic, CrossingModel, IntegratorModel, Message, is_due};
 use qss_machine::Machine;
 
 /// Computes the states of all lines at a tick. Returns the first that exceeds its limit.
-pub(crate) fn make_coupled_arrival(
+pub(crate) fn compute_arrival_states(
     integrators: &[IntegratorModel],
     tick: u64,
     x: &mut [i128],
@@ -38,8 +38,8 @@ pub(crate) fn make_coupled_arrival(
     ensures states { x.new ≡ map (λ i. state_at i.line tick) integrators.now }
     ensures overflow { result ≡ first_exceeding 88 (map (λ i. state_at i.line tick) integrators.now) }
 {
-    fill_coupled_arrival_states(integrators, tick, x);
-    first_coupled_arrival_exceeding(x, 88)
+    fill_arrival_states(integrators, tick, x);
+    first_number_exceeding(x, 88)
 }
 
 #[tactic(none)]
@@ -54,18 +54,18 @@ pub(crate) fn read_crossings_on_arrival(
     requires flags { length now.old ≡ length (conditions m.now) }
     requires tick_limit { tick < 2 ^ 32 }
     requires timely { (place : ℕ) → place < length (conditions m.now)
-        → IsTimely (crossing_at parts.old place).watch.tick
-        (IsCrossingNext (crossing_at parts.old place).watch) tick }
+        → IsTimely (crossing_at parts.old place).detector.tick
+        (IsCrossingNext (crossing_at parts.old place).detector) tick }
     requires own { (place : ℕ) → place < length (conditions m.now)
         → (crossing_at parts.old place).place ≡ place }
     requires held { (place : ℕ) → place < length (conditions m.now)
         → flag_at now.old place
-        ≡ compares (crossing_at parts.old place).watch.rel
-        (crossing_at parts.old place).watch.value }
+        ≡ compares (crossing_at parts.old place).detector.rel
+        (crossing_at parts.old place).detector.value }
     ensures unchanged { parts.new ≡ record parts.old { crossings = parts.new.crossings } }
     ensures parts { AreComponents m.now parts.new }
     ensures now { (place : ℕ) → place < length (conditions m.now)
-        → flag_at now.new place ≡ holds_at (crossing_at parts.old place).watch tick }
+        → flag_at now.new place ≡ holds_at (crossing_at parts.old place).detector tick }
     ensures agree { (v : Values) → Agrees m.now tick v parts.old → Agrees m.now tick v parts.new }
     ensures later { CrossingsLater m.now tick (crossing_at parts.new) }
 {
@@ -80,7 +80,7 @@ pub(crate) fn settle_arrival_truths(crossings: &[CrossingModel], truths: &mut Tr
     ensures now { truths.new.now.items ≡ truths.old.now.items }
     ensures at_arrival { truths.new.at_arrival.items ≡ truths.old.now.items }
     ensures after_handlers { truths.new.after_handlers.items
-        ≡ map (λ c. compares c.watch.rel c.watch.value) crossings.now }
+        ≡ map (λ c. compares c.detector.rel c.detector.value) crossings.now }
 {
     truths
         .at_arrival
@@ -90,19 +90,19 @@ pub(crate) fn settle_arrival_truths(crossings: &[CrossingModel], truths: &mut Tr
 }
 
 // Computes the states of all lines at a tick.
-fn fill_coupled_arrival_states(integrators: &[IntegratorModel], tick: u64, x: &mut [i128])
+fn fill_arrival_states(integrators: &[IntegratorModel], tick: u64, x: &mut [i128])
     requires same_length { length x.old ≡ length integrators.now }
     requires not_later { All (λ i. i.line.tick ≤ tick) integrators.now }
     requires tick_limit { tick < 2 ^ 32 }
     ensures { x.new ≡ map (λ i. state_at i.line tick) integrators.now }
 {
     for j in 0..integrators.len() {
-        x[j] = state_on_coupled_arrival(integrators, j, tick);
+        x[j] = state_of_line_at(integrators, j, tick);
     }
 }
 
 // The state of an integrator's line at a tick.
-fn state_on_coupled_arrival(integrators: &[IntegratorModel], j: usize, tick: u64) -> i128
+fn state_of_line_at(integrators: &[IntegratorModel], j: usize, tick: u64) -> i128
     requires known { j < length integrators.now }
     requires not_later { All (λ i. i.line.tick ≤ tick) integrators.now }
     requires tick_limit { tick < 2 ^ 32 }
@@ -112,7 +112,7 @@ fn state_on_coupled_arrival(integrators: &[IntegratorModel], j: usize, tick: u64
 }
 
 /// The least index of a number greater than 2^bits in absolute value.
-pub(crate) fn first_coupled_arrival_exceeding(numbers: &[i128], bits: u8) -> Option<u32>
+pub(crate) fn first_number_exceeding(numbers: &[i128], bits: u8) -> Option<u32>
     requires count_limit { length numbers.now ≤ 4096 }
     requires bits { bits < 100 }
     ensures { result ≡ first_exceeding bits numbers.now }
@@ -128,16 +128,17 @@ pub(crate) fn first_coupled_arrival_exceeding(numbers: &[i128], bits: u8) -> Opt
 // Computes which conditions hold on arrival.
 fn read_all_on_arrival(crossings: &mut [CrossingModel], tick: u64, now: &mut [bool])
     requires same_length { length now.old ≡ length crossings.old }
-    requires timely { All (λ c. IsTimely c.watch.tick (IsCrossingNext c.watch) tick) crossings.old }
-    requires held { now.old ≡ map (λ c. compares c.watch.rel c.watch.value) crossings.old }
-    ensures now { now.new ≡ map (λ c. holds_at c.watch tick) crossings.old }
+    requires timely { All (λ c. IsTimely c.detector.tick (IsCrossingNext c.detector) tick)
+        crossings.old }
+    requires held { now.old ≡ map (λ c. compares c.detector.rel c.detector.value) crossings.old }
+    ensures now { now.new ≡ map (λ c. holds_at c.detector tick) crossings.old }
     ensures machines { (place : ℕ) (d : CrossingModel) → place < length crossings.old
         → (slice_index_or crossings.new place d).machine.value
         ≡ (slice_index_or crossings.old place d).machine.value }
     ensures read { (place : ℕ) (d : CrossingModel) → place < length crossings.old
         → IsRead tick (crossing_of (slice_index_or crossings.old place d))
         (crossing_of (slice_index_or crossings.new place d)) }
-    ensures later { All (λ c. (next : ℕ) → IsCrossingNext c.watch (Some next) → tick < next)
+    ensures later { All (λ c. (next : ℕ) → IsCrossingNext c.detector (Some next) → tick < next)
         crossings.new }
 {
     for place in 0..crossings.len() {
@@ -149,23 +150,24 @@ fn read_all_on_arrival(crossings: &mut [CrossingModel], tick: u64, now: &mut [bo
 // Whether a condition holds on arrival. A crossing that is due makes its transition; otherwise the
 // truth value is unchanged.
 fn read_crossing_on_arrival(crossing: &mut CrossingModel, tick: u64, held: bool) -> bool
-    requires timely { IsTimely crossing.old.watch.tick (IsCrossingNext crossing.old.watch) tick }
-    requires held { held ≡ compares crossing.old.watch.rel crossing.old.watch.value }
-    ensures now { result ≡ holds_at crossing.old.watch tick }
+    requires timely { IsTimely crossing.old.detector.tick (IsCrossingNext crossing.old.detector)
+        tick }
+    requires held { held ≡ compares crossing.old.detector.rel crossing.old.detector.value }
+    ensures now { result ≡ holds_at crossing.old.detector tick }
     ensures machine { crossing.new.machine.value ≡ crossing.old.machine.value }
     ensures read { IsRead tick (crossing_of crossing.old) (crossing_of crossing.new) }
-    ensures later { (next : ℕ) → IsCrossingNext crossing.new.watch (Some next) → tick < next }
+    ensures later { (next : ℕ) → IsCrossingNext crossing.new.detector (Some next) → tick < next }
 {
     if !is_due(crossing, tick) {
         return held;
     }
-    let now = coupled_arrival_truth(crossing.output(), held);
+    let now = message_truth(crossing.output(), held);
     crossing.internal();
     now
 }
 
 // The truth value in a crossing's message, or `held` if it sends none.
-fn coupled_arrival_truth(msg: Option<Message>, held: bool) -> bool
+fn message_truth(msg: Option<Message>, held: bool) -> bool
     ensures { (condition : ℕ) (now : Bool) → msg ≡ Some (Truth condition now) → result ≡ now }
 {
     match msg {
@@ -177,17 +179,18 @@ fn coupled_arrival_truth(msg: Option<Message>, held: bool) -> bool
 // Computes the truth values of all conditions at the ticks of their crossings.
 pub(crate) fn settle_all_arrival_truths(crossings: &[CrossingModel], flags: &mut [bool])
     requires { length flags.old ≡ length crossings.now }
-    ensures { flags.new ≡ map (λ c. compares c.watch.rel c.watch.value) crossings.now }
+    ensures { flags.new ≡ map (λ c. compares c.detector.rel c.detector.value) crossings.now }
 {
     for place in 0..crossings.len() {
-        flags[place] = coupled_arrival_truth_at(crossings, place);
+        flags[place] = crossing_truth_at(crossings, place);
     }
 }
 
 // Whether a condition holds at the tick of its crossing.
-fn coupled_arrival_truth_at(crossings: &[CrossingModel], place: usize) -> bool
+fn crossing_truth_at(crossings: &[CrossingModel], place: usize) -> bool
     requires { place < length crossings.now }
-    ensures { result ≡ flag_at (map (λ c. compares c.watch.rel c.watch.value) crossings.now) place }
+    ensures { result
+        ≡ flag_at (map (λ c. compares c.detector.rel c.detector.value) crossings.now) place }
 {
-    crossings[place].watch.truth()
+    crossings[place].detector.truth()
 }

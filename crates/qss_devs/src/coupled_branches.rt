@@ -16,7 +16,7 @@ use qss_machine::{Condition, Machine};
 
 /// Runs all clauses in order. The first due branch of each fires. The flags are the truth values of
 /// the conditions on arrival now, on the last arrival, and after the last handlers.
-pub(crate) fn fire_due_coupled_branches(
+pub(crate) fn fire_clauses_on_arrival(
     m: &Machine,
     now: &[bool],
     at_arrival: &[bool],
@@ -39,7 +39,7 @@ pub(crate) fn fire_due_coupled_branches(
     ensures told { All (IsToldMessage m.now) work.new.log }
     ensures count { length work.new.log ≤ row_room m.now.clauses }
 {
-    fire_coupled_branches(m, now, at_arrival, after_handlers, work)
+    fire_all_clauses(m, now, at_arrival, after_handlers, work)
 }
 
 /// The condition of a branch.
@@ -54,7 +54,7 @@ pub(crate) fn coupled_branch_condition(m: &Machine, clause: usize, branch: usize
 }
 
 // Runs all clauses in order. The first due branch of each fires.
-fn fire_coupled_branches(
+fn fire_all_clauses(
     m: &Machine,
     now: &[bool],
     at_arrival: &[bool],

@@ -25,9 +25,9 @@ ghost use Rattle.qss_devs.specs.Coupling.{line_at, crossing_at};
 ghost use Rattle.qss_events.specs.EventFreeRuns.{AreEventFree, IsVisit};
 
 use crate::coupled_arrivals::{
-    make_coupled_arrival, read_crossings_on_arrival, settle_arrival_truths,
+    compute_arrival_states, read_crossings_on_arrival, settle_arrival_truths,
 };
-use crate::coupled_branches::fire_due_coupled_branches;
+use crate::coupled_branches::fire_clauses_on_arrival;
 use crate::coupled_messages::{
     send_assigned_messages, send_integrator_level_messages, send_slope_messages,
 };
@@ -41,7 +41,7 @@ use qss_machine::{Machine, Row, RowKind};
 use qss_quant::Quantizer;
 
 /// Advances to the next tick with rows, to an overflow, or to the last tick. Allocates no memory.
-pub(crate) fn go_next_coupled_event(m: &Machine, q: &Quantizer, from: u64, s: &mut Store) -> Outcome
+pub(crate) fn go_to_next_rows(m: &Machine, q: &Quantizer, from: u64, s: &mut Store) -> Outcome
     requires named { IsNamed q.now.name }
     requires represents_snapshot { StoreRepresents m.now q.now.name from s.old }
     requires tick_limit { from ≤ m.now.last }
@@ -53,7 +53,7 @@ pub(crate) fn go_next_coupled_event(m: &Machine, q: &Quantizer, from: u64, s: &m
 {
     let mut tick = from;
     while tick < m.last {
-        let visited = go_to_coupled_event(m, q, tick, s);
+        let visited = visit_next_step(m, q, tick, s);
         tick = visited.tick;
         if let Some(var) = visited.over {
             set_event_overflow_row(tick, var, &mut s.rows);
@@ -63,12 +63,12 @@ pub(crate) fn go_next_coupled_event(m: &Machine, q: &Quantizer, from: u64, s: &m
             return Outcome::Events { tick };
         }
     }
-    set_coupled_event_ends(m, q, s);
+    set_rows_at_end(m, q, s);
     Outcome::Done
 }
 
 /// Advances over the event-free ticks and runs one more tick.
-pub(crate) fn go_to_coupled_event(m: &Machine, q: &Quantizer, tick: u64, s: &mut Store) -> Visited
+pub(crate) fn visit_next_step(m: &Machine, q: &Quantizer, tick: u64, s: &mut Store) -> Visited
     requires named { IsNamed q.now.name }
     requires represents_snapshot { StoreRepresents m.now q.now.name tick s.old }
     requires tick_limit { tick < m.now.last }
@@ -82,8 +82,8 @@ pub(crate) fn go_to_coupled_event(m: &Machine, q: &Quantizer, tick: u64, s: &mut
     ensures represents_snapshot { result.over ≡ None → StoreRepresents m.now q.now.name result.tick s.new }
     ensures room { vec_capacity s.new.rows ≡ vec_capacity s.old.rows }
 {
-    let before = skip_to_coupled_event(m, q, tick, s);
-    let over = run_coupled_event(m, q, before, s);
+    let before = skip_event_free_ticks(m, q, tick, s);
+    let over = run_next_tick(m, q, before, s);
     Visited {
         tick: before + 1,
         over,
@@ -91,7 +91,7 @@ pub(crate) fn go_to_coupled_event(m: &Machine, q: &Quantizer, tick: u64, s: &mut
 }
 
 // Advances to the tick before the next one that may have an event, and returns it.
-fn skip_to_coupled_event(m: &Machine, q: &Quantizer, tick: u64, s: &mut Store) -> u64
+fn skip_event_free_ticks(m: &Machine, q: &Quantizer, tick: u64, s: &mut Store) -> u64
     requires represents_snapshot { StoreRepresents m.now q.now.name tick s.old }
     requires tick_limit { tick < m.now.last }
     ensures later { tick ≤ result }
@@ -101,8 +101,8 @@ fn skip_to_coupled_event(m: &Machine, q: &Quantizer, tick: u64, s: &mut Store) -
     ensures represents_snapshot { StoreRepresents m.now q.now.name result s.new }
     ensures room { vec_capacity s.new.rows ≡ vec_capacity s.old.rows }
 {
-    let next = next_coupled_event_tick(m, q, tick, s);
-    copy_coupled_event_truths(
+    let next = next_step_tick(m, q, tick, s);
+    copy_truths_if_still(
         tick + 1 < next,
         s.truths.after_handlers.as_slice(),
         s.truths.at_arrival.as_mut_slice(),
@@ -112,7 +112,7 @@ fn skip_to_coupled_event(m: &Machine, q: &Quantizer, tick: u64, s: &mut Store) -
 
 /// The tick of the next event step. It is the next tick if a handler made a condition true, else
 /// the least tick of the next transitions of components, at most the last tick.
-pub(crate) fn next_coupled_event_tick(m: &Machine, q: &Quantizer, tick: u64, s: &Store) -> u64
+pub(crate) fn next_step_tick(m: &Machine, q: &Quantizer, tick: u64, s: &Store) -> u64
     requires represents_snapshot { StoreRepresents m.now q.now.name tick s.now }
     requires tick_limit { tick < m.now.last }
     ensures later { tick < result }
@@ -120,7 +120,7 @@ pub(crate) fn next_coupled_event_tick(m: &Machine, q: &Quantizer, tick: u64, s: 
     ensures lines { (j next : ℕ) → j < state_count m.now
         → IsLineNext m.now j (line_at s.now.parts j) (Some next) → result ≤ next }
     ensures crossings { (place next : ℕ) → place < length (conditions m.now)
-        → IsCrossingNext (crossing_at s.now.parts place).watch (Some next) → result ≤ next }
+        → IsCrossingNext (crossing_at s.now.parts place).detector (Some next) → result ≤ next }
     ensures dues { tick + 1 < result → (due : ℕ → Option ℕ)
         × AreNext m.now tick (snapshot_of tick s.now)
         (line_at s.now.parts) (crossing_at s.now.parts) due
@@ -140,7 +140,7 @@ pub(crate) fn next_coupled_event_tick(m: &Machine, q: &Quantizer, tick: u64, s: 
 }
 
 // After an event-free tick, the truth values on arrival are those after the last handlers.
-fn copy_coupled_event_truths(still: bool, after_handlers: &[bool], at_arrival: &mut [bool])
+fn copy_truths_if_still(still: bool, after_handlers: &[bool], at_arrival: &mut [bool])
     requires { length at_arrival.old ≡ length after_handlers.now }
     ensures { at_arrival.new ≡ (if still then after_handlers.now else at_arrival.old) }
 {
@@ -153,7 +153,7 @@ fn copy_coupled_event_truths(still: bool, after_handlers: &[bool], at_arrival: &
 /// transitions, then functions. Returns the variable that overflows, if any. After an overflow the
 /// store is unspecified, except for its memory for rows.
 #[tactic(none)]
-pub(crate) fn run_coupled_event(m: &Machine, q: &Quantizer, tick: u64, s: &mut Store) -> Option<u32>
+pub(crate) fn run_next_tick(m: &Machine, q: &Quantizer, tick: u64, s: &mut Store) -> Option<u32>
     requires named { IsNamed q.now.name }
     requires represents_snapshot { StoreRepresents m.now q.now.name tick s.old }
     requires tick_limit { tick < m.now.last }
@@ -164,17 +164,17 @@ pub(crate) fn run_coupled_event(m: &Machine, q: &Quantizer, tick: u64, s: &mut S
     ensures represents_snapshot { result ≡ None → StoreRepresents m.now q.now.name (tick + 1) s.new }
     ensures room { vec_capacity s.new.rows ≡ vec_capacity s.old.rows }
 {
-    let over = handle_coupled_event(m, q, tick, s);
+    let over = run_handlers_of_tick(m, q, tick, s);
     if over.is_some() {
         return over;
     }
-    update_coupled_event_components(m, q, tick + 1, s)
+    update_components(m, q, tick + 1, s)
 }
 
 // Runs the handlers of the next tick: crossings are read on arrival, then branches fire. Returns
 // the variable that overflows on arrival or by an assignment, if any.
 #[tactic(none)]
-fn handle_coupled_event(m: &Machine, q: &Quantizer, tick: u64, s: &mut Store) -> Option<u32>
+fn run_handlers_of_tick(m: &Machine, q: &Quantizer, tick: u64, s: &mut Store) -> Option<u32>
     requires represents_snapshot { StoreRepresents m.now q.now.name tick s.old }
     requires tick_limit { tick < m.now.last }
     ensures overflow { result ≡ (handlers_at m.now (tick + 1) (snapshot_of tick s.old)).overflow }
@@ -184,7 +184,7 @@ fn handle_coupled_event(m: &Machine, q: &Quantizer, tick: u64, s: &mut Store) ->
 {
     let next = tick + 1;
     s.work.begin(next);
-    let over = arrive_in_coupled_event(s.parts.integrators.as_slice(), next, &mut s.work);
+    let over = arrive_at_tick(s.parts.integrators.as_slice(), next, &mut s.work);
     if over.is_some() {
         return over;
     }
@@ -193,7 +193,7 @@ fn handle_coupled_event(m: &Machine, q: &Quantizer, tick: u64, s: &mut Store) ->
         .as_mut_slice()
         .copy_from_slice(s.truths.after_handlers.as_slice());
     read_crossings_on_arrival(m, &mut s.parts, next, s.truths.now.as_mut_slice());
-    let fired = fire_due_coupled_branches(
+    let fired = fire_clauses_on_arrival(
         m,
         s.truths.now.as_slice(),
         s.truths.at_arrival.as_slice(),
@@ -207,11 +207,7 @@ fn handle_coupled_event(m: &Machine, q: &Quantizer, tick: u64, s: &mut Store) ->
 }
 
 // Computes the states on which the handlers work. Returns the first that exceeds its limit.
-fn arrive_in_coupled_event(
-    integrators: &[IntegratorModel],
-    tick: u64,
-    work: &mut Work,
-) -> Option<u32>
+fn arrive_at_tick(integrators: &[IntegratorModel], tick: u64, work: &mut Work) -> Option<u32>
     requires count_limit { length integrators.now ≤ 4096 }
     requires same_length { length work.old.x ≡ length integrators.now }
     requires not_later { All (λ i. i.line.tick ≤ tick) integrators.now }
@@ -221,19 +217,14 @@ fn arrive_in_coupled_event(
     } }
     ensures overflow { result ≡ first_exceeding 88 (map (λ i. state_at i.line tick) integrators.now) }
 {
-    make_coupled_arrival(integrators, tick, work.x.as_mut_slice())
+    compute_arrival_states(integrators, tick, work.x.as_mut_slice())
 }
 
 // Sends the assignments of the handlers, then makes the transitions of integrators, then those of
 // functions, and computes the truth values of the conditions. Returns the variable that overflows,
 // if any.
 #[tactic(none)]
-fn update_coupled_event_components(
-    m: &Machine,
-    q: &Quantizer,
-    tick: u64,
-    s: &mut Store,
-) -> Option<u32>
+fn update_components(m: &Machine, q: &Quantizer, tick: u64, s: &mut Store) -> Option<u32>
     requires named { IsNamed q.now.name }
     requires handled { (w : Snapshot) × IsAfterHandlers m.now q.now.name tick w s.old }
     ensures stepped { (w : Snapshot) → IsAfterHandlers m.now q.now.name tick w s.old
@@ -244,7 +235,7 @@ fn update_coupled_event_components(
     ensures room { vec_capacity s.new.rows ≡ vec_capacity s.old.rows }
 {
     send_assigned_messages(m, &mut s.parts, tick, &s.work);
-    note_coupled_event_rows(&s.work, &mut s.rows);
+    list_handler_rows(&s.work, &mut s.rows);
     let over = send_integrator_level_messages(m, q, &mut s.parts, tick, &mut s.rows);
     if over.is_some() {
         return over;
@@ -258,7 +249,7 @@ fn update_coupled_event_components(
 }
 
 // Lists the rows of the handlers as the first rows of the tick.
-fn note_coupled_event_rows(work: &Work, rows: &mut Vec<Row>)
+fn list_handler_rows(work: &Work, rows: &mut Vec<Row>)
     requires { length work.now.log ≤ vec_capacity rows.old }
     ensures rows { rows.new.items ≡ work.now.log }
     ensures room { vec_capacity rows.new ≡ vec_capacity rows.old }
@@ -270,22 +261,22 @@ fn note_coupled_event_rows(work: &Work, rows: &mut Vec<Row>)
 }
 
 // The end rows, with the states at the last tick.
-fn set_coupled_event_ends(m: &Machine, q: &Quantizer, s: &mut Store)
+fn set_rows_at_end(m: &Machine, q: &Quantizer, s: &mut Store)
     requires { StoreRepresents m.now q.now.name m.now.last s.old }
     ensures rows { s.new.rows.items ≡ snapshot_rows kind.End m.now.last (snapshot_of m.now.last s.old) }
     ensures snapshot { snapshot_of m.now.last s.new ≡ snapshot_of m.now.last s.old }
 {
-    set_coupled_event_snapshot(
+    set_snapshot_rows(
         RowKind::End,
         m.last,
         s.parts.integrators.as_slice(),
-        coupled_event_discretes(&s.work),
+        handler_discretes(&s.work),
         &mut s.rows,
     );
 }
 
 /// The rows of all states and discrete variables, at the start or at the end.
-pub(crate) fn set_coupled_event_snapshot(
+pub(crate) fn set_snapshot_rows(
     kind: RowKind,
     tick: u64,
     integrators: &[IntegratorModel],
@@ -302,12 +293,12 @@ pub(crate) fn set_coupled_event_snapshot(
     ensures room { vec_capacity rows.new ≡ vec_capacity rows.old }
 {
     rows.clear();
-    add_coupled_event_states(kind, tick, integrators, rows);
+    add_component_rows(kind, tick, integrators, rows);
     add_event_discrete_rows(kind, tick, integrators.len(), d, rows);
 }
 
 // Appends a row for each state.
-fn add_coupled_event_states(
+fn add_component_rows(
     kind: RowKind,
     tick: u64,
     integrators: &[IntegratorModel],
@@ -324,12 +315,12 @@ fn add_coupled_event_states(
     ensures room { vec_capacity rows.new ≡ vec_capacity rows.old }
 {
     for j in 0..integrators.len() {
-        rows.push_reserved(coupled_event_state_row(kind, tick, j as u32, &integrators[j]));
+        rows.push_reserved(component_state_row(kind, tick, j as u32, &integrators[j]));
     }
 }
 
 // The row of a state at a tick.
-fn coupled_event_state_row(kind: RowKind, tick: u64, var: u32, integrator: &IntegratorModel) -> Row
+fn component_state_row(kind: RowKind, tick: u64, var: u32, integrator: &IntegratorModel) -> Row
     requires not_later { integrator.now.line.tick ≤ tick }
     requires tick_limit { tick < 2 ^ 32 }
     ensures { result ≡ record {
@@ -352,7 +343,7 @@ fn coupled_event_state_row(kind: RowKind, tick: u64, var: u32, integrator: &Inte
 }
 
 // The discrete values that handlers read and write.
-fn coupled_event_discretes(work: &Work) -> &[i64]
+fn handler_discretes(work: &Work) -> &[i64]
     ensures { result.now ≡ work.now.d }
 {
     work.d.as_slice()

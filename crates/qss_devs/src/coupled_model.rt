@@ -4,7 +4,7 @@ ghost use Rattle.std.specs.Prelude.{◌≡◌, ◌≤◌, true, is_some, None, I
 ghost use Rattle.qss_devs.specs.CoupledSteps.{IsNamed};
 ghost use Rattle.qss_devs.specs.CoupledEvents.{StoreRepresents};
 
-use crate::coupled_events::go_next_coupled_event;
+use crate::coupled_events::go_to_next_rows;
 use crate::coupled_start::{Store, start_coupled_store};
 use qss_events::Outcome;
 use qss_machine::{Machine, Row};
@@ -51,8 +51,8 @@ impl Coupled {
             }) }
         ensures rule { IfOk result (λ c. c.quantizer.value ≡ q) }
     {
-        let machine = hold_in_coupled_model(alloc, m)?;
-        let quantizer = hold_in_coupled_model(alloc, q)?;
+        let machine = hold_shared(alloc, m)?;
+        let quantizer = hold_shared(alloc, q)?;
         let store = start_coupled_store(alloc, &machine, &machine, &quantizer)?;
         Ok(Coupled {
             machine,
@@ -83,12 +83,7 @@ impl Coupled {
         if let Some(end) = self.end {
             return end;
         }
-        let outcome = go_next_coupled_event(
-            &self.machine,
-            &self.quantizer,
-            self.tick,
-            &mut self.store,
-        );
+        let outcome = go_to_next_rows(&self.machine, &self.quantizer, self.tick, &mut self.store);
         self.tick = outcome.tick(self.machine.last);
         self.end = outcome.end();
         outcome
@@ -110,7 +105,7 @@ impl Coupled {
 }
 
 // A reference-counted value.
-fn hold_in_coupled_model<T: Drop>(alloc: Global, value: T) -> Result<Rc<T>, AllocError>
+fn hold_shared<T: Drop>(alloc: Global, value: T) -> Result<Rc<T>, AllocError>
     ensures { IfOk result (λ held. held.value ≡ value) }
 {
     match Rc::new(alloc, value) {

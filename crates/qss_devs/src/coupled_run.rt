@@ -81,7 +81,7 @@ impl Simulation for CoupledRun {
 /// Runs a machine as a coupled model under the rule `floor`. Writes the header and the rows of the
 /// run to `out`, event by event. With a name in `only`, it writes only the rows that the filter
 /// passes. Each line is one write.
-pub fn write_coupled_run<O: Sink>(
+pub fn write_devs_run<O: Sink>(
     alloc: Global,
     m: Machine,
     only: Option<Name>,

@@ -27,7 +27,7 @@ ghost use Rattle.qss_devs.specs.CoupledEvents.{snapshot_of, StoreRepresents};
 
 use crate::coupled_arrivals::settle_all_arrival_truths;
 use crate::coupled_branches::{coupled_branch_condition, coupled_branch_count};
-use crate::coupled_events::set_coupled_event_snapshot;
+use crate::coupled_events::set_snapshot_rows;
 use crate::coupled_inputs::start_function_inputs;
 use crate::coupled_messages::Components;
 use qss_components::{
@@ -36,7 +36,7 @@ use qss_components::{
 use qss_cross::Detector;
 use qss_events::event_start_levels;
 use qss_hand::Work;
-use qss_machine::{Condition, Entry, Machine, Row, RowKind, Uses, scale_form_value};
+use qss_machine::{Condition, Entry, Machine, Row, RowKind, Uses, scale_discrete_value};
 use qss_quant::{Integrator, Quantizer};
 use std::alloc::{AllocError, Global};
 use std::mem::replace;
@@ -128,7 +128,7 @@ pub(crate) fn start_coupled_store(
     let after_handlers = start_flags(alloc, parts.crossings.as_slice())?;
     let count = work.log.capacity() + work.x.len() + work.d.len() + 1;
     let mut rows = Vec::with_capacity(alloc, count)?;
-    set_coupled_event_snapshot(
+    set_snapshot_rows(
         RowKind::Start,
         0,
         parts.integrators.as_slice(),
@@ -240,8 +240,8 @@ pub(crate) fn start_integrators(
     for j in 0..v.levels.len() {
         let var = j as u32;
         let line = start_coupled_line(m, v, var);
-        let machine = share_at_coupled_start(shared)?;
-        let quantizer = share_at_coupled_start(q)?;
+        let machine = add_reference(shared)?;
+        let quantizer = add_reference(q)?;
         let integrator = start_coupled_integrator(machine, quantizer, var, line);
         integrators.push_reserved(integrator);
     }
@@ -266,7 +266,7 @@ fn start_coupled_line(m: &Machine, v: &StartValues, j: u32) -> Integrator
 }
 
 // Another reference to a shared value.
-fn share_at_coupled_start<T: Drop>(shared: &Rc<T>) -> Result<Rc<T>, AllocError>
+fn add_reference<T: Drop>(shared: &Rc<T>) -> Result<Rc<T>, AllocError>
     ensures { IfOk result (λ copy. copy.value ≡ shared.now.value) }
 {
     shared.clone()
@@ -311,7 +311,7 @@ pub(crate) fn start_functions(
     let mut functions: Vec<FunctionModel> = Vec::with_capacity(alloc, lists.len())?;
     for j in 0..lists.len() {
         let row = j as u32;
-        let machine = share_at_coupled_start(shared)?;
+        let machine = add_reference(shared)?;
         let inputs = replace(&mut lists[j], Vec::new(alloc));
         let function = start_coupled_function(machine, row, inputs);
         functions.push_reserved(function);
@@ -384,13 +384,13 @@ fn add_start_crossings(
 {
     let count = coupled_branch_count(m, clause);
     for branch in 0..count {
-        let machine = share_at_coupled_start(shared)?;
+        let machine = add_reference(shared)?;
         let condition = coupled_branch_condition(m, clause, branch);
         let inputs = start_inputs(alloc, m, v, condition)?;
-        let watch = start_coupled_watch(m, condition, inputs.as_slice());
+        let detector = start_coupled_detector(m, condition, inputs.as_slice());
         let next = crossings.len();
         let place = next as u32;
-        let crossing = start_coupled_crossing(machine, place, condition, inputs, watch);
+        let crossing = start_coupled_crossing(machine, place, condition, inputs, detector);
         crossings.push(crossing)?;
     }
     Ok(())
@@ -473,7 +473,7 @@ fn start_discrete(m: &Machine, v: &StartValues, place: usize) -> i128
 {
     let own = start_own_place(place, m.discretes.as_slice().len());
     let value = v.discrete(own);
-    scale_form_value(value, m.p + m.k)
+    scale_discrete_value(value, m.p + m.k)
 }
 
 // The index of a discrete variable, from the index of its value or of its value before the tick.
@@ -486,7 +486,7 @@ fn start_own_place(place: usize, count: usize) -> usize
 }
 
 // The detector of a condition with these inputs.
-fn start_coupled_watch(m: &Machine, condition: &Condition, inputs: &[Input]) -> Detector
+fn start_coupled_detector(m: &Machine, condition: &Condition, inputs: &[Input]) -> Detector
     requires parts { AreParts inputs.now condition.now.form.time condition.now.form.gamma }
     requires lines { All (IsInput 0) inputs.now }
     requires size_limit { All (λ i. IsWithin 88 (input_at 0 i)) inputs.now }
@@ -519,15 +519,15 @@ fn start_coupled_crossing(
     place: u32,
     condition: &Condition,
     inputs: Vec<Input>,
-    watch: Detector,
+    detector: Detector,
 ) -> CrossingModel
-    requires lines { All (IsInput watch.tick) inputs.items }
+    requires lines { All (IsInput detector.tick) inputs.items }
     requires stays { All (StaysIfDiscrete (state_count machine.value)) inputs.items }
     requires parts { AreParts inputs.items condition.now.form.time condition.now.form.gamma }
     ensures machine { result.machine.value ≡ machine.value }
     ensures crossing { crossing_of result ≡ record {
       place = place;
-      watch = watch;
+      detector = detector;
       inputs = inputs.items;
       time = condition.now.form.time;
       gamma = condition.now.form.gamma;
@@ -536,7 +536,7 @@ fn start_coupled_crossing(
     CrossingModel {
         machine,
         place,
-        watch,
+        detector,
         inputs,
         time: condition.form.time,
         gamma: condition.form.gamma,
@@ -546,7 +546,7 @@ fn start_coupled_crossing(
 // The truth value of each condition at the tick of its crossing.
 fn start_flags(alloc: Global, crossings: &[CrossingModel]) -> Result<Vec<bool>, AllocError>
     ensures { IfOk result (λ flags. flags.items
-        ≡ map (λ c. compares c.watch.rel c.watch.value) crossings.now) }
+        ≡ map (λ c. compares c.detector.rel c.detector.value) crossings.now) }
 {
     let mut flags = blank_start_flags(alloc, crossings.len())?;
     settle_all_arrival_truths(crossings, flags.as_mut_slice());

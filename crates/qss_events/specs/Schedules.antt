@@ -57,15 +57,15 @@ IsDue m tick j line found = FirstAfter (λ t. LeavesAt m j line t) tick found
 
 -- the detector of a condition starts at or before the tick, and has the value of its form at the
 -- tick and its speed
-pub record IsDetectorOf (m : Machine) (tick : ℕ) (w : Snapshot) (place : ℕ) (watch : DetectorView) : Type 0 where
-  pub not_later : watch.tick ≤ tick
-  pub here : value_at watch tick ≡ value_of m (condition_at m place).form w.states w.discretes w.discretes tick
-  pub own_speed : watch.speed ≡ speed_of m (condition_at m place).form (slopes_of m w)
-  pub own_rel : watch.rel ≡ (condition_at m place).rel
+pub record IsDetectorOf (m : Machine) (tick : ℕ) (w : Snapshot) (place : ℕ) (detector : DetectorView) : Type 0 where
+  pub not_later : detector.tick ≤ tick
+  pub here : value_at detector tick ≡ value_of m (condition_at m place).form w.states w.discretes w.discretes tick
+  pub own_speed : detector.speed ≡ speed_of m (condition_at m place).form (slopes_of m w)
+  pub own_rel : detector.rel ≡ (condition_at m place).rel
 
 -- the first later tick at which the truth of a detector differs from the settled truth, if any
 abbrev pub IsChange : ℕ → Bool → DetectorView → Option ℕ → Type 0
-IsChange tick after_handlers watch found = FirstAfter (λ t. holds_at watch t ≢ after_handlers) tick found
+IsChange tick after_handlers detector found = FirstAfter (λ t. holds_at detector t ≢ after_handlers) tick found
 
 -- whether the condition at an index became true during the handlers
 abbrev pub became_true : List Bool → List Bool → ℕ → Bool
@@ -82,14 +82,14 @@ rising_tick tick w = if rises w then Some (tick + 1) else None
 
 -- lines, detectors and due ticks for a snapshot at a tick; the due ticks are those of states, then
 -- of conditions, then one for conditions that became true during the handlers
-pub record IsScheduleOf (m : Machine) (tick : ℕ) (w : Snapshot) (line : ℕ → Line) (watch : ℕ → DetectorView) (due : ℕ → Option ℕ) : Type 0 where
+pub record IsScheduleOf (m : Machine) (tick : ℕ) (w : Snapshot) (line : ℕ → Line) (detector : ℕ → DetectorView) (due : ℕ → Option ℕ) : Type 0 where
   pub left : MayFollowTick m w
   pub states : length w.states ≡ state_count m
   pub after_handlers : w.after_handlers ≡ truths m w.states w.discretes tick
   pub lines : (j : ℕ) → j < state_count m → IsLineOf m tick w j (line j)
   pub dues : (j : ℕ) → j < state_count m → IsDue m tick j (line j) (due j)
-  pub detectors : (place : ℕ) → place < length (conditions m) → IsDetectorOf m tick w place (watch place)
-  pub changes : (place : ℕ) → place < length (conditions m) → IsChange tick (flag_at w.after_handlers place) (watch place) (due (state_count m + place))
+  pub detectors : (place : ℕ) → place < length (conditions m) → IsDetectorOf m tick w place (detector place)
+  pub changes : (place : ℕ) → place < length (conditions m) → IsChange tick (flag_at w.after_handlers place) (detector place) (due (state_count m + place))
   pub rising : due (state_count m + length (conditions m)) ≡ rising_tick tick w
 
 -- nothing is due up to a tick
@@ -99,17 +99,17 @@ HasNoEventUpTo end due = (place tick : ℕ) → due place ≡ Some tick → end 
 -- no event occurs before the earliest due tick
 abbrev pub NoEventBeforeDue : Type 0
 NoEventBeforeDue =
-    (m : Machine) (tick : ℕ) (w : Snapshot) (line : ℕ → Line) (watch : ℕ → DetectorView) (due : ℕ → Option ℕ) (end : ℕ) →
-    IsScheduleOf m tick w line watch due → tick < end → end ≤ tick_limit → HasNoEventUpTo end due →
+    (m : Machine) (tick : ℕ) (w : Snapshot) (line : ℕ → Line) (detector : ℕ → DetectorView) (due : ℕ → Option ℕ) (end : ℕ) →
+    IsScheduleOf m tick w line detector due → tick < end → end ≤ tick_limit → HasNoEventUpTo end due →
     NoneRises w × ((ticks : ℕ) → 0 < ticks → tick + ticks ≤ end → IsEventFree m tick w ticks)
 
 -- up to the earliest due tick, the same lines, detectors and due ticks are valid for the advanced
 -- snapshot
 abbrev pub SchedulesHold : Type 0
 SchedulesHold =
-    (m : Machine) (tick : ℕ) (w : Snapshot) (line : ℕ → Line) (watch : ℕ → DetectorView) (due : ℕ → Option ℕ) (end ticks : ℕ) →
-    IsScheduleOf m tick w line watch due → tick < end → end ≤ tick_limit → HasNoEventUpTo end due → tick + ticks ≤ end →
-    IsScheduleOf m (tick + ticks) (snapshot_after m w ticks) line watch due
+    (m : Machine) (tick : ℕ) (w : Snapshot) (line : ℕ → Line) (detector : ℕ → DetectorView) (due : ℕ → Option ℕ) (end ticks : ℕ) →
+    IsScheduleOf m tick w line detector due → tick < end → end ≤ tick_limit → HasNoEventUpTo end due → tick + ticks ≤ end →
+    IsScheduleOf m (tick + ticks) (snapshot_after m w ticks) line detector due
 
 -- nothing is due before a tick
 abbrev pub HasNoEventBefore : ℕ → (ℕ → Option ℕ) → Type 0
@@ -119,14 +119,14 @@ HasNoEventBefore visit due = (place tick : ℕ) → due place ≡ Some tick → 
 -- and its lines, detectors and due ticks stay valid
 abbrev pub GoesToNextVisit : Type 0
 GoesToNextVisit =
-    (level : ℤ → ℤ → ℤ → ℤ) (m : Machine) (tick : ℕ) (w : Snapshot) (line : ℕ → Line) (watch : ℕ → DetectorView) (due : ℕ → Option ℕ) (ticks : ℕ) →
-    IsScheduleOf m tick w line watch due → tick + ticks < m.last → HasNoEventBefore (tick + ticks + 1) due →
+    (level : ℤ → ℤ → ℤ → ℤ) (m : Machine) (tick : ℕ) (w : Snapshot) (line : ℕ → Line) (detector : ℕ → DetectorView) (due : ℕ → Option ℕ) (ticks : ℕ) →
+    IsScheduleOf m tick w line detector due → tick + ticks < m.last → HasNoEventBefore (tick + ticks + 1) due →
     (rows_from level m (m.last - tick) tick w ≡ rows_from level m (m.last - (tick + ticks)) (tick + ticks) (snapshot_after m w ticks))
-    × IsScheduleOf m (tick + ticks) (snapshot_after m w ticks) line watch due
+    × IsScheduleOf m (tick + ticks) (snapshot_after m w ticks) line detector due
 
 -- a state that is not due at the next event step exceeds no limit up to that step
 abbrev pub OnlyDueStatesPass : Type 0
 OnlyDueStatesPass =
-    (m : Machine) (tick : ℕ) (w : Snapshot) (line : ℕ → Line) (watch : ℕ → DetectorView) (due : ℕ → Option ℕ) (visit ticks j : ℕ) →
-    IsScheduleOf m tick w line watch due → 0 < ticks → tick + ticks ≤ visit → visit ≤ m.last → HasNoEventBefore visit due → j < state_count m →
+    (m : Machine) (tick : ℕ) (w : Snapshot) (line : ℕ → Line) (detector : ℕ → DetectorView) (due : ℕ → Option ℕ) (visit ticks j : ℕ) →
+    IsScheduleOf m tick w line detector due → 0 < ticks → tick + ticks ≤ visit → visit ≤ m.last → HasNoEventBefore visit due → j < state_count m →
     due j ≢ Some visit → IsWithin 88 (int_at (states_after m w ticks) j)

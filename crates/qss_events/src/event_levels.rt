@@ -29,7 +29,7 @@ pub fn event_tick_leaving_level(m: &Machine, j: u32, line: &Integrator) -> Optio
 
 /// The new level of a state: the old level if the state is less than one quantum away from it, else
 /// the result of the rule. `unit` is the number of units of a state in a level.
-pub fn next_event_level(m: &Machine, q: &Quantizer, j: u32, x: i128, level: i64, unit: i128) -> i128
+pub fn requantize_level(m: &Machine, q: &Quantizer, j: u32, x: i128, level: i64, unit: i128) -> i128
     requires state { j < state_count m.now }
     requires small_state { IsWithin 89 x }
     requires small_level { IsWithin 43 level }

@@ -24,7 +24,7 @@ pub fn generate(alloc: Global, seed: u64, cells: u32) -> Result<Vec<u8>, AllocEr
 }
 
 /// Theorem: the sources for given seeds and numbers of cells.
-pub fn generated_sources_are_worked()
+pub fn sources_of_given_seeds()
     ensures { SourcesWorked }
 {}
 

@@ -27,7 +27,7 @@ use std::alloc::Global;
 /// Calls `qss_main`. The contract follows from the contract of `qss_main`. It states the call in
 /// terms of the result that the arguments and the contents of the files determine, if the contents
 /// are known. The clauses from `usage` on are clauses of `qss_main`.
-pub fn run_on_known_files<S: Shelf, O: Sink, E: Sink>(
+pub fn run_on_known_contents<S: Shelf, O: Sink, E: Sink>(
     alloc: Global,
     words: &[&str],
     shelf: &mut S,

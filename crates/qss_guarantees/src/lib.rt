@@ -1,7 +1,8 @@
 //! Theorems about the answers of the program, each the contract of a function. The theorems are
 //! about the bytes that a command reads, or about files with known contents.
-//! Main functions: `answers_have_properties`, `sessions_have_properties` and `run_on_known_files`.
-//! Depends on qss_top (the program as a function, its specification) and qss_answers.
+//! Main functions: `answers_have_properties`, `sessions_have_properties` and
+//! `run_on_known_contents`. Depends on qss_top (the program as a function, its specification) and
+//! qss_answers.
 #![tactic(auto)]
 
 mod answer_laws;
@@ -25,7 +26,7 @@ pub use command_laws::{
     run2_prints_second_order_rows, run2_prints_the_run, upgrade_is_complete,
     upgrade_keeps_certificate,
 };
-pub use known_files::run_on_known_files;
+pub use known_files::run_on_known_contents;
 pub use session_laws::{
     calls_have_properties, printed_runs_are_near_solution, sessions_have_properties,
 };

@@ -44,7 +44,7 @@ pub fn fire(m: &Machine, clause: u32, branch: u32, w: &mut Work) -> Result<(), O
     let branches = m.clauses.as_slice()[clause as usize].branches.as_slice();
     let actions = branches[branch as usize].actions.as_slice();
     note(w, clause, branch);
-    run_handler_statements(m, actions, w)
+    run_statements(m, actions, w)
 }
 
 // Appends the row of a branch that fires.
@@ -63,11 +63,7 @@ fn note(w: &mut Work, clause: u32, branch: u32)
 }
 
 /// Runs statements in order, up to the first whose value exceeds its limit.
-pub(crate) fn run_handler_statements(
-    m: &Machine,
-    actions: &[Action],
-    w: &mut Work,
-) -> Result<(), Over>
+pub(crate) fn run_statements(m: &Machine, actions: &[Action], w: &mut Work) -> Result<(), Over>
     requires each { All (IsAction (state_count m.now) (discrete_count m.now)) actions.now }
     requires fits { AreValuesOf m.now w.old }
     requires room { length w.old.log + length actions.now ≤ w.old.room }
@@ -79,13 +75,13 @@ pub(crate) fn run_handler_statements(
     ensures fits { AreValuesOf m.now w.new }
 {
     for action in actions {
-        run_handler_statement(m, action, w)?;
+        run_statement(m, action, w)?;
     }
     Ok(())
 }
 
 // Runs a statement. A value that exceeds its limit is not assigned.
-fn run_handler_statement(m: &Machine, action: &Action, w: &mut Work) -> Result<(), Over>
+fn run_statement(m: &Machine, action: &Action, w: &mut Work) -> Result<(), Over>
     requires action { IsAction (state_count m.now) (discrete_count m.now) action.now }
     requires fits { AreValuesOf m.now w.old }
     requires room { length w.old.log < w.old.room }

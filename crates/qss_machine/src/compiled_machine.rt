@@ -8,8 +8,8 @@ use crate::form_values::{add_form_parts, form_constant_part, form_time_part, sum
 use crate::machine_parts::{ClauseInfo, DiscreteInfo, Form, SlopeRow, StateInfo};
 use crate::relative_quantum::quantum_with_relative;
 use crate::slope_rows::{
-    row_mode_coefficient, row_mode_coefficient_from, row_modes_fit, row_slope,
-    search_slope_coefficient, slope_row_unit, slope_row_weight,
+    absolute_row_sum, row_mode_coefficient, row_mode_coefficient_from, row_modes_fit, row_slope,
+    search_slope_coefficient, units_in_one,
 };
 use mu_io::Items;
 
@@ -123,14 +123,14 @@ impl Machine {
         ensures { result ≡ weight_at self.now row levels.now discretes.now }
     {
         let right_side = &self.rows.as_slice()[row as usize];
-        slope_row_weight(right_side, self.f, levels, discretes)
+        absolute_row_sum(right_side, self.f, levels, discretes)
     }
 
     /// Returns 2^(p+k), the number of state units in one level unit.
     pub fn level_unit(&self) -> i128
         ensures { result ≡ level_unit self.now }
     {
-        slope_row_unit(self.p + self.k)
+        units_in_one(self.p + self.k)
     }
 
     /// Returns the quantum of a state at a level, in units of 2^-f: the greater of its own quantum

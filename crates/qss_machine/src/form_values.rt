@@ -135,28 +135,28 @@ fn form_input_at(
     }
     let past_states = var - states.len();
     if past_states < discretes.len() {
-        return scale_form_value(discretes[past_states], unit_bits);
+        return scale_discrete_value(discretes[past_states], unit_bits);
     }
     let past_discretes = past_states - discretes.len();
     if past_discretes < before.len() {
-        return scale_form_value(before[past_discretes], unit_bits);
+        return scale_discrete_value(before[past_discretes], unit_bits);
     }
     0
 }
 
 /// Converts a discrete value to the unit of states: `value` * 2^unit_bits. The value is at most
 /// 2^43 in size and `unit_bits` at most 44.
-pub fn scale_form_value(value: i64, unit_bits: u8) -> i128
+pub fn scale_discrete_value(value: i64, unit_bits: u8) -> i128
     requires value { IsWithin 43 value }
     requires unit { unit_bits ≤ 44 }
     ensures value { result ≡ value *ℤ pos (2 ^ unit_bits) }
     ensures bound { IsWithin 88 result }
 {
-    multiply_form_value(value, unit(unit_bits))
+    multiply_by_unit(value, unit(unit_bits))
 }
 
 // Multiplies a number of at most 2^43 in size by one of at most 2^44.
-fn multiply_form_value(value: i64, unit: i128) -> i128
+fn multiply_by_unit(value: i64, unit: i128) -> i128
     requires value { IsWithin 43 value }
     requires unit { IsWithin 44 unit }
     ensures value { result ≡ value *ℤ unit }

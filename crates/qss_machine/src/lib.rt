@@ -13,7 +13,8 @@ mod variable_uses;
 
 pub use compiled_machine::Machine;
 pub use form_values::{
-    add_form_parts, form_constant_part, form_time_part, multiply_form_coefficient, scale_form_value,
+    add_form_parts, form_constant_part, form_time_part, multiply_form_coefficient,
+    scale_discrete_value,
 };
 pub use machine_parts::{
     Action, BranchInfo, ClauseInfo, Condition, DiscreteInfo, Entry, Form, Product, Rel, Row,
@@ -25,7 +26,7 @@ pub use machine_run_laws::{
     same_machine_data_equal,
 };
 pub use slope_rows::{
-    is_slope_row_in_limits, slope_entry_size, slope_entry_weight, slope_input_at,
-    slope_row_coefficient, slope_term,
+    entry_coefficient, is_row_in_limits, slope_entry_size, slope_entry_weight, slope_input_at,
+    slope_term,
 };
 pub use variable_uses::Uses;

@@ -15,18 +15,18 @@ pub(crate) fn quantum_with_relative(own: i64, level: i64, relative: u16) -> i64
     if relative == 0 {
         return own;
     }
-    greater_relative_quantum(own, relative_quantum_share(level, relative))
+    greater_quantum(own, share_of_level(level, relative))
 }
 
 // Returns the greater of two quanta.
-fn greater_relative_quantum(own: i64, share: i64) -> i64
+fn greater_quantum(own: i64, share: i64) -> i64
     ensures { result ≡ int_max own share }
 {
     own.max(share)
 }
 
 // The relative quantum: |level| * relative / 4096, rounded down.
-fn relative_quantum_share(level: i64, relative: u16) -> i64
+fn share_of_level(level: i64, relative: u16) -> i64
     requires { IsWithin 43 level }
     ensures { result ≡ pos (unsigned_abs level * relative / 4096) }
 {

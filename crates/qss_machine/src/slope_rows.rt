@@ -35,12 +35,7 @@ pub(crate) fn row_slope(row: &SlopeRow, level_bits: u8, levels: &[i64], discrete
 
 /// Returns whether the row is within its limits at these levels and discrete values: mode
 /// coefficients at most 2^44 in size, absolute row sum at most 2^88.
-pub fn is_slope_row_in_limits(
-    row: &SlopeRow,
-    level_bits: u8,
-    levels: &[i64],
-    discretes: &[i64],
-) -> bool
+pub fn is_row_in_limits(row: &SlopeRow, level_bits: u8, levels: &[i64], discretes: &[i64]) -> bool
     requires bits { level_bits ≤ 24 }
     requires count_limit { length levels.now + length discretes.now ≤ 4096 }
     requires row { IsRow (length levels.now) (length discretes.now) row.now }
@@ -51,11 +46,11 @@ pub fn is_slope_row_in_limits(
         && not (exceeds 88 (weight_of level_bits row.now levels.now discretes.now))) }
 {
     row_modes_fit(row, level_bits, levels.len(), discretes)
-        && !exceeds_power_of_two(slope_row_weight(row, level_bits, levels, discretes), 88)
+        && !exceeds_power_of_two(absolute_row_sum(row, level_bits, levels, discretes), 88)
 }
 
 /// Returns the coefficient of a variable, or 0 if no entry is of it.
-pub fn slope_row_coefficient(entries: &[Entry], var: u32) -> i128
+pub fn entry_coefficient(entries: &[Entry], var: u32) -> i128
     requires count_limit { length entries.now ≤ 2 ^ 32 }
     ensures value { result ≡ coefficient_of entries.now var }
     ensures bound { IsWithin 95 result }
@@ -291,11 +286,11 @@ fn round_slope_products(sum: i128, level_bits: u8) -> i128
     ensures value { result ≡ nearest_of sum (pos (2 ^ level_bits)) }
     ensures bound { unsigned_abs result ≤ 2 ^ 111 + 2 ^ 24 }
 {
-    near_div(sum, slope_row_unit(level_bits))
+    near_div(sum, units_in_one(level_bits))
 }
 
 /// Returns 2^bits, the number of units of 2^-bits in 1. The result is below 2^64.
-pub(crate) fn slope_row_unit(bits: u8) -> i128
+pub(crate) fn units_in_one(bits: u8) -> i128
     requires { bits < 64 }
     ensures { result ≡ pos (2 ^ bits) }
 {
@@ -400,7 +395,7 @@ pub(crate) fn row_mode_coefficient_from(
 
 /// Returns the absolute row sum of a row at these levels and discrete values, in units of
 /// 2^-(f+p+k).
-pub(crate) fn slope_row_weight(
+pub(crate) fn absolute_row_sum(
     row: &SlopeRow,
     level_bits: u8,
     levels: &[i64],
@@ -415,7 +410,7 @@ pub(crate) fn slope_row_weight(
     ensures { result ≡ weight_of level_bits row.now levels.now discretes.now }
 {
     let own = slope_entry_weight(row.entries.as_slice(), levels, discretes);
-    let products = slope_row_excess(row, level_bits, levels, discretes);
+    let products = product_excess(row, level_bits, levels, discretes);
     add_form_parts(own, products, row.beta.abs())
 }
 
@@ -451,7 +446,7 @@ pub fn slope_entry_size(entry: Entry, first: &[i64], second: &[i64]) -> i128
 }
 
 // The contribution of all products to the absolute row sum. It may be negative.
-fn slope_row_excess(row: &SlopeRow, level_bits: u8, levels: &[i64], discretes: &[i64]) -> i128
+fn product_excess(row: &SlopeRow, level_bits: u8, levels: &[i64], discretes: &[i64]) -> i128
     requires bits { level_bits ≤ 24 }
     requires count_limit { length levels.now + length discretes.now ≤ 4096 }
     requires row { IsRow (length levels.now) (length discretes.now) row.now }
@@ -473,14 +468,14 @@ fn slope_row_excess(row: &SlopeRow, level_bits: u8, levels: &[i64], discretes: &
         if state < past {
             continue;
         }
-        sum += slope_row_state_excess(row, level_bits, levels, discretes, state);
+        sum += state_product_excess(row, level_bits, levels, discretes, state);
         past = state + 1;
     }
     sum
 }
 
 // The contribution of one state's products to the absolute row sum. It may be negative.
-fn slope_row_state_excess(
+fn state_product_excess(
     row: &SlopeRow,
     level_bits: u8,
     levels: &[i64],

@@ -136,13 +136,13 @@ fn mark_entry_uses(
         (map (λ list. list.items) lists.new.items) place (λ v. has_entry v entries.now)) }
 {
     for entry in entries {
-        mark_variable_use(lists, entry.var, place)?;
+        mark_reader(lists, entry.var, place)?;
     }
     Ok(())
 }
 
 // Appends a place to the list of a variable, unless the last element is this place.
-fn mark_variable_use(lists: &mut Vec<Vec<u32>>, var: u32, place: u32) -> Result<(), AllocError>
+fn mark_reader(lists: &mut Vec<Vec<u32>>, var: u32, place: u32) -> Result<(), AllocError>
     requires { var < length lists.old.items }
     ensures { IfOk result
         (λ done. MarksBy (map (λ list. list.items) lists.old.items)
@@ -197,8 +197,8 @@ fn mark_product_use(
         (map (λ list. list.items) lists.new.items) place
         (λ v. product.state == v || product.discrete == v)) }
 {
-    mark_variable_use(lists, product.state, place)?;
-    mark_variable_use(lists, product.discrete, place)?;
+    mark_reader(lists, product.state, place)?;
+    mark_reader(lists, product.discrete, place)?;
     Ok(())
 }
 

@@ -18,7 +18,7 @@ ghost use Rattle.qss_machine.specs.MachineLimits.{AreProducts};
 
 use mu_io::Items;
 use qss_machine::{Entry, Machine, Product, Uses};
-use qss_sched::equal_list;
+use qss_sched::repeat_value;
 use std::alloc::{AllocError, Global};
 
 /// A machine with its matrix at the start values of the discrete variables: the number of state
@@ -45,9 +45,9 @@ impl FixedMachine {
         let unit = m.level_unit();
         let discretes = fixed_discretes_of(alloc, &m)?;
         let rows = rows_of(alloc, &m, discretes.as_slice())?;
-        let drives = fixed_machine_drives(alloc, &m, discretes.as_slice())?;
-        let limits = fixed_machine_limits(alloc, &m, unit)?;
-        let columns = fixed_machine_columns(alloc, &m, discretes.as_slice())?;
+        let drives = list_constant_slopes(alloc, &m, discretes.as_slice())?;
+        let limits = list_fine_quanta(alloc, &m, unit)?;
+        let columns = list_coefficient_columns(alloc, &m, discretes.as_slice())?;
         Ok(FixedMachine {
             machine: m,
             unit,
@@ -213,7 +213,7 @@ pub(crate) fn add_fixed_mode(
 }
 
 // The constant parts of all rows.
-fn fixed_machine_drives(
+fn list_constant_slopes(
     alloc: Global,
     m: &Machine,
     discretes: &[i64],
@@ -223,16 +223,16 @@ fn fixed_machine_drives(
         (λ drives. drives.items ≡ tabulate (state_count m.now) (start_constant_part m.now)) }
 {
     let count = m.states.as_slice().len();
-    let zeros = equal_list(alloc, 0, count)?;
+    let zeros = repeat_value(alloc, 0, count)?;
     let mut drives: Vec<i128> = Vec::with_capacity(alloc, count)?;
     for row in 0..count {
-        drives.push_reserved(fixed_machine_drive(m, row as u32, zeros.as_slice(), discretes));
+        drives.push_reserved(constant_slope(m, row as u32, zeros.as_slice(), discretes));
     }
     Ok(drives)
 }
 
 // The constant part of a row: its slope if all levels are 0, in units of states per tick.
-fn fixed_machine_drive(m: &Machine, row: u32, zeros: &[i64], discretes: &[i64]) -> i128
+fn constant_slope(m: &Machine, row: u32, zeros: &[i64], discretes: &[i64]) -> i128
     requires row { row < state_count m.now }
     requires zeros { zeros.now ≡ replicate (state_count m.now) (pos 0) }
     requires start { discretes.now ≡ start_discretes m.now }
@@ -242,29 +242,29 @@ fn fixed_machine_drive(m: &Machine, row: u32, zeros: &[i64], discretes: &[i64]) 
 }
 
 // The quanta of all states, in units 64 times finer.
-fn fixed_machine_limits(alloc: Global, m: &Machine, unit: i128) -> Result<Vec<i128>, AllocError>
+fn list_fine_quanta(alloc: Global, m: &Machine, unit: i128) -> Result<Vec<i128>, AllocError>
     requires { unit ≡ level_unit m.now }
     ensures { IfOk result (λ limits. limits.items ≡ tabulate (state_count m.now) (reach_of m.now)) }
 {
     let count = m.states.as_slice().len();
     let mut limits: Vec<i128> = Vec::with_capacity(alloc, count)?;
     for state in 0..count {
-        limits.push_reserved(fixed_machine_limit(m, unit, state));
+        limits.push_reserved(fine_state_quantum(m, unit, state));
     }
     Ok(limits)
 }
 
 // The quantum of a state: the distance from its level at which it is requantized.
-fn fixed_machine_limit(m: &Machine, unit: i128, state: usize) -> i128
+fn fine_state_quantum(m: &Machine, unit: i128, state: usize) -> i128
     requires unit { unit ≡ level_unit m.now }
     requires state { state < state_count m.now }
     ensures { result ≡ reach_of m.now state }
 {
-    fixed_machine_quantum(unit, m.states.as_slice()[state].quantum)
+    fine_quantum(unit, m.states.as_slice()[state].quantum)
 }
 
 // A quantum in units 64 times finer than those of states.
-fn fixed_machine_quantum(unit: i128, quantum: i64) -> i128
+fn fine_quantum(unit: i128, quantum: i64) -> i128
     requires unit { IsPositiveWithin 44 unit }
     requires quantum { IsWithin 32 quantum }
     ensures { result ≡ pos 64 *ℤ unit *ℤ quantum }
@@ -273,7 +273,7 @@ fn fixed_machine_quantum(unit: i128, quantum: i64) -> i128
 }
 
 /// The columns of all states.
-pub(crate) fn fixed_machine_columns(
+pub(crate) fn list_coefficient_columns(
     alloc: Global,
     m: &Machine,
     discretes: &[i64],
@@ -284,13 +284,13 @@ pub(crate) fn fixed_machine_columns(
     let uses = Uses::new(alloc, m)?;
     let mut columns: Vec<Items<Entry>> = Vec::new(alloc);
     for state in 0..m.states.as_slice().len() {
-        add_fixed_machine_column(alloc, m, &uses, state as u32, discretes, &mut columns)?;
+        add_coefficient_column(alloc, m, &uses, state as u32, discretes, &mut columns)?;
     }
     Ok(columns)
 }
 
 // Appends the column of a state.
-fn add_fixed_machine_column(
+fn add_coefficient_column(
     alloc: Global,
     m: &Machine,
     uses: &Uses,
@@ -304,13 +304,13 @@ fn add_fixed_machine_column(
     requires before { AreColumnsBelow m.now state columns.old.items }
     ensures { IfOk result (λ done. AreColumnsBelow m.now (state + 1) columns.new.items) }
 {
-    let entries = fixed_machine_column(alloc, m, uses.rows_of(state), state, discretes)?;
+    let entries = coefficient_column(alloc, m, uses.rows_of(state), state, discretes)?;
     columns.push(Items::new(entries))?;
     Ok(())
 }
 
 // The nonzero coefficients of a state in the rows that read it, in increasing order of rows.
-fn fixed_machine_column(
+fn coefficient_column(
     alloc: Global,
     m: &Machine,
     readers: &[u32],

@@ -27,7 +27,7 @@ use crate::slope_rule::SlopeRule;
 use crate::touching::{touch, touch_all};
 
 /// Advances to the next tick with rows, to an overflow, or to the last tick. Allocates no memory.
-pub(crate) fn go_to_order2_event(
+pub(crate) fn advance_to_event(
     f: &FixedMachine,
     rule: &SlopeRule,
     from: u64,

@@ -126,7 +126,7 @@ fn leaving_due_of(f: &FixedMachine, q: &Motion, tick: u64, state: usize, reach: 
     let p = q.places[state];
     let gap = leaving_gap_of(p.state, p.level, f.unit);
     let drift = leaving_drift_of(q.rises[state], q.changes[state], f.unit);
-    first_order2_leaving(gap, drift, q.bends[state], f.limits[state], reach)
+    first_step_past_limit(gap, drift, q.bends[state], f.limits[state], reach)
 }
 
 /// The signed distance of a state from its level, in units 64 times finer than those of states.
@@ -162,7 +162,7 @@ fn leaving_drift_of(rise: i128, change: i128, unit: i128) -> i128
 
 // The first step up to `reach` at which a curve is at least a limit in size, or `None`. A curve that
 // does not change is not searched.
-fn first_order2_leaving(gap: i128, drift: i128, bend: i128, limit: i128, reach: u64) -> Option<u64>
+fn first_step_past_limit(gap: i128, drift: i128, bend: i128, limit: i128, reach: u64) -> Option<u64>
     requires inside { pos (unsigned_abs gap) <ℤ limit }
     requires bound { limit ≤ℤ pos (2 ^ 82) }
     requires slope { IsWithin 96 drift }

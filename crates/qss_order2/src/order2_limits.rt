@@ -17,7 +17,7 @@ use crate::fixed_machine::FixedMachine;
 use crate::order2_motion::{Place, level_in_motion, list_motion_levels};
 use crate::order2_rises::{is_rise_change_steep, rise_weight_of};
 use mu_num::{exceeds_power_of_two, unit};
-use qss_sched::equal_list;
+use qss_sched::repeat_value;
 use std::alloc::{AllocError, Global};
 
 /// The number of bits of a level, at most.
@@ -271,7 +271,7 @@ fn is_within_calm_limit(alloc: Global, f: &FixedMachine, bits: u8) -> Result<boo
     requires { bits ≤ 49 }
     ensures { IfOk result (λ calm. calm ≡ true → IsCalmLevel f.now.machine (pos (2 ^ bits))) }
 {
-    let levels = equal_list(alloc, unit(bits), f.limits.len())?;
+    let levels = repeat_value(alloc, unit(bits), f.limits.len())?;
     match first_state_past_limits(f, levels.as_slice()) {
         Some(_) => Ok(false),
         None => Ok(true),

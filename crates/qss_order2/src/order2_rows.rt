@@ -238,7 +238,7 @@ fn write_any_row2(lines: &mut LineWriter, r: &Row2, m: &Machine) -> Result<(), A
     let is_state = (r.var as usize) < m.states.as_slice().len();
     lines.write_values(
         r.tick,
-        order2_row_word(r.kind),
+        kind_word(r.kind),
         line_variable_name(m, r.var),
         row2_level(r.kind, r.level),
         row2_state(is_state, r.kind, r.state),
@@ -246,7 +246,7 @@ fn write_any_row2(lines: &mut LineWriter, r: &Row2, m: &Machine) -> Result<(), A
 }
 
 // The event name of a kind.
-fn order2_row_word(kind: Kind2) -> &'static [u8]
+fn kind_word(kind: Kind2) -> &'static [u8]
     ensures { result.now ≡ Spec.word2_of kind }
 {
     match kind {

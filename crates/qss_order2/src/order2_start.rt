@@ -17,7 +17,7 @@ use crate::order2_rows::{Kind2, Row2, add_discretes, set_left_rows};
 use crate::slope_rule::SlopeRule;
 use mu_num::floor_div;
 use qss_machine::Machine;
-use qss_sched::{Agenda, PlaceSet, equal_list};
+use qss_sched::{Agenda, PlaceSet, repeat_value};
 use std::alloc::{AllocError, Global};
 
 /// The states, each at a tick of its own, and the event queue.
@@ -77,7 +77,7 @@ fn blank_order2_store(alloc: Global, f: &FixedMachine) -> Result<Store, AllocErr
         touched: PlaceSet::empty(alloc, states)?,
         calm: calm_level_limit(alloc, f)?,
         wild: true,
-        room: equal_list(alloc, 0, states)?,
+        room: repeat_value(alloc, 0, states)?,
         over: None,
         rows: Vec::with_capacity(alloc, states + states + discretes + 1)?,
     })
@@ -92,9 +92,9 @@ fn start_order2_motion(alloc: Global, f: &FixedMachine) -> Result<Motion, AllocE
     let count = states.len();
     Ok(Motion {
         places: start_order2_places(alloc, states.as_slice(), levels.as_slice())?,
-        changes: equal_list(alloc, 0, count)?,
-        rises: equal_list(alloc, 0, count)?,
-        bends: equal_list(alloc, 0, count)?,
+        changes: repeat_value(alloc, 0, count)?,
+        rises: repeat_value(alloc, 0, count)?,
+        bends: repeat_value(alloc, 0, count)?,
     })
 }
 
@@ -105,13 +105,13 @@ fn start_order2_states(alloc: Global, m: &Machine) -> Result<Vec<i128>, AllocErr
     let states = m.states.as_slice();
     let mut list: Vec<i128> = Vec::with_capacity(alloc, states.len())?;
     for j in 0..states.len() {
-        list.push_reserved(finer_order2_start(states[j].x0));
+        list.push_reserved(fine_state(states[j].x0));
     }
     Ok(list)
 }
 
 // A state in units 64 times finer.
-fn finer_order2_start(x: i128) -> i128
+fn fine_state(x: i128) -> i128
     requires { IsWithin 88 x }
     ensures { result ≡ pos 64 *ℤ x }
 {

@@ -13,7 +13,7 @@ ghost use Rattle.qss_rows.specs.Simulations.{is_whole};
 use crate::order2_rows::write_row2;
 use crate::outcome2::Outcome2;
 use crate::sim2::Sim2;
-use crate::slope_rule::{SlopeRule, near_slope_rule_change};
+use crate::slope_rule::{SlopeRule, nearest_level_slope};
 use mu_io::Sink;
 use qss_machine::Machine;
 use qss_rows::{LineWriter, RunEnd, RunResult, Simulation, write_simulation};
@@ -24,7 +24,7 @@ use std::alloc::{AllocError, Global};
 pub(crate) struct SecondRun {
     pub sim: Sim2,
     pub ghost nearest: { sim.rule.nearest ≡ true },
-    pub ghost known: { All (HasVariable2 sim.course.machine) (remaining_second_rows sim.course) },
+    pub ghost known: { All (HasVariable2 sim.run.machine) (remaining_second_rows sim.run) },
 }
 
 impl Simulation for SecondRun {
@@ -34,17 +34,19 @@ impl Simulation for SecondRun {
     ghost use Rattle.qss_order2.specs.RemainingSecondRows.{row2_lines, overflow_ahead, outcome2_of};
     ghost use Rattle.qss_order2.specs.RemainingSecondRows.{EndsAs, IsAble};
 
-    ghost machine = { λ run. run.sim.course.machine };
+    ghost machine = { λ run. run.sim.run.machine };
 
-    ghost present = { λ run. row2_lines run.sim.course.machine run.sim.course.rows };
+    ghost present = { λ run. row2_lines run.sim.run.machine run.sim.run.rows };
 
-    ghost to_come = { λ run. row2_lines run.sim.course.machine (rows2_left nearest_change run.sim.course) };
+    ghost to_come = { λ run. row2_lines run.sim.run.machine
+        (rows2_left nearest_change run.sim.run) };
 
-    ghost ticks_left = { λ run. run.sim.course.machine.last - run.sim.course.tick };
+    ghost ticks_left = { λ run. run.sim.run.machine.last - run.sim.run.tick };
 
-    ghost goes_on = { λ run. run.sim.course.end ≡ None };
+    ghost goes_on = { λ run. run.sim.run.end ≡ None };
 
-    ghost ends = { λ run end. IsAble run.sim.course × EndsAs (outcome2_of end) (overflow_ahead run.sim.course) };
+    ghost ends = { λ run end. IsAble run.sim.run
+        × EndsAs (outcome2_of end) (overflow_ahead run.sim.run) };
 
     fn next_event(&mut self) -> Option<RunEnd> {
         match self.sim.next_event() {
@@ -70,7 +72,7 @@ impl Simulation for SecondRun {
 
 /// Runs a machine without clauses under the nearest rule. Writes the header and the rows of its
 /// second-order run to `out`, event by event. Each line is one write.
-pub fn write_second_run<O: Sink>(alloc: Global, m: Machine, out: &mut O) -> RunResult
+pub fn write_second_order<O: Sink>(alloc: Global, m: Machine, out: &mut O) -> RunResult
     requires { m.clauses ≡ [] }
     ensures end { IsSecondRunResult m (second_order_run m) result }
 
@@ -88,7 +90,7 @@ pub fn write_second_run<O: Sink>(alloc: Global, m: Machine, out: &mut O) -> RunR
     ensures no_new_fault { result ≢ RunResult.Fault → O.faults out.new ≡ O.faults out.old }
     ensures fault_was_last { result ≡ RunResult.Fault → EndsByFault O.faults O.failed out.old out.new }
 {
-    let rule = SlopeRule::new(near_slope_rule_change, true);
+    let rule = SlopeRule::new(nearest_level_slope, true);
     match Sim2::new(alloc, m, rule) {
         Ok(sim) => {
             let mut run = SecondRun { sim };

@@ -3,7 +3,7 @@
 ghost use Rattle.std.specs.Prelude.{◌≡◌};
 
 use crate::fixed_machine::FixedMachine;
-use crate::order2_events::go_to_order2_event;
+use crate::order2_events::advance_to_event;
 use crate::order2_rows::Row2;
 use crate::order2_start::{Store, start_order2_store};
 use crate::outcome2::Outcome2;
@@ -44,7 +44,7 @@ impl SecondRunState {
     /// The state at tick 0, with the start rows. Allocates all memory that the run needs.
     pub fn new(alloc: Global, m: Machine, rule: &SlopeRule) -> Result<SecondRunState, AllocError>
         requires { m.clauses ≡ [] }
-        ensures { IfOk result (λ course. IsStarted (IsRuled2 rule.now.nearest) m course) }
+        ensures { IfOk result (λ run. IsStarted (IsRuled2 rule.now.nearest) m run) }
     {
         let fixed = FixedMachine::new(alloc, m)?;
         let store = start_order2_store(alloc, &fixed, rule)?;
@@ -71,7 +71,7 @@ impl SecondRunState {
         if let Some(end) = self.end {
             return end;
         }
-        let outcome = go_to_order2_event(&self.fixed, rule, self.tick, &mut self.store);
+        let outcome = advance_to_event(&self.fixed, rule, self.tick, &mut self.store);
         self.tick = outcome.tick(self.fixed.machine.last);
         self.end = outcome.end();
         outcome

@@ -14,7 +14,7 @@ use std::alloc::{AllocError, Global};
 /// computes only ticks at which a state is requantized, multiples of 65,536, and the last tick.
 #[derive(Drop)]
 pub struct Sim2 {
-    pub course: SecondRunState,
+    pub run: SecondRunState,
     pub rule: SlopeRule,
 }
 
@@ -28,41 +28,41 @@ impl Sim2 {
     /// A simulator at tick 0, with the start rows. Allocates all memory that the run needs.
     pub fn new(alloc: Global, m: Machine, rule: SlopeRule) -> Result<Sim2, AllocError>
         requires { m.clauses ≡ [] }
-        ensures start { IfOk result (λ sim. IsStarted (IsRuled2 rule.nearest) m sim.course) }
+        ensures start { IfOk result (λ sim. IsStarted (IsRuled2 rule.nearest) m sim.run) }
         ensures rule { IfOk result (λ sim. sim.rule ≡ rule) }
     {
-        let course = SecondRunState::new(alloc, m, &rule)?;
-        Ok(Sim2 { course, rule })
+        let run = SecondRunState::new(alloc, m, &rule)?;
+        Ok(Sim2 { run, rule })
     }
 
     /// Advances to the next tick with rows, to an overflow, or to the last tick. After the end of
     /// the run it returns the last outcome again and changes nothing. Allocates no memory.
     pub fn next_event(&mut self) -> Outcome2
-        ensures same { (self.new.course.machine ≡ self.old.course.machine)
+        ensures same { (self.new.run.machine ≡ self.old.run.machine)
             × (self.new.rule ≡ self.old.rule) }
-        ensures again { (end : Outcome2) → self.old.course.end ≡ Some end
-            → (result ≡ end) × (self.new.course ≡ self.old.course) }
-        ensures next { self.old.course.end ≡ None
-            → IsNext2 (IsRuled2 self.old.rule.nearest) self.old.course self.new.course result }
+        ensures again { (end : Outcome2) → self.old.run.end ≡ Some end
+            → (result ≡ end) × (self.new.run ≡ self.old.run) }
+        ensures next { self.old.run.end ≡ None
+            → IsNext2 (IsRuled2 self.old.rule.nearest) self.old.run self.new.run result }
         ensures rows { self.old.rule.nearest ≡ true
-            → self.old.course.end ≡ None
-            → rows2_left nearest_change self.old.course
-            ≡ self.new.course.rows ++ rows2_left nearest_change self.new.course }
+            → self.old.run.end ≡ None
+            → rows2_left nearest_change self.old.run
+            ≡ self.new.run.rows ++ rows2_left nearest_change self.new.run }
     {
-        self.course.next_event(&self.rule)
+        self.run.next_event(&self.rule)
     }
 
     /// The rows of the last event, or the start rows at tick 0.
     pub fn rows(&self) -> &[Row2]
-        ensures { result.now ≡ self.now.course.rows }
+        ensures { result.now ≡ self.now.run.rows }
     {
-        self.course.rows()
+        self.run.rows()
     }
 
     /// Borrows the machine.
     pub fn machine(&self) -> &Machine
-        ensures { result.now ≡ self.now.course.machine }
+        ensures { result.now ≡ self.now.run.machine }
     {
-        self.course.machine()
+        self.run.machine()
     }
 }

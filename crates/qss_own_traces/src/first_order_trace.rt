@@ -15,12 +15,12 @@ ghost use Rattle.qss_own_traces.specs.FirstRuns.{IsFirstTrace, IsFirstRefusal};
 
 use crate::own_trace_draft::{
     Draft, TraceOver, draft_levels_below, draft_number_exceeding, draft_states_at_start,
-    finish_own_trace_draft, trace_draft_unit,
+    finish_draft_trace, trace_draft_unit,
 };
 use mu_num::{exceeds_power_of_two, floor_div};
 use qss_machine::Machine;
 use qss_order2::{fixed_discretes_of, leaving_gap_of};
-use qss_sched::equal_list;
+use qss_sched::repeat_value;
 use qss_trace::Trace;
 use std::alloc::{AllocError, Global};
 
@@ -132,7 +132,7 @@ impl FirstPlace {
     {
         let states = draft_states_at_start(alloc, m, 1)?;
         let levels = draft_levels_below(alloc, m, unit, states.as_slice())?;
-        let mut short_levels = equal_list(alloc, 0, levels.len())?;
+        let mut short_levels = repeat_value(alloc, 0, levels.len())?;
         shorten_first_trace_levels(levels.as_slice(), short_levels.as_mut_slice());
         Ok(FirstPlace {
             states,
@@ -232,7 +232,7 @@ pub fn first_trace(alloc: Global, m: &Machine) -> Result<Trace, TraceOver>
     let mut course = FirstCourse::new(alloc, m, unit)?;
     course.run_to_last_tick(m, unit, discretes.as_slice())?;
     let FirstCourse { place: _, draft } = course;
-    Ok(finish_own_trace_draft(alloc, m, 1, draft)?)
+    Ok(finish_draft_trace(alloc, m, 1, draft)?)
 }
 
 // Copies levels to 64 bits.

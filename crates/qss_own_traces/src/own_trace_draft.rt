@@ -78,7 +78,7 @@ impl<T: Drop> From<AllocFailed<T>> for TraceOver {
 }
 
 /// The trace with these states and levels, in units `scale` times finer than the machine's.
-pub(crate) fn finish_own_trace_draft(
+pub(crate) fn finish_draft_trace(
     alloc: Global,
     m: &Machine,
     scale: u32,

@@ -25,13 +25,13 @@ ghost use Rattle.qss_trace.specs.TraceSums.{IsSmall};
 
 use crate::own_trace_draft::{
     Draft, TraceOver, draft_levels_below, draft_number_exceeding, draft_states_at_start,
-    finish_own_trace_draft,
+    finish_draft_trace,
 };
 use cert_check::{AffineSystem, affine_system};
 use cert_matrix::RangedSum;
 use mu_num::{exceeds_power_of_two, floor_div, near_div};
 use qss_machine::Machine;
-use qss_sched::equal_list;
+use qss_sched::repeat_value;
 use qss_trace::{Trace, trace_level_in_states, trace_reach, trace_rise};
 use std::alloc::{AllocError, Global};
 
@@ -170,8 +170,8 @@ impl SecondPlace {
         Ok(SecondPlace {
             states,
             levels,
-            changes: equal_list(alloc, 0, count)?,
-            left: equal_list(alloc, true, count)?,
+            changes: repeat_value(alloc, 0, count)?,
+            left: repeat_value(alloc, true, count)?,
         })
     }
 
@@ -274,7 +274,7 @@ pub fn second_trace(alloc: Global, m: &Machine) -> Result<Trace, TraceOver>
     let mut course = SecondCourse::new(alloc, m, &a)?;
     course.run_to_last_tick(m, &a)?;
     let SecondCourse { place: _, draft } = course;
-    Ok(finish_own_trace_draft(alloc, m, FINENESS, draft)?)
+    Ok(finish_draft_trace(alloc, m, FINENESS, draft)?)
 }
 
 // The least state whose level exceeds its limit. If there is none, the least row whose absolute row

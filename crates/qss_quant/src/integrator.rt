@@ -6,7 +6,7 @@ ghost use Rattle.mu_num.specs.Ticks.{FirstAfter};
 ghost use Rattle.mu_num.specs.Sizes.{IsWithin, IsPositiveWithin};
 ghost use Rattle.qss_quant.specs.IntegratorLines.{IsLineWithinQuantum};
 
-use crate::level_gaps::{level_gap_above, level_gap_below};
+use crate::level_gaps::{room_above, room_below};
 use crate::steps::Steps;
 use mu_num::{first_tick, ticks_after};
 use std::marker::Model;
@@ -107,8 +107,8 @@ fn first_integrator_leaving(
         0 result }
 {
     if speed < 0 {
-        first_tick(level_gap_below(x, level, quantum, unit), -speed)
+        first_tick(room_below(x, level, quantum, unit), -speed)
     } else {
-        first_tick(level_gap_above(x, level, quantum, unit), speed)
+        first_tick(room_above(x, level, quantum, unit), speed)
     }
 }

@@ -5,19 +5,19 @@ ghost use Rattle.mu_num.specs.Sizes.{IsWithin, IsPositiveWithin};
 
 /// The difference between a state and its level, in units of the state. It is negative below the
 /// level.
-pub(crate) fn signed_level_gap(x: i128, level: i64, unit: i128) -> i128
+pub(crate) fn signed_gap(x: i128, level: i64, unit: i128) -> i128
     requires state { IsWithin 89 x }
     requires level { IsWithin 43 level }
     requires unit { IsPositiveWithin 44 unit }
     ensures value { result ≡ x -ℤ unit *ℤ level }
     ensures bound { IsWithin 90 result }
 {
-    x - level_gap_in_units(level, unit)
+    x - levels_in_units(level, unit)
 }
 
 /// The distance by which a state may rise until it is one quantum above its level, in units of the
 /// state.
-pub(crate) fn level_gap_above(x: i128, level: i64, quantum: i64, unit: i128) -> i128
+pub(crate) fn room_above(x: i128, level: i64, quantum: i64, unit: i128) -> i128
     requires state { IsWithin 89 x }
     requires level { IsWithin 43 level }
     requires quantum { IsWithin 43 quantum }
@@ -30,7 +30,7 @@ pub(crate) fn level_gap_above(x: i128, level: i64, quantum: i64, unit: i128) -> 
 
 /// The distance by which a state may fall until it is one quantum below its level, in units of the
 /// state.
-pub(crate) fn level_gap_below(x: i128, level: i64, quantum: i64, unit: i128) -> i128
+pub(crate) fn room_below(x: i128, level: i64, quantum: i64, unit: i128) -> i128
     requires state { IsWithin 89 x }
     requires level { IsWithin 43 level }
     requires quantum { IsWithin 43 quantum }
@@ -42,18 +42,18 @@ pub(crate) fn level_gap_below(x: i128, level: i64, quantum: i64, unit: i128) -> 
 }
 
 /// A quantum, converted from levels to units of a state.
-pub(crate) fn level_gap_limit(quantum: i64, unit: i128) -> i128
+pub(crate) fn quantum_in_units(quantum: i64, unit: i128) -> i128
     requires quantum { IsPositiveWithin 43 quantum }
     requires unit { IsPositiveWithin 44 unit }
     ensures value { result ≡ unit *ℤ quantum }
     ensures bound { IsWithin 87 result }
     ensures positive { pos 0 <ℤ result }
 {
-    level_gap_in_units(quantum, unit)
+    levels_in_units(quantum, unit)
 }
 
 /// Whether the absolute value of a number is below a limit.
-pub(crate) fn is_level_gap_inside(gap: i128, limit: i128) -> bool
+pub(crate) fn is_gap_inside(gap: i128, limit: i128) -> bool
     requires { pos 0 <ℤ limit }
     ensures { IsTrue result ↔ (pos (unsigned_abs gap) <ℤ limit) }
 {
@@ -61,7 +61,7 @@ pub(crate) fn is_level_gap_inside(gap: i128, limit: i128) -> bool
 }
 
 /// Converts a number of levels to units of a state. `unit` is the number of units in a level.
-pub fn level_gap_in_units(levels: i64, unit: i128) -> i128
+pub fn levels_in_units(levels: i64, unit: i128) -> i128
     requires levels { IsWithin 43 levels }
     requires unit { IsPositiveWithin 44 unit }
     ensures value { result ≡ unit *ℤ levels }

@@ -4,9 +4,7 @@ ghost use Rattle.std.specs.Prelude.{◌≡◌, ℤ, Some};
 ghost use Rattle.qss_quant.specs.LevelRules.{IsAsked, IsAnswer};
 ghost use Rattle.qss_quant.specs.declared.quantizer.Rule.TheVariants.{Floor, Near, Inward};
 
-use crate::level_gaps::{
-    is_level_gap_inside, level_gap_in_units, level_gap_limit, signed_level_gap,
-};
+use crate::level_gaps::{is_gap_inside, levels_in_units, quantum_in_units, signed_gap};
 use mu_num::{ceil_div, floor_div, near_div};
 
 /// A rule for new levels. It takes a state, its old level, and the number of units of a state in a
@@ -49,10 +47,7 @@ impl Quantizer {
         ensures taken { IsAway unit x old quantum → IsAnswer self.now.name x old unit result }
         ensures ruled { IsAway unit x old quantum → LevelRule.post self.now.rule x old unit result }
     {
-        if is_level_gap_inside(
-            signed_level_gap(x, old, unit),
-            level_gap_limit(quantum, unit),
-        ) {
+        if is_gap_inside(signed_gap(x, old, unit), quantum_in_units(quantum, unit)) {
             return i128::from(old);
         }
         self.answer(x, old, unit)
@@ -100,7 +95,7 @@ pub fn quantize_to_inward_level(state: i128, old: i64, unit: i128) -> i128
     requires { IsAsked state old unit }
     ensures { IsAnswer (Some Inward) state old unit result }
 {
-    if level_gap_in_units(old, unit) < state {
+    if levels_in_units(old, unit) < state {
         floor_div(state, unit)
     } else {
         ceil_div(state, unit)

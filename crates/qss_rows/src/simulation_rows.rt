@@ -166,7 +166,7 @@ pub(crate) fn write_simulation_events<S: Simulation, O: Sink>(
         → StopsAtLine O.written [] (S.present sim.old ++ S.to_come sim.old) out.old out.new }
     ensures end { IfOk result (λ end. (S.ends sim.old end) × IsEndIn (S.machine sim.old) end) }
 {
-    write_simulation_rows(sim, lines, out)?;
+    write_last_event(sim, lines, out)?;
     'events: loop {
         match write_simulation_event(sim, lines, out)? {
             None => continue 'events,
@@ -177,7 +177,7 @@ pub(crate) fn write_simulation_events<S: Simulation, O: Sink>(
 
 // Writes the rows of the last event. If allocation fails, it writes none of them.
 #[inline(always)]
-fn write_simulation_rows<S: Simulation, O: Sink>(
+fn write_last_event<S: Simulation, O: Sink>(
     sim: &S,
     lines: &mut LineWriter,
     out: &mut O,
@@ -271,7 +271,7 @@ fn write_simulation_event<S: Simulation, O: Sink>(
         → StopsAtLine O.written [] (S.present sim.new) out.old out.new }
 {
     let end = sim.next_event();
-    write_simulation_rows(sim, lines, out)?;
+    write_last_event(sim, lines, out)?;
     Ok(end)
 }
 

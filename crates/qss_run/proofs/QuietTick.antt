@@ -49,19 +49,19 @@ none_rises_then w next at_arrival after_handlers =
     ∙ ap (λ a. list_any (λ flag. flag) (firing_flags a w.after_handlers a)) after_handlers
     ∙ settled_twice w.after_handlers
 
-module _ (m : Machine) (tick : ℕ) (w : Snapshot) (line : ℕ → Line) (watch : ℕ → DetectorView) (due : List (Option ℕ))
-    (s : IsScheduleOf m tick w line watch (due_at due)) (calm : NoneRises w) (none : NoneChanges m tick due) (in_time : tick + 1 ≤ tick_limit) where
+module _ (m : Machine) (tick : ℕ) (w : Snapshot) (line : ℕ → Line) (detector : ℕ → DetectorView) (due : List (Option ℕ))
+    (s : IsScheduleOf m tick w line detector (due_at due)) (calm : NoneRises w) (none : NoneChanges m tick due) (in_time : tick + 1 ≤ tick_limit) where
   pub none_risen : due_at due (state_count m + length (conditions m)) ≡ None
   none_risen = s.rising ∙ ap (λ b. if b then Some (tick + 1) else None) calm
 
-  value_then : (place : ℕ) → place < length (conditions m) → value_at (watch place) (tick + 1) ≡ value_of m (condition_at m place).form (moved_states m w) w.discretes w.discretes (tick + 1)
+  value_then : (place : ℕ) → place < length (conditions m) → value_at (detector place) (tick + 1) ≡ value_of m (condition_at m place).form (moved_states m w) w.discretes w.discretes (tick + 1)
   value_then place h =
-      watch_value_at m tick w line watch (due_at due) s place 1 h ∙ ap (λ x. value_of m (condition_at m place).form x w.discretes w.discretes (tick + 1)) (sym (moved_is m w))
+      watch_value_at m tick w line detector (due_at due) s place 1 h ∙ ap (λ x. value_of m (condition_at m place).form x w.discretes w.discretes (tick + 1)) (sym (moved_is m w))
 
   flag_then : (place : ℕ) → place < length (conditions m) → truth m (condition_at m place) (moved_states m w) w.discretes (tick + 1) ≡ flag_at w.after_handlers place
   flag_then place h =
       ap (λ x. truth m (condition_at m place) x w.discretes (tick + 1)) (moved_is m w)
-      ∙ flag_still m tick w line watch (due_at due) (tick + 1) 1 place s (omega arith) (omega arith) in_time h (λ later e. none place later h e)
+      ∙ flag_still m tick w line detector (due_at due) (tick + 1) 1 place s (omega arith) (omega arith) in_time h (λ later e. none place later h e)
 
   -- the conditions are as after the last handlers
   pub quiet_truths : truths m (moved_states m w) w.discretes (tick + 1) ≡ w.after_handlers
@@ -77,7 +77,7 @@ module _ (m : Machine) (tick : ℕ) (w : Snapshot) (line : ℕ → Line) (watch 
       clauses-idle m (tick + 1) w.discretes 0 (record { states = moved_states m w; discretes = w.discretes; rows = []; overflow = first_exceeding 88 (moved_states m w) }) m.clauses _ idle
 
   -- the detector of each condition is still valid
-  pub watched_then : (place : ℕ) → place < length (conditions m) → IsDetectorAt m (tick + 1) (moved_states m w) w.discretes (slopes_of m w) place (watch place) (due_at due (state_count m + place))
+  pub watched_then : (place : ℕ) → place < length (conditions m) → IsDetectorAt m (tick + 1) (moved_states m w) w.discretes (slopes_of m w) place (detector place) (due_at due (state_count m + place))
   watched_then place h =
       let v = s.detectors place h in
       record {
@@ -85,8 +85,8 @@ module _ (m : Machine) (tick : ℕ) (w : Snapshot) (line : ℕ → Line) (watch 
         here = value_then place h;
         own_speed = v.own_speed;
         own_rel = v.own_rel;
-        is_change = subst (λ b. IsChange (tick + 1) b (watch place) (due_at due (state_count m + place))) (sym (flag_then place h))
-            (from_later (λ t. holds_at (watch place) t ≢ flag_at w.after_handlers place) tick (tick + 1) (due_at due (state_count m + place)) (omega arith)
+        is_change = subst (λ b. IsChange (tick + 1) b (detector place) (due_at due (state_count m + place))) (sym (flag_then place h))
+            (from_later (λ t. holds_at (detector place) t ≢ flag_at w.after_handlers place) tick (tick + 1) (due_at due (state_count m + place)) (omega arith)
             (λ later e. none place later h e) (s.changes place h));
       }
 

@@ -22,7 +22,7 @@ use Rattle.qss_run.specs.DetectorUpdates.{DetectorStates, IsKept, IsSettled, Are
 pub still_settled : (m : Machine) (tick : ℕ) (x d slopes : List ℤ) (place : ℕ) (old new : DetectorStates) → IsKept m place old new → IsSettled m tick x d slopes place old →
     IsSettled m tick x d slopes place new
 still_settled m tick x d slopes place old new kept after_handlers = record {
-  watched = subst (λ (w : DetectorView). IsDetectorAt m tick x d slopes place w (due_at new.dues (state_count m + place))) (sym kept.watch)
+  watched = subst (λ (w : DetectorView). IsDetectorAt m tick x d slopes place w (due_at new.dues (state_count m + place))) (sym kept.detector)
       (subst (IsDetectorAt m tick x d slopes place (detector_at old.detectors place)) (sym kept.due) after_handlers.watched);
   own_truth = kept.truth ∙ after_handlers.own_truth;
 }
@@ -31,7 +31,7 @@ module _ (m : Machine) (tick : ℕ) (x d slopes : List ℤ) where
   pub none_settled : (old : DetectorStates) → AreSettled m tick x d slopes [] old old
   none_settled old = record {
     own = λ place among. absurd (cc);
-    kept = λ place none. record { watch = refl; truth = refl; due = refl };
+    kept = λ place none. record { detector = refl; truth = refl; due = refl };
     many_watches = refl;
     many_truths = refl;
     many_dues = refl;
@@ -55,7 +55,7 @@ module _ (m : Machine) (tick : ℕ) (x d slopes : List ℤ) where
             let parts = or_parts (is_listed xs place) (is_listed ys place) (sym (split place) ∙ none) in
             let before = first.kept place parts.0 in
             let after = second.kept place parts.1 in
-            record { watch = after.watch ∙ before.watch; truth = after.truth ∙ before.truth; due = after.due ∙ before.due };
+            record { detector = after.detector ∙ before.detector; truth = after.truth ∙ before.truth; due = after.due ∙ before.due };
         many_watches = second.many_watches ∙ first.many_watches;
         many_truths = second.many_truths ∙ first.many_truths;
         many_dues = second.many_dues ∙ first.many_dues;
@@ -64,16 +64,16 @@ module _ (m : Machine) (tick : ℕ) (x d slopes : List ℤ) where
       }
 
   -- one condition is settled by a detector, its truth and a due tick
-  pub one_settled : (j : ℕ) (old new : DetectorStates) (watch : DetectorView) (flag : Bool) (found : Option ℕ) → j < length old.detectors → j < length old.after_handlers → state_count m + j < length old.dues →
-      new.detectors ≡ set old.detectors j watch → new.after_handlers ≡ set old.after_handlers j flag → new.dues ≡ set old.dues (state_count m + j) found →
-      IsDetectorAt m tick x d slopes j watch found → flag ≡ truth m (condition_at m j) x d tick → AreSettled m tick x d slopes (j ∷ []) old new
-  one_settled j old new watch flag found in_watches in_settled in_dues detectors after_handlers dues watched own =
+  pub one_settled : (j : ℕ) (old new : DetectorStates) (detector : DetectorView) (flag : Bool) (found : Option ℕ) → j < length old.detectors → j < length old.after_handlers → state_count m + j < length old.dues →
+      new.detectors ≡ set old.detectors j detector → new.after_handlers ≡ set old.after_handlers j flag → new.dues ≡ set old.dues (state_count m + j) found →
+      IsDetectorAt m tick x d slopes j detector found → flag ≡ truth m (condition_at m j) x d tick → AreSettled m tick x d slopes (j ∷ []) old new
+  one_settled j old new detector flag found in_watches in_settled in_dues detectors after_handlers dues watched own =
       let n : ℕ = state_count m in
       let other_due = λ (k : ℕ) (ne : k ≡ n + j → ⊥). ap (λ due. due_at due k) dues ∙ get_or-set_other old.dues (n + j) k found None ne in
       let here : IsSettled m tick x d slopes j new =
       record {
-        watched = subst (λ (w : DetectorView). IsDetectorAt m tick x d slopes j w (due_at new.dues (n + j))) (sym (ap (λ ws. detector_at ws j) detectors ∙ get_or-set_same old.detectors j watch no_detector in_watches))
-            (subst (IsDetectorAt m tick x d slopes j watch) (sym (ap (λ due. due_at due (n + j)) dues ∙ get_or-set_same old.dues (n + j) found None in_dues)) watched);
+        watched = subst (λ (w : DetectorView). IsDetectorAt m tick x d slopes j w (due_at new.dues (n + j))) (sym (ap (λ ws. detector_at ws j) detectors ∙ get_or-set_same old.detectors j detector no_detector in_watches))
+            (subst (IsDetectorAt m tick x d slopes j detector) (sym (ap (λ due. due_at due (n + j)) dues ∙ get_or-set_same old.dues (n + j) found None in_dues)) watched);
         own_truth = ap (λ flags. flag_at flags j) after_handlers ∙ get_or-set_same old.after_handlers j flag false in_settled ∙ own;
       } in
       record {
@@ -86,11 +86,11 @@ module _ (m : Machine) (tick : ℕ) (x d slopes : List ℤ) where
             let ne : place ≡ j → ⊥ = λ e. (let same : (j == place) ≡ true = eqb-yes j place (sym e) in let other : (j == place) ≡ false = parts.0 in absurd (cc)) in
             let far : n + place ≡ n + j → ⊥ = λ e. ne (omega (arith, e)) in
             record {
-              watch = ap (λ ws. detector_at ws place) detectors ∙ get_or-set_other old.detectors j place watch no_detector ne;
+              detector = ap (λ ws. detector_at ws place) detectors ∙ get_or-set_other old.detectors j place detector no_detector ne;
               truth = ap (λ flags. flag_at flags place) after_handlers ∙ get_or-set_other old.after_handlers j place flag false ne;
               due = other_due (n + place) far;
             };
-        many_watches = ap length detectors ∙ length-set old.detectors j watch;
+        many_watches = ap length detectors ∙ length-set old.detectors j detector;
         many_truths = ap length after_handlers ∙ length-set old.after_handlers j flag;
         many_dues = ap length dues ∙ length-set old.dues (n + j) found;
         states = λ place h. other_due place (λ e. omega (arith, h, e));
@@ -112,15 +112,15 @@ among_below n place h =
 -- ---- conditions at other values and slopes
 
 -- a detector at a value and a speed is valid at other values and slopes that give the same ones
-pub watched_as : (m : Machine) (tick : ℕ) (x d slopes y e after : List ℤ) (place : ℕ) (watch : DetectorView) (due : Option ℕ) →
+pub watched_as : (m : Machine) (tick : ℕ) (x d slopes y e after : List ℤ) (place : ℕ) (detector : DetectorView) (due : Option ℕ) →
     value_of m (condition_at m place).form x d d tick ≡ value_of m (condition_at m place).form y e e tick →
-    speed_of m (condition_at m place).form slopes ≡ speed_of m (condition_at m place).form after → IsDetectorAt m tick x d slopes place watch due → IsDetectorAt m tick y e after place watch due
-watched_as m tick x d slopes y e after place watch due value speed watched = record {
+    speed_of m (condition_at m place).form slopes ≡ speed_of m (condition_at m place).form after → IsDetectorAt m tick x d slopes place detector due → IsDetectorAt m tick y e after place detector due
+watched_as m tick x d slopes y e after place detector due value speed watched = record {
   not_later = watched.not_later;
   here = watched.here ∙ value;
   own_speed = watched.own_speed ∙ speed;
   own_rel = watched.own_rel;
-  is_change = subst (λ b. IsChange tick b watch due) (ap (compares (condition_at m place).rel) value) watched.is_change;
+  is_change = subst (λ b. IsChange tick b detector due) (ap (compares (condition_at m place).rel) value) watched.is_change;
 }
 
 -- one condition is settled at values at which its form has the same value

@@ -74,8 +74,8 @@ has_speed_still m tick slopes old new due next going place has =
 -- ---- detectors that go on
 
 -- a detector that is left as it is
-pub goes_on_same : (tick : ℕ) (speed : ℤ) (watch : DetectorView) (due : Option ℕ) → watch.tick ≤ tick → GoesOn tick speed watch watch due due
-goes_on_same tick speed watch due h = record { not_later = h; here = refl; same_rel = refl; kept = λ e. (refl, refl); is_change = λ change. change }
+pub goes_on_same : (tick : ℕ) (speed : ℤ) (detector : DetectorView) (due : Option ℕ) → detector.tick ≤ tick → GoesOn tick speed detector detector due due
+goes_on_same tick speed detector due h = record { not_later = h; here = refl; same_rel = refl; kept = λ e. (refl, refl); is_change = λ change. change }
 
 -- a detector that is at its value at the tick, with another speed
 pub goes_on_turned : (tick : ℕ) (speed : ℤ) (old new : DetectorView) (old_due found : Option ℕ) → old.speed ≢ speed → new ≡ record { rel = old.rel; tick = tick; value = value_at old tick; speed = speed } →
@@ -122,28 +122,28 @@ going_on_more m tick slopes a b c p q r first second = record {
 }
 
 -- one detector goes on, the others are left
-module _ (m : Machine) (tick : ℕ) (slopes : List ℤ) (detectors : List DetectorView) (due next : List (Option ℕ)) (j : ℕ) (watch : DetectorView) (h : j < length detectors)
+module _ (m : Machine) (tick : ℕ) (slopes : List ℤ) (detectors : List DetectorView) (due next : List (Option ℕ)) (j : ℕ) (detector : DetectorView) (h : j < length detectors)
     (later : (place : ℕ) → place < length detectors → (detector_at detectors place).tick ≤ tick) (many : length next ≡ length due)
     (others : (place : ℕ) → (place ≡ state_count m + j → ⊥) → due_at next place ≡ due_at due place)
-    (here : GoesOn tick (speed_of m (condition_at m j).form slopes) (detector_at detectors j) watch (due_at due (state_count m + j)) (due_at next (state_count m + j))) where
+    (here : GoesOn tick (speed_of m (condition_at m j).form slopes) (detector_at detectors j) detector (due_at due (state_count m + j)) (due_at next (state_count m + j))) where
   abbrev Goes : ℕ → DetectorView → Option ℕ → Type 0
   Goes place new found = GoesOn tick (speed_of m (condition_at m place).form slopes) (detector_at detectors place) new (due_at due (state_count m + place)) found
 
-  own : (place : ℕ) → place ≡ j → Goes place (detector_at (set detectors j watch) place) (due_at next (state_count m + place))
+  own : (place : ℕ) → place ≡ j → Goes place (detector_at (set detectors j detector) place) (due_at next (state_count m + place))
   own place e =
-      subst (λ k. Goes k (detector_at (set detectors j watch) k) (due_at next (state_count m + k))) (sym e)
-      (subst (λ w. Goes j w (due_at next (state_count m + j))) (sym (get_or-set_same detectors j watch no_detector h)) here)
+      subst (λ k. Goes k (detector_at (set detectors j detector) k) (due_at next (state_count m + k))) (sym e)
+      (subst (λ w. Goes j w (due_at next (state_count m + j))) (sym (get_or-set_same detectors j detector no_detector h)) here)
 
-  other : (place : ℕ) → (place ≡ j → ⊥) → place < length detectors → Goes place (detector_at (set detectors j watch) place) (due_at next (state_count m + place))
+  other : (place : ℕ) → (place ≡ j → ⊥) → place < length detectors → Goes place (detector_at (set detectors j detector) place) (due_at next (state_count m + place))
   other place ne inside =
       let far : state_count m + place ≡ state_count m + j → ⊥ = λ e. ne (omega (arith, e)) in
-      subst (λ w. Goes place w (due_at next (state_count m + place))) (sym (get_or-set_other detectors j place watch no_detector ne))
+      subst (λ w. Goes place w (due_at next (state_count m + place))) (sym (get_or-set_other detectors j place detector no_detector ne))
       (subst (Goes place (detector_at detectors place)) (sym (others (state_count m + place) far))
       (goes_on_same tick (speed_of m (condition_at m place).form slopes) (detector_at detectors place) (due_at due (state_count m + place)) (later place inside)))
 
-  pub going_on_at : AreSpeedsUpdated m tick slopes detectors (set detectors j watch) due next
+  pub going_on_at : AreSpeedsUpdated m tick slopes detectors (set detectors j detector) due next
   going_on_at = record {
-    as_many = length-set detectors j watch;
+    as_many = length-set detectors j detector;
     places = many;
     each = λ place inside. elim (cases_eq place j) [ inl e ↦ own place e | inr ne ↦ other place ne inside ];
     others = λ place below. others place (λ e. absurd (omega (arith, below, e)));

@@ -180,7 +180,7 @@ module _ (m : Machine) (tick : ℕ) (moved reinitialized assigned changed : List
     kept_watch : IsDetectorAt m tick states d before place (detector_at new.detectors place) (due_at new.dues (state_count m + place))
     kept_watch =
         let kept = are.kept place none in
-        subst (λ (w : DetectorView). IsDetectorAt m tick states d before place w (due_at new.dues (state_count m + place))) (sym kept.watch)
+        subst (λ (w : DetectorView). IsDetectorAt m tick states d before place w (due_at new.dues (state_count m + place))) (sym kept.detector)
         (subst (IsDetectorAt m tick states d before place (detector_at old.detectors place)) (sym kept.due)
         (watched_as m tick x pre before states d before place (detector_at old.detectors place) (due_at old.dues (state_count m + place)) same_value refl (upto.unchanged place h not_changed).watched))
 

@@ -53,12 +53,12 @@ HasPlaces m due = state_count m + length (conditions m) ≤ length due
 
 -- the detector of a condition has this value at a tick and this speed, and this is the tick of its
 -- next change
-pub record IsDetectorAt (m : Machine) (tick : ℕ) (x d slopes : List ℤ) (place : ℕ) (watch : DetectorView) (due : Option ℕ) : Type 0 where
-  pub not_later : watch.tick ≤ tick
-  pub here : value_at watch tick ≡ value_of m (condition_at m place).form x d d tick
-  pub own_speed : watch.speed ≡ speed_of m (condition_at m place).form slopes
-  pub own_rel : watch.rel ≡ (condition_at m place).rel
-  pub is_change : IsChange tick (truth m (condition_at m place) x d tick) watch due
+pub record IsDetectorAt (m : Machine) (tick : ℕ) (x d slopes : List ℤ) (place : ℕ) (detector : DetectorView) (due : Option ℕ) : Type 0 where
+  pub not_later : detector.tick ≤ tick
+  pub here : value_at detector tick ≡ value_of m (condition_at m place).form x d d tick
+  pub own_speed : detector.speed ≡ speed_of m (condition_at m place).form slopes
+  pub own_rel : detector.rel ≡ (condition_at m place).rel
+  pub is_change : IsChange tick (truth m (condition_at m place) x d tick) detector due
 
 -- the same for each condition of a machine
 abbrev pub AreDetectorsAt : Machine → ℕ → List ℤ → List ℤ → List ℤ → List DetectorView → List (Option ℕ) → Type 0

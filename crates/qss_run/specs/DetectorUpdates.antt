@@ -31,7 +31,7 @@ detector_states_of all dues = record { detectors = all.detectors.items; after_ha
 
 -- the detector, the truth and the due tick of a condition do not change
 pub record IsKept (m : Machine) (place : ℕ) (old new : DetectorStates) : Type 0 where
-  pub watch : detector_at new.detectors place ≡ detector_at old.detectors place
+  pub detector : detector_at new.detectors place ≡ detector_at old.detectors place
   pub truth : flag_at new.after_handlers place ≡ flag_at old.after_handlers place
   pub due : due_at new.dues (state_count m + place) ≡ due_at old.dues (state_count m + place)
 

@@ -64,15 +64,15 @@ impl Conditions {
         ensures rest { AreAlikeButSettled self.old self.new }
     {
         let condition = self.condition(m, place);
-        let watch = condition_detector_of(m, condition, at);
-        let holds = watch.truth();
+        let detector = detector_at_values(m, condition, at);
+        let holds = detector.truth();
         let at_arrival = self.at_arrival.as_slice();
         mark_changed_detector(at_arrival, place, holds, &mut self.flipped);
         let after_handlers = self.after_handlers.as_mut_slice();
         after_handlers[place as usize] = holds;
-        agenda.set(at.slopes.len() as u32 + place, watch.next_change());
+        agenda.set(at.slopes.len() as u32 + place, detector.next_change());
         let detectors = self.detectors.as_mut_slice();
-        detectors[place as usize] = watch;
+        detectors[place as usize] = detector;
     }
 
     /// Sets the detectors of all conditions at a tick, and schedules the ticks of their next
@@ -442,7 +442,7 @@ pub(crate) fn update_detectors_after_handlers(m: &Machine, tick: u64, s: &mut St
 }
 
 // The detector of a condition at a tick, with its value and its speed.
-fn condition_detector_of(m: &Machine, condition: &Condition, at: &ConditionValues) -> Detector
+fn detector_at_values(m: &Machine, condition: &Condition, at: &ConditionValues) -> Detector
     requires form { IsBounded condition.now.form }
     requires point { AreConditionValues m.now at.now }
     ensures { result
@@ -516,27 +516,27 @@ fn detector_speed_at(m: &Machine, form: &Form, slopes: &[i128]) -> i128
 // Sets the speed of a detector at a tick, and schedules the tick of its next change. A detector
 // that already has this speed does not change.
 fn update_detector_speed(
-    watch: &mut Detector,
+    detector: &mut Detector,
     tick: u64,
     speed: i128,
     place: u32,
     agenda: &mut Agenda,
 )
-    requires later { watch.old.tick ≤ tick }
+    requires later { detector.old.tick ≤ tick }
     requires tick_limit { tick ≤ tick_limit }
-    requires size_limit { IsSmall (value_at watch.old tick) }
+    requires size_limit { IsSmall (value_at detector.old tick) }
     requires speed { IsSmall speed }
     requires place { place < length agenda.old }
-    ensures goes_on { GoesOn tick speed watch.old watch.new (due_at agenda.old place)
+    ensures goes_on { GoesOn tick speed detector.old detector.new (due_at agenda.old place)
         (due_at agenda.new place) }
-    ensures speed { watch.new.speed ≡ speed }
+    ensures speed { detector.new.speed ≡ speed }
     ensures same { IsSameBut place agenda.old agenda.new }
 {
-    if watch.speed == speed {
+    if detector.speed == speed {
         return;
     }
-    watch.move_to(tick);
-    let value = watch.value;
-    watch.set(value, speed);
-    agenda.set(place, watch.next_change());
+    detector.move_to(tick);
+    let value = detector.value;
+    detector.set(value, speed);
+    agenda.set(place, detector.next_change());
 }

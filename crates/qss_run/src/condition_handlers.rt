@@ -27,7 +27,7 @@ ghost use Rattle.qss_events.specs.HandlerRows.{is_set, assigned_of};
 ghost use Rattle.mu_num.specs.ListedPlaces.{is_listed, AreRisingBelow};
 
 use crate::condition_truths::{list_fired_by_truths, read_changed_truths};
-use crate::event_steps::{reschedule_event_step_states, take_event_step_states};
+use crate::event_steps::{put_back_states, take_due_states};
 use crate::run_conditions::{BranchPlace, ChangedConditions, Conditions};
 use qss_hand::{Over, Work, fire};
 use qss_machine::{Action, Form, Machine, Row, RowKind};
@@ -331,9 +331,9 @@ pub(crate) fn join_handler_reinitialized(
     if !has_handler_reinitialization(log) {
         return;
     }
-    reschedule_event_step_states(agenda, tick, moved.as_slice());
+    put_back_states(agenda, tick, moved.as_slice());
     schedule_handler_reinitialized(agenda, tick, log);
-    take_event_step_states(agenda, tick, states, moved);
+    take_due_states(agenda, tick, states, moved);
 }
 
 // Whether some row reinitializes a state.

@@ -212,13 +212,13 @@ pub(crate) fn make_truths_agree(flipped: &[u32], after_handlers: &[bool], at_arr
 }
 
 // Whether the condition of a detector holds at a tick, if its speed stays constant.
-fn is_condition_true_at(watch: &Detector, tick: u64) -> bool
-    requires later { watch.now.tick ≤ tick }
+fn is_condition_true_at(detector: &Detector, tick: u64) -> bool
+    requires later { detector.now.tick ≤ tick }
     requires tick_limit { tick ≤ tick_limit }
-    requires size_limit { IsSmall (value_at watch.now tick) }
-    ensures { result ≡ holds_at watch.now tick }
+    requires size_limit { IsSmall (value_at detector.now tick) }
+    ensures { result ≡ holds_at detector.now tick }
 {
-    let mut moved = *watch;
+    let mut moved = *detector;
     moved.move_to(tick);
     moved.truth()
 }

@@ -80,12 +80,12 @@ pub(crate) fn go_to_next_event<L: Ledger>(
             return Outcome::Events { tick };
         }
     }
-    set_event_step_ends(m, s);
+    set_last_rows(m, s);
     Outcome::Done
 }
 
 /// Schedules states at a tick that were removed from the event queue.
-pub(crate) fn reschedule_event_step_states(agenda: &mut Agenda, tick: u64, moved: &[u32])
+pub(crate) fn put_back_states(agenda: &mut Agenda, tick: u64, moved: &[u32])
     requires { All (λ place. place < length agenda.old) moved.now }
     ensures same_length { length agenda.new ≡ length agenda.old }
     ensures back { (place : ℕ) → is_listed moved.now place ≡ true
@@ -147,7 +147,7 @@ fn skip_to_event(m: &Machine, tick: u64, s: &mut Store) -> u64
     ensures stands { IsStoreAt m.now result s.new }
     ensures room { vec_capacity s.new.rows ≡ vec_capacity s.old.rows }
 {
-    let next = next_event_step_tick(&s.agenda, m.last);
+    let next = earliest_due_tick(&s.agenda, m.last);
     copy_settled_truths(
         tick + 1 < next,
         s.conditions.after_handlers.as_slice(),
@@ -158,7 +158,7 @@ fn skip_to_event(m: &Machine, tick: u64, s: &mut Store) -> u64
 }
 
 /// The earliest due tick, or the last tick of the run if nothing is due before it.
-pub(crate) fn next_event_step_tick(agenda: &Agenda, last: u64) -> u64
+pub(crate) fn earliest_due_tick(agenda: &Agenda, last: u64) -> u64
     ensures at_most { result ≤ last }
     ensures none_before { (place tick : ℕ) → due_at agenda.now place ≡ Some tick → result ≤ tick }
     ensures reached { result < last → (place : ℕ) × (due_at agenda.now place ≡ Some result) }
@@ -192,8 +192,8 @@ pub(crate) fn run_event<L: Ledger>(
         at_arrival,
         after_handlers,
     );
-    take_event_step_states(&mut s.agenda, tick + 1, states, &mut s.moved);
-    take_event_step_conditions(&mut s.agenda, tick + 1, states, conditions, &mut s.changed);
+    take_due_states(&mut s.agenda, tick + 1, states, &mut s.moved);
+    take_due_conditions(&mut s.agenda, tick + 1, states, conditions, &mut s.changed);
     if s.changed.is_empty() {
         run_event_of_states(m, q, tick, s, steps)
     } else {
@@ -203,7 +203,7 @@ pub(crate) fn run_event<L: Ledger>(
 
 /// Removes the states that are due at a tick from the event queue, and lists them in increasing
 /// order. Nothing is due before the tick.
-pub fn take_event_step_states(agenda: &mut Agenda, tick: u64, states: u32, moved: &mut Vec<u32>)
+pub fn take_due_states(agenda: &mut Agenda, tick: u64, states: u32, moved: &mut Vec<u32>)
     requires has { HasRoomFor states (vec_capacity moved.old) agenda.old }
     requires none_before { (place due : ℕ) → due_at agenda.old place ≡ Some due → tick ≤ due }
     ensures due { AreDue states tick agenda.old moved.new.items }
@@ -214,7 +214,7 @@ pub fn take_event_step_states(agenda: &mut Agenda, tick: u64, states: u32, moved
 
 /// Removes the conditions that are due at a tick from the event queue, and lists them in increasing
 /// order. No state is due at the tick.
-pub fn take_event_step_conditions(
+pub fn take_due_conditions(
     agenda: &mut Agenda,
     tick: u64,
     states: u32,
@@ -266,8 +266,8 @@ pub(crate) fn run_event_of_states<L: Ledger>(
         return over;
     }
     let work = &s.work;
-    let quiet = EventLevels {
-        taken: NewLevels {
+    let event_levels = EventLevels {
+        event: NewLevels {
             machine: m,
             uses: &s.uses,
             tick: tick + 1,
@@ -276,8 +276,8 @@ pub(crate) fn run_event_of_states<L: Ledger>(
         },
         discretes: work.d.as_slice(),
     };
-    update_state_event_step(
-        &quiet,
+    continue_moved_states(
+        &event_levels,
         s.slopes.as_mut_slice(),
         s.lines.as_mut_slice(),
         &mut s.touched,
@@ -294,48 +294,49 @@ pub(crate) fn run_event_of_states<L: Ledger>(
 // Continues the moved states and those whose rows read one of them from a tick at their new slopes.
 // It sets the new speeds of the detectors of the conditions that read these states. The lines and
 // due ticks of other states do not change.
-fn update_state_event_step<L: Ledger>(
+fn continue_moved_states<L: Ledger>(
     at: &EventLevels,
     slopes: &mut [i128],
     lines: &mut [Integrator],
     touched: &mut Vec<u32>,
-    watched: &mut Conditions,
+    condition_set: &mut Conditions,
     agenda: &mut Agenda,
     steps: &mut Steps<L>,
 )
     requires ready { CanUpdateSlopesOf at.now slopes.old lines.old agenda.old }
-    requires room { state_count at.now.taken.machine.now ≤ vec_capacity touched.old }
-    requires size_limit { All (IsWithin 88) (states_at lines.old at.now.taken.tick) }
-    requires tick_limit { at.now.taken.tick < 2 ^ 32 }
-    requires fits { AreConditionsOf at.now.taken.machine.now watched.old }
-    requires places { HasPlaces at.now.taken.machine.now agenda.old }
-    requires watched { AreDetectorsAt at.now.taken.machine.now at.now.taken.tick
-        (states_at lines.old at.now.taken.tick) at.now.discretes.now
-        slopes.old watched.old.detectors.items agenda.old }
+    requires room { state_count at.now.event.machine.now ≤ vec_capacity touched.old }
+    requires size_limit { All (IsWithin 88) (states_at lines.old at.now.event.tick) }
+    requires tick_limit { at.now.event.tick < 2 ^ 32 }
+    requires fits { AreConditionsOf at.now.event.machine.now condition_set.old }
+    requires places { HasPlaces at.now.event.machine.now agenda.old }
+    requires watched { AreDetectorsAt at.now.event.machine.now at.now.event.tick
+        (states_at lines.old at.now.event.tick) at.now.discretes.now
+        slopes.old condition_set.old.detectors.items agenda.old }
     ensures gone_on { AreAllScheduled at.now slopes.new
         (record { lines = lines.old; dues = agenda.old })
         (record { lines = lines.new; dues = agenda.new }) steps.old steps.new }
-    ensures kept { (j : ℕ) → j < state_count at.now.taken.machine.now
-        → is_listed (reached at.now.taken.machine.now at.now.taken.moved.now) j ≡ false
+    ensures kept { (j : ℕ) → j < state_count at.now.event.machine.now
+        → is_listed (reached at.now.event.machine.now at.now.event.moved.now) j ≡ false
         → (line_at lines.new j ≡ line_at lines.old j)
         × (due_at agenda.new j ≡ due_at agenda.old j) }
-    ensures detectors { AreDetectorsAt at.now.taken.machine.now at.now.taken.tick
-        (states_at lines.old at.now.taken.tick) at.now.discretes.now
-        slopes.new watched.new.detectors.items agenda.new }
-    ensures rest { watched.new ≡ record watched.old { detectors = watched.new.detectors } }
-    ensures fits { AreConditionsOf at.now.taken.machine.now watched.new }
+    ensures detectors { AreDetectorsAt at.now.event.machine.now at.now.event.tick
+        (states_at lines.old at.now.event.tick) at.now.discretes.now
+        slopes.new condition_set.new.detectors.items agenda.new }
+    ensures rest { condition_set.new
+        ≡ record condition_set.old { detectors = condition_set.new.detectors } }
+    ensures fits { AreConditionsOf at.now.event.machine.now condition_set.new }
     ensures beyond { (place : ℕ)
-        → state_count at.now.taken.machine.now + length (conditions at.now.taken.machine.now)
+        → state_count at.now.event.machine.now + length (conditions at.now.event.machine.now)
         ≤ place
         → due_at agenda.new place ≡ due_at agenda.old place }
     ensures room { vec_capacity touched.new ≡ vec_capacity touched.old }
 {
     update_slopes_of(at, slopes, lines, touched, agenda, steps);
-    watched.update_detectors_of(
-        at.taken.machine,
-        at.taken.uses,
-        at.taken.tick,
-        at.taken.moved,
+    condition_set.update_detectors_of(
+        at.event.machine,
+        at.event.uses,
+        at.event.tick,
+        at.event.moved,
         slopes,
         agenda,
     );
@@ -390,18 +391,13 @@ pub(crate) fn run_event_with_conditions<L: Ledger>(
     if over.is_some() {
         return over;
     }
-    update_condition_event_step(m, tick + 1, s, steps);
+    continue_after_handlers(m, tick + 1, s, steps);
     None
 }
 
 // Continues the states and conditions of a tick after its handlers: those that changed, and those
 // that read a change.
-fn update_condition_event_step<L: Ledger>(
-    m: &Machine,
-    tick: u64,
-    s: &mut Store,
-    steps: &mut Steps<L>,
-)
+fn continue_after_handlers<L: Ledger>(m: &Machine, tick: u64, s: &mut Store, steps: &mut Steps<L>)
     requires { CanContinueAfterHandlers m.now tick s.old }
     ensures stands { IsStoreAt m.now tick s.new }
     ensures snapshot { snapshot_of tick s.new ≡ snapshot_left m.now tick s.old }
@@ -423,7 +419,7 @@ fn update_condition_event_step<L: Ledger>(
         moved: s.moved.as_slice(),
         levels: s.levels.as_slice(),
     };
-    let left = HandlerResult {
+    let handled = HandlerResult {
         assigned: s.assigned.as_slice(),
         states: work.x.as_slice(),
         before: work.pre.as_slice(),
@@ -431,19 +427,19 @@ fn update_condition_event_step<L: Ledger>(
     };
     update_slopes_after_handlers(
         &at,
-        &left,
+        &handled,
         s.slopes.as_mut_slice(),
         s.lines.as_mut_slice(),
         &mut s.agenda,
         steps,
     );
     update_detectors_after_handlers(m, tick, s);
-    schedule_event_step_risen(tick, s);
+    schedule_next_if_risen(tick, s);
 }
 
 // Sets whether a condition became true during the handlers of a tick. If so, it schedules the next
 // tick.
-fn schedule_event_step_risen(tick: u64, s: &mut Store)
+fn schedule_next_if_risen(tick: u64, s: &mut Store)
     requires at_arrival { length s.old.conditions.at_arrival.items
         ≡ length s.old.conditions.after_handlers.items }
     requires places { length s.old.agenda
@@ -481,13 +477,13 @@ fn schedule_event_step_risen(tick: u64, s: &mut Store)
 }
 
 // Sets the end rows, with the states at the last tick.
-fn set_event_step_ends(m: &Machine, s: &mut Store)
+fn set_last_rows(m: &Machine, s: &mut Store)
     requires { IsStoreAt m.now m.now.last s.old }
     ensures rows { s.new.rows.items ≡ snapshot_rows kind.End m.now.last (snapshot_of m.now.last s.old) }
     ensures snapshot { snapshot_of m.now.last s.new ≡ snapshot_of m.now.last s.old }
 {
-    move_event_step_work(s.lines.as_slice(), m.last, &mut s.work);
-    set_event_step_snapshot(
+    move_work_states(s.lines.as_slice(), m.last, &mut s.work);
+    set_all_rows(
         RowKind::End,
         m.last,
         s.work.x.as_slice(),
@@ -498,17 +494,17 @@ fn set_event_step_ends(m: &Machine, s: &mut Store)
 }
 
 /// Sets the states in the values of handlers to those on their lines at a tick.
-pub(crate) fn move_event_step_work(lines: &[Integrator], tick: u64, work: &mut Work)
+pub(crate) fn move_work_states(lines: &[Integrator], tick: u64, work: &mut Work)
     requires same_length { length work.old.x ≡ length lines.now }
     requires not_later { (j : ℕ) → j < length lines.now → (line_at lines.now j).tick ≤ tick }
     requires tick_limit { tick < 2 ^ 32 }
     ensures { work.new ≡ record work.old { x = states_at lines.now tick } }
 {
-    move_event_step_states(lines, tick, work.x.as_mut_slice());
+    move_states_along_lines(lines, tick, work.x.as_mut_slice());
 }
 
 // The states at a tick, along their lines.
-fn move_event_step_states(lines: &[Integrator], tick: u64, x: &mut [i128])
+fn move_states_along_lines(lines: &[Integrator], tick: u64, x: &mut [i128])
     requires { MayArrive tick lines.now x.old }
     ensures { x.new ≡ tabulate (length lines.now) (λ j. state_at (line_at lines.now j) tick) }
 {
@@ -518,7 +514,7 @@ fn move_event_step_states(lines: &[Integrator], tick: u64, x: &mut [i128])
 }
 
 /// Sets the rows of all states and discrete variables, at the start or at the end.
-pub(crate) fn set_event_step_snapshot(
+pub(crate) fn set_all_rows(
     kind: RowKind,
     tick: u64,
     x: &[i128],
@@ -534,12 +530,12 @@ pub(crate) fn set_event_step_snapshot(
     ensures room { vec_capacity rows.new ≡ vec_capacity rows.old }
 {
     rows.clear();
-    add_event_step_states(kind, tick, x, levels, rows);
+    add_state_rows(kind, tick, x, levels, rows);
     add_event_discrete_rows(kind, tick, x.len(), d, rows);
 }
 
 // Appends a row of each state.
-fn add_event_step_states(kind: RowKind, tick: u64, x: &[i128], levels: &[i64], rows: &mut Vec<Row>)
+fn add_state_rows(kind: RowKind, tick: u64, x: &[i128], levels: &[i64], rows: &mut Vec<Row>)
     requires count_limit { length x.now ≤ 4096 }
     requires same_length { length levels.now ≡ length x.now }
     requires room { vec_len rows.old + length x.now ≤ vec_capacity rows.old }

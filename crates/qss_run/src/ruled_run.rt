@@ -30,7 +30,7 @@ pub(crate) struct RuledRun<L: Ledger> {
     pub rule: Rule,
     pub filter: Filter,
     pub ghost named: { sim.quantizer.name ≡ Some rule },
-    pub ghost known: { All (HasVariable sim.course.machine) (remaining_rows rule sim.course) },
+    pub ghost known: { All (HasVariable sim.run.machine) (remaining_rows rule sim.run) },
 }
 
 impl<L: Ledger> Simulation for RuledRun<L> {
@@ -39,17 +39,19 @@ impl<L: Ledger> Simulation for RuledRun<L> {
     ghost use Rattle.qss_events.specs.Events.{rows_left};
     ghost use Rattle.qss_events.specs.RemainingRows.{row_lines, remaining_run, outcome_of, EndsFrom};
 
-    ghost machine = { λ run. run.sim.course.machine };
+    ghost machine = { λ run. run.sim.run.machine };
 
-    ghost present = { λ run. row_lines run.filter run.sim.course.machine run.sim.course.rows };
+    ghost present = { λ run. row_lines run.filter run.sim.run.machine run.sim.run.rows };
 
-    ghost to_come = { λ run. row_lines run.filter run.sim.course.machine (rows_left (level_by run.rule) run.sim.course) };
+    ghost to_come = { λ run. row_lines run.filter run.sim.run.machine
+        (rows_left (level_by run.rule) run.sim.run) };
 
-    ghost ticks_left = { λ run. run.sim.course.machine.last - run.sim.course.tick };
+    ghost ticks_left = { λ run. run.sim.run.machine.last - run.sim.run.tick };
 
-    ghost goes_on = { λ run. run.sim.course.end ≡ None };
+    ghost goes_on = { λ run. run.sim.run.end ≡ None };
 
-    ghost ends = { λ run end. EndsFrom (outcome_of end) run.sim.course.tick (remaining_run run.rule run.sim.course) };
+    ghost ends = { λ run end. EndsFrom (outcome_of end) run.sim.run.tick
+        (remaining_run run.rule run.sim.run) };
 
     fn next_event(&mut self) -> Option<RunEnd> {
         match self.sim.next_event(&mut self.steps) {

@@ -13,7 +13,7 @@ ghost use Rattle.mu_num.specs.IndexedSums.{tabulate};
 use qss_cross::Detector;
 use qss_machine::{Condition, Machine, Rel, Uses};
 use qss_quant::Integrator;
-use qss_sched::{PlaceSet, equal_list};
+use qss_sched::{PlaceSet, repeat_value};
 use std::alloc::{AllocError, Global};
 
 /// A branch of a clause. Both are indices from 0.
@@ -90,7 +90,7 @@ pub fn blank_conditions(alloc: Global, m: &Machine) -> Result<Conditions, AllocE
     let (at_arrival, after_handlers) = condition_flag_lists(alloc, count)?;
     Ok(Conditions {
         branches,
-        detectors: equal_list(alloc, resting_condition_watch(), count)?,
+        detectors: repeat_value(alloc, resting_detector(), count)?,
         at_arrival,
         after_handlers,
         flipped: PlaceSet::empty(alloc, count)?,
@@ -150,13 +150,13 @@ fn condition_flag_lists(alloc: Global, count: usize) -> Result<(Vec<bool>, Vec<b
         (λ lists. let flags = replicate count false in (lists.0.items ≡ flags)
         × (lists.1.items ≡ flags)) }
 {
-    let first = equal_list(alloc, false, count)?;
-    let second = equal_list(alloc, false, count)?;
+    let first = repeat_value(alloc, false, count)?;
+    let second = repeat_value(alloc, false, count)?;
     Ok((first, second))
 }
 
 // A placeholder detector: the constant 0.
-fn resting_condition_watch() -> Detector
+fn resting_detector() -> Detector
     ensures { result ≡ record { rel = Less; tick = 0; value = pos 0; speed = pos 0 } }
 {
     Detector {

@@ -20,13 +20,13 @@ ghost use Rattle.qss_states.specs.EventContexts.{HasOneEach};
 ghost use Rattle.qss_events.specs.Schedules.{IsDue};
 ghost use Rattle.qss_run.specs.Stores.{snapshot_of, AreAllScheduled, IsStoreAt, IsBlank};
 
-use crate::event_steps::set_event_step_snapshot;
+use crate::event_steps::set_all_rows;
 use crate::run_conditions::{ConditionValues, Conditions, blank_conditions};
 use qss_events::{event_start_levels, event_tick_leaving_level};
 use qss_hand::Work;
 use qss_machine::{Machine, Row, RowKind, Uses};
 use qss_quant::Integrator;
-use qss_sched::{Agenda, equal_list};
+use qss_sched::{Agenda, repeat_value};
 use qss_states::Weights;
 use std::alloc::{AllocError, Global};
 
@@ -71,19 +71,22 @@ pub(crate) fn start_run_store(alloc: Global, m: &Machine) -> Result<Store, Alloc
 fn blank_run_store(alloc: Global, m: &Machine) -> Result<Store, AllocError>
     ensures { IfOk result (λ s. IsBlank m.now s) }
 {
-    let watched = blank_conditions(alloc, m)?;
+    let condition_set = blank_conditions(alloc, m)?;
     let work = Work::new(alloc, m)?;
     let levels = event_start_levels(alloc, m)?;
     let states = levels.len();
-    let conditions = watched.branches.len();
-    let (moved, changed, fired, assigned, touched) =
-        start_number_lists(alloc, states, conditions, work.log.capacity())?;
+    let conditions = condition_set.branches.len();
+    let (moved, changed, fired, assigned, touched) = start_number_lists(
+        alloc,
+        states,
+        conditions,
+        work.log.capacity(),
+    )?;
     let (lines, slopes, of_rows) = start_state_lists(alloc, states)?;
     let room = work.log.capacity() + states + work.d.len() + 1;
-    let (uses, agenda, rows) =
-        start_event_lists(alloc, m, (states + conditions + 1) as u32, room)?;
+    let (uses, agenda, rows) = start_event_lists(alloc, m, (states + conditions + 1) as u32, room)?;
     Ok(Store {
-        conditions: watched,
+        conditions: condition_set,
         uses,
         lines,
         levels,
@@ -138,9 +141,9 @@ fn start_state_lists(
         × (length lists.1.items ≡ states)
         × (length lists.2.items ≡ states)) }
 {
-    let lines = equal_list(alloc, start_resting_line(), states)?;
-    let slopes = equal_list(alloc, 0, states)?;
-    let of_rows = equal_list(alloc, 0, states)?;
+    let lines = repeat_value(alloc, start_resting_line(), states)?;
+    let slopes = repeat_value(alloc, 0, states)?;
+    let of_rows = repeat_value(alloc, 0, states)?;
     Ok((lines, slopes, of_rows))
 }
 
@@ -180,7 +183,7 @@ fn begin(m: &Machine, s: &mut Store)
     ensures snapshot { snapshot_of 0 s.new ≡ start_snapshot m.now }
     ensures rows { s.new.rows.items ≡ snapshot_rows kind.Start 0 (start_snapshot m.now) }
 {
-    schedule_run_start(
+    start_lines_and_detectors(
         m,
         &s.work,
         s.levels.as_slice(),
@@ -196,16 +199,16 @@ fn begin(m: &Machine, s: &mut Store)
 }
 
 // Starts the lines of all states and the detectors of all conditions at tick 0.
-fn schedule_run_start(
+fn start_lines_and_detectors(
     m: &Machine,
     work: &Work,
     levels: &[i64],
     slopes: &mut [i128],
     lines: &mut [Integrator],
-    watched: &mut Conditions,
+    condition_set: &mut Conditions,
     agenda: &mut Agenda,
 )
-    requires fits { AreConditionsOf m.now watched.old }
+    requires fits { AreConditionsOf m.now condition_set.old }
     requires states { work.now.x ≡ start_states m.now }
     requires discretes { work.now.d ≡ start_discretes m.now }
     requires levels { levels.now ≡ map (level_below (level_unit m.now)) (start_states m.now) }
@@ -214,12 +217,15 @@ fn schedule_run_start(
     requires no_dues { HasNone agenda.old }
     ensures set_out { AreAllScheduled m.now work.now.x levels.now work.now.d slopes.new lines.new
         agenda.new }
-    ensures at_arrival { watched.new.at_arrival.items ≡ watched.new.after_handlers.items }
-    ensures after_handlers { watched.new.after_handlers.items ≡ truths m.now work.now.x work.now.d 0 }
-    ensures detectors { AreDetectorsAt m.now 0 work.now.x work.now.d slopes.new watched.new.detectors.items
+    ensures at_arrival { condition_set.new.at_arrival.items
+        ≡ condition_set.new.after_handlers.items }
+    ensures after_handlers { condition_set.new.after_handlers.items
+        ≡ truths m.now work.now.x work.now.d 0 }
+    ensures detectors { AreDetectorsAt m.now 0 work.now.x work.now.d slopes.new
+        condition_set.new.detectors.items
         agenda.new }
     ensures rising { due_at agenda.new (state_count m.now + length (conditions m.now)) ≡ None }
-    ensures fits { AreConditionsOf m.now watched.new }
+    ensures fits { AreConditionsOf m.now condition_set.new }
     ensures places { length agenda.new ≡ length agenda.old }
 {
     let x = work.x.as_slice();
@@ -231,9 +237,9 @@ fn schedule_run_start(
         discretes: d,
         slopes,
     };
-    watched.set_all_detectors(m, &start, agenda);
-    let after_handlers = watched.after_handlers.as_slice();
-    watched
+    condition_set.set_all_detectors(m, &start, agenda);
+    let after_handlers = condition_set.after_handlers.as_slice();
+    condition_set
         .at_arrival
         .as_mut_slice()
         .copy_from_slice(after_handlers);
@@ -311,7 +317,7 @@ fn start_run_rows(work: &Work, levels: &[i64], rows: &mut Vec<Row>)
         ++ discrete_rows kind.Start 0 (length work.now.x) work.now.d }
     ensures room { vec_capacity rows.new ≡ vec_capacity rows.old }
 {
-    set_event_step_snapshot(
+    set_all_rows(
         RowKind::Start,
         0,
         work.x.as_slice(),

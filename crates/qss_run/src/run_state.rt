@@ -48,7 +48,7 @@ impl RunState {
     /// A machine at tick 0, with the start rows. All memory of the run is allocated here.
     pub fn new(alloc: Global, m: Machine) -> Result<RunState, AllocError>
         ensures { IfOk result
-            (λ course. course
+            (λ run. run
             ≡ record {
               machine = m;
               tick = 0;

@@ -63,9 +63,9 @@ fn summarize_by<L: Ledger>(blank: Blank, alloc: Global, m: Machine) -> RunSummar
 
 // Runs a machine from its start.
 fn summarize_run<L: Ledger>(alloc: Global, sim: &mut Sim, steps: &mut Steps<L>) -> RunSummary
-    requires start { sim.old.course ≡ first_view sim.old.course.machine }
+    requires start { sim.old.run ≡ first_view sim.old.run.machine }
     requires named { sim.old.quantizer.name ≡ Some Floor }
-    ensures { IsSummary sim.old.course.machine (run_by_rule Floor sim.old.course.machine) result }
+    ensures { IsSummary sim.old.run.machine (run_by_rule Floor sim.old.run.machine) result }
 {
     let counted = count_summary_events(sim, steps);
     match counted.outcome {
@@ -86,11 +86,11 @@ fn summarize_run<L: Ledger>(alloc: Global, sim: &mut Sim, steps: &mut Steps<L>) 
 
 // Advances to the end of a run, and counts the changes of levels.
 fn count_summary_events<L: Ledger>(sim: &mut Sim, steps: &mut Steps<L>) -> Counted
-    requires unended { sim.old.course.end ≡ None }
-    requires start { sim.old.course.tick ≡ 0 }
+    requires unended { sim.old.run.end ≡ None }
+    requires start { sim.old.run.tick ≡ 0 }
     requires named { sim.old.quantizer.name ≡ Some Floor }
-    ensures machine { sim.new.course.machine ≡ sim.old.course.machine }
-    ensures counted { IsCountFrom sim.old.course result.levels result.outcome sim.new.course }
+    ensures machine { sim.new.run.machine ≡ sim.old.run.machine }
+    ensures counted { IsCountFrom sim.old.run result.levels result.outcome sim.new.run }
 {
     let mut levels: u128 = 0;
     'events: loop {

@@ -13,7 +13,7 @@ use std::sync::ledger::Ledger;
 /// due.
 #[derive(Drop)]
 pub struct Sim {
-    pub course: RunState,
+    pub run: RunState,
     pub quantizer: Quantizer,
 }
 
@@ -32,7 +32,7 @@ impl Sim {
     /// A simulator at tick 0, with the start rows. All memory of the run is allocated here.
     pub fn new(alloc: Global, m: Machine, q: Quantizer) -> Result<Sim, AllocError>
         ensures start { IfOk result
-            (λ sim. sim.course
+            (λ sim. sim.run
             ≡ record {
               machine = m;
               tick = 0;
@@ -42,48 +42,45 @@ impl Sim {
             }) }
         ensures rule { IfOk result (λ sim. sim.quantizer ≡ q) }
     {
-        let course = RunState::new(alloc, m)?;
-        Ok(Sim {
-            course,
-            quantizer: q,
-        })
+        let run = RunState::new(alloc, m)?;
+        Ok(Sim { run, quantizer: q })
     }
 
     /// Advances to the next tick that has rows, to an overflow, or to the last tick. After the end
     /// of the run it returns the same outcome again and changes nothing. It allocates no memory.
     pub fn next_event<L: Ledger>(&mut self, steps: &mut Steps<L>) -> Outcome
-        ensures same { (self.new.course.machine ≡ self.old.course.machine)
+        ensures same { (self.new.run.machine ≡ self.old.run.machine)
             × (self.new.quantizer ≡ self.old.quantizer) }
-        ensures again { (end : Outcome) → self.old.course.end ≡ Some end
-            → (result ≡ end) × (self.new.course ≡ self.old.course) × (steps.new ≡ steps.old) }
-        ensures next { self.old.course.end ≡ None
-            → IsNext (IsAllowedLevel self.old.quantizer.name) self.old.course self.new.course result }
+        ensures again { (end : Outcome) → self.old.run.end ≡ Some end
+            → (result ≡ end) × (self.new.run ≡ self.old.run) × (steps.new ≡ steps.old) }
+        ensures next { self.old.run.end ≡ None
+            → IsNext (IsAllowedLevel self.old.quantizer.name) self.old.run self.new.run result }
         ensures rows { (rule : Rule) → self.old.quantizer.name ≡ Some rule
-            → self.old.course.end ≡ None
-            → rows_left (level_by rule) self.old.course
-            ≡ self.new.course.rows ++ rows_left (level_by rule) self.new.course }
-        ensures counted { self.old.course.end ≡ None
-            → MovesTouched (IsAllowedLevel self.old.quantizer.name) self.old.course self.new.course result
+            → self.old.run.end ≡ None
+            → rows_left (level_by rule) self.old.run
+            ≡ self.new.run.rows ++ rows_left (level_by rule) self.new.run }
+        ensures counted { self.old.run.end ≡ None
+            → MovesTouched (IsAllowedLevel self.old.quantizer.name) self.old.run self.new.run result
             (steps.new - steps.old) }
         ensures touched { (rule : Rule) → self.old.quantizer.name ≡ Some rule
-            → self.old.course.end ≡ None
-            → (steps.new - steps.old) + touches_left (level_by rule) self.new.course
-            ≤ touches_left (level_by rule) self.old.course }
+            → self.old.run.end ≡ None
+            → (steps.new - steps.old) + touches_left (level_by rule) self.new.run
+            ≤ touches_left (level_by rule) self.old.run }
     {
-        self.course.next_event(&self.quantizer, steps)
+        self.run.next_event(&self.quantizer, steps)
     }
 
     /// The rows of the last event, or the start rows at tick 0.
     pub fn rows(&self) -> &[Row]
-        ensures { result.now ≡ self.now.course.rows }
+        ensures { result.now ≡ self.now.run.rows }
     {
-        self.course.rows()
+        self.run.rows()
     }
 
     /// Borrows the machine.
     pub fn machine(&self) -> &Machine
-        ensures { result.now ≡ self.now.course.machine }
+        ensures { result.now ≡ self.now.run.machine }
     {
-        self.course.machine()
+        self.run.machine()
     }
 }

@@ -5,7 +5,7 @@ ghost use Rattle.std.specs.Prelude.{◌≡◌, IfOk, replicate};
 use std::alloc::{AllocError, Global};
 
 /// A list of `count` equal elements. It fails if allocation fails.
-pub fn equal_list<T: Copy>(alloc: Global, value: T, count: usize) -> Result<Vec<T>, AllocError>
+pub fn repeat_value<T: Copy>(alloc: Global, value: T, count: usize) -> Result<Vec<T>, AllocError>
     ensures { IfOk result (λ list. list.items ≡ replicate count value) }
 {
     let mut list: Vec<T> = Vec::with_capacity(alloc, count)?;

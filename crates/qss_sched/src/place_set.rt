@@ -3,7 +3,7 @@
 ghost use Rattle.std.specs.Prelude.{◌≡◌, ◌<◌, All, false, length};
 ghost use Rattle.mu_num.specs.Writes.{IsWritten};
 
-use crate::equal_lists::equal_list;
+use crate::equal_lists::repeat_value;
 use std::alloc::{AllocError, Global};
 use std::marker::Model;
 
@@ -36,7 +36,7 @@ impl PlaceSet {
         ensures { IfOk result (λ made. made ≡ record { places = []; count = count }) }
     {
         let listed = Vec::with_capacity(alloc, count)?;
-        let among = equal_list(alloc, false, count)?;
+        let among = repeat_value(alloc, false, count)?;
         Ok(PlaceSet { listed, among })
     }
 

@@ -74,19 +74,19 @@ module _ {at : NewSlopes} {j : ℕ} {lines : List Line} {dues : List (Option ℕ
       line_at (set lines j new) j ≡ record (line_at lines j) { tick = tick; x = state_at (line_at lines j) tick }
   moved_read tick line new is = get_or-set_same lines j new no_line has_line ∙ is ∙ ap (λ (l : Line). record l { tick = tick; x = state_at l tick }) (line_read line)
 
-  pub small_level : IsWithin 43 (int_at at.taken.levels.now j)
+  pub small_level : IsWithin 43 (int_at at.event.levels.now j)
   small_level = can.all.new.small_levels j (pos 0) (omega (arith, can.all.new.levels, can.known))
 
   pub small_slope : IsWithin 88 (int_at at.slopes.now j)
   small_slope = can.all.small_slopes j (pos 0) (omega (arith, can.all.one_each.slopes, can.known))
 
-  pub level_read : to_z w64 (of_z w64 (int_at at.taken.levels.now j)) ≡ int_at at.taken.levels.now j
-  level_read = let fits : FitsSigned w64 (int_at at.taken.levels.now j) = omega (arith, ints, small_level) in to_z-of_z w64 (int_at at.taken.levels.now j) fits
+  pub level_read : to_z w64 (of_z w64 (int_at at.event.levels.now j)) ≡ int_at at.event.levels.now j
+  level_read = let fits : FitsSigned w64 (int_at at.event.levels.now j) = omega (arith, ints, small_level) in to_z-of_z w64 (int_at at.event.levels.now j) fits
 
   pub slope_read : to_z w128 (of_z w128 (int_at at.slopes.now j)) ≡ int_at at.slopes.now j
   slope_read = let fits : FitsSigned w128 (int_at at.slopes.now j) = omega (arith, ints, small_slope) in to_z-of_z w128 (int_at at.slopes.now j) fits
 
-  pub state_read : (x : List ℤ) → AreStatesOf at.taken.machine.now x → to_z w128 (of_z w128 (int_at x j)) ≡ int_at x j
+  pub state_read : (x : List ℤ) → AreStatesOf at.event.machine.now x → to_z w128 (of_z w128 (int_at x j)) ≡ int_at x j
   state_read x states =
       let small : IsWithin 88 (int_at x j) = states.small j (pos 0) (omega (arith, states.as_many, can.known)) in
       let fits : FitsSigned w128 (int_at x j) = omega (arith, ints, small) in

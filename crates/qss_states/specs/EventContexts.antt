@@ -92,13 +92,13 @@ pub record CanFollow (kind : RowSum) (at : NewLevels) (discretes sums : List ℤ
 -- the slopes of all rows, within 100 bits, may be updated for a new level of a state, and the
 -- states of its readers be listed
 pub record CanFollowLevel (at : EventLevels) (state : ℕ) (slopes : List ℤ) (lines : List Line) (touched : List ℕ) (room : ℕ) : Type 0 where
-  pub new : AreNewLevels at.taken
-  pub mode : IsMode (record { machine = at.taken.machine; discretes = at.discretes })
-  pub known : state < state_count at.taken.machine.now
-  pub many_slopes : length slopes ≡ state_count at.taken.machine.now
-  pub small_slopes : (j : ℕ) → j < state_count at.taken.machine.now → IsWithin 100 (int_at slopes j)
-  pub many_lines : length lines ≡ state_count at.taken.machine.now
-  pub can : CanAdvance at.taken.tick lines touched room
+  pub new : AreNewLevels at.event
+  pub mode : IsMode (record { machine = at.event.machine; discretes = at.discretes })
+  pub known : state < state_count at.event.machine.now
+  pub many_slopes : length slopes ≡ state_count at.event.machine.now
+  pub small_slopes : (j : ℕ) → j < state_count at.event.machine.now → IsWithin 100 (int_at slopes j)
+  pub many_lines : length lines ≡ state_count at.event.machine.now
+  pub can : CanAdvance at.event.tick lines touched room
 
 -- absolute row sums and lines at the old levels, and at discrete values
 abbrev pub WereWeights : NewLevels → List ℤ → Weights → List Line → Type 0
@@ -174,21 +174,21 @@ pub record HasOneEach (m : Machine) (slopes_old : List ℤ) (lines_old : List Li
 -- the states of a machine may continue from a tick up to 2^32 at their new levels and slopes, each
 -- with a line and an index in an event queue
 pub record CanSchedule (at : NewSlopes) (lines_old : List Line) (dues_old : List (Option ℕ)) : Type 0 where
-  pub new : AreNewLevels at.taken
-  pub one_each : HasOneEach at.taken.machine.now at.slopes.now lines_old dues_old
+  pub new : AreNewLevels at.event
+  pub one_each : HasOneEach at.event.machine.now at.slopes.now lines_old dues_old
   pub small_slopes : All (IsWithin 88) at.slopes.now
-  pub in_time : at.taken.tick ≤ tick_limit
+  pub in_time : at.event.tick ≤ tick_limit
 
 -- one state of a machine may continue in this way
 pub record CanScheduleOne (at : NewSlopes) (j : ℕ) (lines_old : List Line) (dues_old : List (Option ℕ)) : Type 0 where
-  pub known : j < state_count at.taken.machine.now
+  pub known : j < state_count at.event.machine.now
   pub all : CanSchedule at lines_old dues_old
 
 -- the states of a machine may continue in this way; each line may also be left if it already does
 pub record CanUpdateSlopes (at : NewSlopes) (lines_old : List Line) (dues_old : List (Option ℕ)) : Type 0 where
   pub on : CanSchedule at lines_old dues_old
-  pub each : (j : ℕ) → j < state_count at.taken.machine.now →
-      MayUpdateSlope at.taken.machine.now at.taken.tick (int_at at.taken.levels.now j) (int_at at.slopes.now j) j (line_at lines_old j) (due_at dues_old j)
+  pub each : (j : ℕ) → j < state_count at.event.machine.now →
+      MayUpdateSlope at.event.machine.now at.event.tick (int_at at.event.levels.now j) (int_at at.slopes.now j) j (line_at lines_old j) (due_at dues_old j)
 
 -- a value of each state, within the limit
 pub record AreStatesOf (m : Machine) (x : List ℤ) : Type 0 where
@@ -197,7 +197,7 @@ pub record AreStatesOf (m : Machine) (x : List ℤ) : Type 0 where
 
 -- the slopes of all rows at the new levels, at an event-free change of levels
 abbrev pub quiet_slopes : EventLevels → List ℤ
-quiet_slopes at = new_slopes at.taken at.discretes.now
+quiet_slopes at = new_slopes at.event at.discretes.now
 
 -- these states are within the quanta of these levels, at which, with these discrete values, no row
 -- exceeds its limits
@@ -217,21 +217,21 @@ pub record HeldBefore (m : Machine) (tick : ℕ) (moved : List ℕ) (levels disc
 -- the moved states may continue at their new levels, and all states at their new slopes; no line
 -- has moved to the tick yet
 pub record CanUpdateSlopesOf (at : EventLevels) (slopes_old : List ℤ) (lines_old : List Line) (dues_old : List (Option ℕ)) : Type 0 where
-  pub new : AreNewLevelsAt at.taken at.discretes.now
-  pub levels : AreLevelsFor at.taken.machine.now (states_at lines_old at.taken.tick) at.taken.levels.now at.discretes.now
-  pub one_each : HasOneEach at.taken.machine.now slopes_old lines_old dues_old
-  pub held : HeldBefore at.taken.machine.now at.taken.tick at.taken.moved.now at.taken.levels.now at.discretes.now slopes_old lines_old dues_old
-  pub earlier : (j : ℕ) → j < state_count at.taken.machine.now → (line_at lines_old j).tick < at.taken.tick
+  pub new : AreNewLevelsAt at.event at.discretes.now
+  pub levels : AreLevelsFor at.event.machine.now (states_at lines_old at.event.tick) at.event.levels.now at.discretes.now
+  pub one_each : HasOneEach at.event.machine.now slopes_old lines_old dues_old
+  pub held : HeldBefore at.event.machine.now at.event.tick at.event.moved.now at.event.levels.now at.discretes.now slopes_old lines_old dues_old
+  pub earlier : (j : ℕ) → j < state_count at.event.machine.now → (line_at lines_old j).tick < at.event.tick
 
 -- all states continue from a tick at the new levels and slopes, in an event queue of the same
 -- length; the moves of lines are at most those of the moved states and their readers
 pub record AreAllScheduled (at : EventLevels) (slopes_new : List ℤ) (old new : Schedules) (steps_old steps_new : ℕ) : Type 0 where
   pub slopes : slopes_new ≡ quiet_slopes at
-  pub lines : (j : ℕ) → j < state_count at.taken.machine.now →
-      IsRestartedFrom at.taken.machine.now at.taken.tick (state_at (line_at old.lines j) at.taken.tick) (int_at at.taken.levels.now j)
-      (slope_at at.taken.machine.now j at.taken.levels.now at.discretes.now) j (line_at new.lines j) (due_at new.dues j)
+  pub lines : (j : ℕ) → j < state_count at.event.machine.now →
+      IsRestartedFrom at.event.machine.now at.event.tick (state_at (line_at old.lines j) at.event.tick) (int_at at.event.levels.now j)
+      (slope_at at.event.machine.now j at.event.levels.now at.discretes.now) j (line_at new.lines j) (due_at new.dues j)
   pub places : length new.dues ≡ length old.dues
-  pub counted : steps_new ≤ steps_old + count_by (is_listed (reached at.taken.machine.now at.taken.moved.now)) (range_with_len 0 (state_count at.taken.machine.now))
+  pub counted : steps_new ≤ steps_old + count_by (is_listed (reached at.event.machine.now at.event.moved.now)) (range_with_len 0 (state_count at.event.machine.now))
 
 -- the states after handlers: the moved ones as the handlers left them, the others along their lines
 abbrev pub states_left : NewLevels → HandlerResult → List Line → List ℤ

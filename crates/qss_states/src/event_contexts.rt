@@ -28,7 +28,7 @@ pub struct NewLevels<'a> {
 /// 2^-(f+p+k) per tick and at most 2^88 in absolute value.
 #[derive(Clone, Copy)]
 pub(crate) struct NewSlopes<'a> {
-    pub taken: NewLevels<'a>,
+    pub event: NewLevels<'a>,
     pub slopes: &'a [i128],
 }
 
@@ -36,7 +36,7 @@ pub(crate) struct NewSlopes<'a> {
 /// do not change. They are in units of 2^-f and at most 2^43 in absolute value.
 #[derive(Clone, Copy)]
 pub struct EventLevels<'a> {
-    pub taken: NewLevels<'a>,
+    pub event: NewLevels<'a>,
     pub discretes: &'a [i64],
 }
 

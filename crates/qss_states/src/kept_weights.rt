@@ -22,7 +22,7 @@ ghost use Rattle.qss_states.specs.SumMarks.{AreReaderSums, AreReadersMarkedOr, A
 
 use crate::event_contexts::{HandlerResult, NewLevels};
 use crate::row_sum_changes::{RowSum, update_all_row_sums};
-use crate::safe_bounds::{WEIGHT_BITS, is_safe_bound_kept, safe_bound_for};
+use crate::safe_bounds::{WEIGHT_BITS, are_places_within, start_row_bound};
 use crate::sum_marks::{is_sum_marked, mark_reader_sums};
 use mu_num::exceeds_power_of_two;
 use qss_machine::{Machine, Uses};
@@ -55,7 +55,7 @@ impl Weights {
         ensures kept { self.new.kept ≡ true → (bound : ℕ) → IsSafeBound m.now (Some bound)
             → All (IsUpTo bound) levels.now → All (IsUpTo bound) d.now → ⊥ }
     {
-        if let Some(bound) = safe_bound_for(m, levels, d) {
+        if let Some(bound) = start_row_bound(m, levels, d) {
             self.bound = bound;
             self.kept = false;
             return;
@@ -86,9 +86,9 @@ impl Weights {
             → self.new.kept ≡ false }
     {
         if self.kept {
-            return update_kept_weights(at, d, lines, self.of_rows.as_mut_slice());
+            return refresh_row_sums(at, d, lines, self.of_rows.as_mut_slice());
         }
-        if is_safe_bound_kept(at.levels, at.moved, 0, self.bound) {
+        if are_places_within(at.levels, at.moved, 0, self.bound) {
             return None;
         }
         self.kept = true;
@@ -102,30 +102,30 @@ impl Weights {
     pub(crate) fn update_weights_after_handlers(
         &mut self,
         at: &NewLevels,
-        left: &HandlerResult,
+        handled: &HandlerResult,
         lines: &[Integrator],
     ) -> Option<u32>
-        requires allowed { CanUpdateAfterHandlers at.now left.now lines.now }
-        requires before { WereWeights at.now left.now.before.now self.old lines.now }
-        ensures overflow { result ≡ first_row_exceeding at.now left.now.discretes.now }
+        requires allowed { CanUpdateAfterHandlers at.now handled.now lines.now }
+        requires before { WereWeights at.now handled.now.before.now self.old lines.now }
+        ensures overflow { result ≡ first_row_exceeding at.now handled.now.discretes.now }
         ensures weights { result ≡ None
             → AreWeights at.now.machine.now
-            at.now.levels.now left.now.discretes.now self.new }
+            at.now.levels.now handled.now.discretes.now self.new }
         ensures stay { StayKept self.old self.new }
         ensures off { self.old.kept ≡ false
             → AreUpToAt self.old.bound at.now.levels.now 0 at.now.moved.now
-            → AreUpToAt self.old.bound left.now.discretes.now
-            (state_count at.now.machine.now) left.now.assigned.now
+            → AreUpToAt self.old.bound handled.now.discretes.now
+            (state_count at.now.machine.now) handled.now.assigned.now
             → self.new.kept ≡ false }
     {
         if self.kept {
-            return update_kept_weights_after_handlers(at, left, lines, self.of_rows.as_mut_slice());
+            return refresh_row_sums_after_handlers(at, handled, lines, self.of_rows.as_mut_slice());
         }
-        if is_kept_weight_avoidable(at, left, self.bound) {
+        if are_new_values_within(at, handled, self.bound) {
             return None;
         }
         self.kept = true;
-        let d = left.discretes;
+        let d = handled.discretes;
         weigh_kept_within_limit(at.machine, at.levels, d, self.of_rows.as_mut_slice())
     }
 }
@@ -143,7 +143,7 @@ pub(crate) fn weigh_all_kept_rows(m: &Machine, levels: &[i64], d: &[i64], weight
 /// Updates the absolute row sums of all rows, at these discrete values, for the new levels of the
 /// moved states. The old levels are those of their lines. It returns the least row that exceeds its
 /// limits, if any.
-pub(crate) fn update_kept_weights(
+pub(crate) fn refresh_row_sums(
     at: &NewLevels,
     d: &[i64],
     lines: &[Integrator],
@@ -154,12 +154,12 @@ pub(crate) fn update_kept_weights(
     ensures weights { weights.new ≡ weights_at at.now.machine.now at.now.levels.now d.now }
 {
     update_all_row_sums(RowSum::Weight, at, d, lines, weights);
-    least_kept_weight_reader(at.uses, at.moved, weights, None)
+    least_exceeding_reader(at.uses, at.moved, weights, None)
 }
 
 /// The least row that reads one of these variables and whose absolute row sum exceeds the limit, if
 /// it is before the row that was found. Otherwise the row that was found.
-pub(crate) fn least_kept_weight_reader(
+pub(crate) fn least_exceeding_reader(
     uses: &Uses,
     variables: &[u32],
     weights: &[i128],
@@ -174,33 +174,33 @@ pub(crate) fn least_kept_weight_reader(
 {
     let mut least = found;
     for var in variables {
-        least = least_kept_weight_exceeding(weights, uses.rows_of(*var), least);
+        least = least_exceeding_row(weights, uses.rows_of(*var), least);
     }
     least
 }
 
 // The least of these rows whose absolute row sum exceeds the limit, if it is before the row that
 // was found. Otherwise the row that was found.
-fn least_kept_weight_exceeding(weights: &[i128], rows: &[u32], found: Option<u32>) -> Option<u32>
+fn least_exceeding_row(weights: &[i128], rows: &[u32], found: Option<u32>) -> Option<u32>
     requires rows { All (λ row. row < length weights.now) rows.now }
     ensures { (before : List ℕ) → IsLeastPast weights.now before found
         → IsLeastPast weights.now (before ++ rows.now) result }
 {
     let mut least = found;
     for row in rows {
-        least = lesser_kept_weight_exceeding(weights, *row, least);
+        least = earlier_exceeding_row(weights, *row, least);
     }
     least
 }
 
 // This row if its absolute row sum exceeds the limit and it is before the row that was found.
 // Otherwise the row that was found.
-fn lesser_kept_weight_exceeding(weights: &[i128], row: u32, found: Option<u32>) -> Option<u32>
+fn earlier_exceeding_row(weights: &[i128], row: u32, found: Option<u32>) -> Option<u32>
     requires row { row < length weights.now }
     ensures { (rows : List ℕ) → IsLeastPast weights.now rows found
         → IsLeastPast weights.now (rows ++ row ∷ []) result }
 {
-    if !is_lesser_kept_weight(found, row) {
+    if !is_row_before(found, row) {
         return found;
     }
     if exceeds_power_of_two(weights[row as usize], WEIGHT_BITS) {
@@ -210,7 +210,7 @@ fn lesser_kept_weight_exceeding(weights: &[i128], row: u32, found: Option<u32>) 
 }
 
 // Whether a row is before the row that was found, if any.
-fn is_lesser_kept_weight(found: Option<u32>, row: u32) -> bool
+fn is_row_before(found: Option<u32>, row: u32) -> bool
     ensures { result ≡ comes_before found row }
 {
     match found {
@@ -258,29 +258,29 @@ fn weigh_kept_row(m: &Machine, row: u32, levels: &[i64], d: &[i64]) -> i128
 /// Updates the absolute row sums of all rows for the new levels of the moved states and the new
 /// values of the assigned discrete variables. The old levels are those of the lines. It returns the
 /// least row that exceeds its limits, if any. In this case the sums are unspecified.
-pub(crate) fn update_kept_weights_after_handlers(
+pub(crate) fn refresh_row_sums_after_handlers(
     at: &NewLevels,
-    left: &HandlerResult,
+    handled: &HandlerResult,
     lines: &[Integrator],
     weights: &mut [i128],
 ) -> Option<u32>
-    requires allowed { CanUpdateAfterHandlers at.now left.now lines.now }
-    requires before { WereSums sum.Weight at.now left.now.before.now weights.old lines.now }
-    ensures overflow { result ≡ first_row_exceeding at.now left.now.discretes.now }
+    requires allowed { CanUpdateAfterHandlers at.now handled.now lines.now }
+    requires before { WereSums sum.Weight at.now handled.now.before.now weights.old lines.now }
+    ensures overflow { result ≡ first_row_exceeding at.now handled.now.discretes.now }
     ensures weights { result ≡ None
-        → weights.new ≡ weights_at at.now.machine.now at.now.levels.now left.now.discretes.now }
+        → weights.new ≡ weights_at at.now.machine.now at.now.levels.now handled.now.discretes.now }
 {
-    update_all_row_sums(RowSum::Weight, at, left.before, lines, weights);
+    update_all_row_sums(RowSum::Weight, at, handled.before, lines, weights);
     weigh_kept_readers(
         at.machine,
         at.uses,
-        left.assigned,
+        handled.assigned,
         at.levels,
-        left.discretes,
+        handled.discretes,
         weights,
     );
-    let least = least_kept_weight_reader(at.uses, at.moved, weights, None);
-    least_kept_weight_reader(at.uses, left.assigned, weights, least)
+    let least = least_exceeding_reader(at.uses, at.moved, weights, None);
+    least_exceeding_reader(at.uses, handled.assigned, weights, least)
 }
 
 // Recomputes the absolute row sums of the rows that read one of these discrete variables, each
@@ -344,16 +344,16 @@ fn weigh_marked_rows(m: &Machine, rows: &[u32], levels: &[i64], d: &[i64], weigh
 
 // Whether the levels of the moved states and the values of the assigned discrete variables are at
 // most a bound in absolute value.
-fn is_kept_weight_avoidable(at: &NewLevels, left: &HandlerResult, bound: u64) -> bool
+fn are_new_values_within(at: &NewLevels, handled: &HandlerResult, bound: u64) -> bool
     requires ready { AreNewLevels at.now }
-    requires left { IsHandlerResult at.now.machine.now left.now }
+    requires handled { IsHandlerResult at.now.machine.now handled.now }
     ensures { IsTrue result ↔ (AreUpToAt bound at.now.levels.now 0 at.now.moved.now
-        × AreUpToAt bound left.now.discretes.now
-        (state_count at.now.machine.now) left.now.assigned.now) }
+        × AreUpToAt bound handled.now.discretes.now
+        (state_count at.now.machine.now) handled.now.assigned.now) }
 {
-    if !is_safe_bound_kept(at.levels, at.moved, 0, bound) {
+    if !are_places_within(at.levels, at.moved, 0, bound) {
         return false;
     }
     let states = at.levels.len() as u32;
-    is_safe_bound_kept(left.discretes, left.assigned, states, bound)
+    are_places_within(handled.discretes, handled.assigned, states, bound)
 }

@@ -27,7 +27,7 @@ use crate::event_contexts::{Arrival, HandlerArrival, HandlerResult, NewLevels};
 use crate::kept_weights::Weights;
 use crate::safe_bounds::{LEVEL_BITS, STATE_BITS};
 use mu_num::exceeds_power_of_two;
-use qss_events::next_event_level;
+use qss_events::requantize_level;
 use qss_hand::Work;
 use qss_machine::{Row, RowKind};
 use qss_quant::{Integrator, Quantizer};
@@ -87,13 +87,13 @@ pub fn requantize_after_handlers(
         moved: at.moved,
         levels,
     };
-    let left = HandlerResult {
+    let handled = HandlerResult {
         assigned: at.assigned,
         states: x,
         before: pre,
         discretes: d,
     };
-    weights.update_weights_after_handlers(&new, &left, at.lines)
+    weights.update_weights_after_handlers(&new, &handled, at.lines)
 }
 
 /// Moves the due states and sets their new levels. The rows are only those of the levels. It
@@ -206,7 +206,7 @@ fn requantize_due_levels(
     let mut first = None;
     for state in at.moved {
         let j = *state as usize;
-        let fresh = next_event_level(at.machine, q, *state, x[j], levels[j], unit);
+        let fresh = requantize_level(at.machine, q, *state, x[j], levels[j], unit);
         let past = set_requantized_within_limit(rows, at.tick, *state, &mut levels[j], fresh, x[j]);
         first = first_requantized_past(first, *state, past);
     }

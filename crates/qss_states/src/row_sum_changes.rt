@@ -96,7 +96,7 @@ fn update_row_sums(
     let coefficients = uses.coefficients_of(state);
     for place in 0..rows.len() {
         let row = rows[place];
-        let change = row_sum_change(kind, at, coefficients[place], row, state, old, new);
+        let change = sum_difference(kind, at, coefficients[place], row, state, old, new);
         sums[row as usize] += change;
     }
 }
@@ -104,7 +104,7 @@ fn update_row_sums(
 /// The change of a sum of a row if a state changes its level. `own` is the coefficient of the state
 /// in the row without products.
 #[inline(always)]
-pub(crate) fn row_sum_change(
+pub(crate) fn sum_difference(
     kind: RowSum,
     at: &Mode,
     own: i64,

@@ -29,19 +29,19 @@ pub(crate) const WEIGHT_BITS: u8 = 88;
 /// The greatest number that all rows allow, among the limit of levels and its successive halves. No
 /// row exceeds its limits while levels and discrete values are at most this bound in absolute
 /// value. It is `None` if one of these values is already greater, or if no such number exists.
-pub(crate) fn safe_bound_for(m: &Machine, levels: &[i64], d: &[i64]) -> Option<u64>
+pub(crate) fn start_row_bound(m: &Machine, levels: &[i64], d: &[i64]) -> Option<u64>
     ensures found { (bound : ℕ) → result ≡ Some bound → IsSafeBound m.now (Some bound) }
     ensures size_limit { (bound : ℕ) → result ≡ Some bound → AreSmall m.now bound levels.now d.now }
     ensures none { result ≡ None → (bound : ℕ) → IsSafeBound m.now (Some bound)
         → All (IsUpTo bound) levels.now → All (IsUpTo bound) d.now → ⊥ }
 {
-    let Some(bound) = safe_bound(m) else {
+    let Some(bound) = greatest_row_bound(m) else {
         return None;
     };
-    if !is_within_safe_bound(levels, bound) {
+    if !are_values_within(levels, bound) {
         return None;
     }
-    if !is_within_safe_bound(d, bound) {
+    if !are_values_within(d, bound) {
         return None;
     }
     Some(bound)
@@ -49,7 +49,7 @@ pub(crate) fn safe_bound_for(m: &Machine, levels: &[i64], d: &[i64]) -> Option<u
 
 /// Whether the values at these indices, counted from `first`, are at most a bound in absolute
 /// value.
-pub(crate) fn is_safe_bound_kept(values: &[i64], places: &[u32], first: u32, bound: u64) -> bool
+pub(crate) fn are_places_within(values: &[i64], places: &[u32], first: u32, bound: u64) -> bool
     requires from { All (λ place. first ≤ place) places.now }
     requires known { All (λ place. place < first + length values.now) places.now }
     ensures { IsTrue result ↔ AreUpToAt bound values.now first places.now }
@@ -65,7 +65,7 @@ pub(crate) fn is_safe_bound_kept(values: &[i64], places: &[u32], first: u32, bou
 
 // The greatest number that all rows allow, among the limit of levels and its successive halves, if
 // any.
-fn safe_bound(m: &Machine) -> Option<u64>
+fn greatest_row_bound(m: &Machine) -> Option<u64>
     ensures { IsSafeBound m.now result }
 {
     for halvings in 0u8..44 {
@@ -100,14 +100,14 @@ fn is_safe_row_bound(row: &SlopeRow, level_bits: u8, bound: u64) -> bool
     requires bound { bound ≤ 2 ^ 43 }
     ensures { IsTrue result ↔ AllowsBound level_bits bound row.now }
 {
-    let Some(excesses) = safe_bound_excess_sum(row.products.as_slice(), level_bits, bound) else {
+    let Some(excesses) = greatest_excess_sum(row.products.as_slice(), level_bits, bound) else {
         return false;
     };
-    safe_bound_size_sum(row.entries.as_slice()) + excesses <= MODE_LIMIT
+    size_sum_of_entries(row.entries.as_slice()) + excesses <= MODE_LIMIT
 }
 
-// The sum of `safe_bound_excess` over products, or `None` if it exceeds the limit of coefficients.
-fn safe_bound_excess_sum(products: &[Product], level_bits: u8, bound: u64) -> Option<u128>
+// The sum of `greatest_excess` over products, or `None` if it exceeds the limit of coefficients.
+fn greatest_excess_sum(products: &[Product], level_bits: u8, bound: u64) -> Option<u128>
     requires size_limit { All (λ product. IsWithin 44 product.coef) products.now }
     requires bits { level_bits ≤ 24 }
     requires bound { bound ≤ 2 ^ 43 }
@@ -116,7 +116,7 @@ fn safe_bound_excess_sum(products: &[Product], level_bits: u8, bound: u64) -> Op
 {
     let mut sum: u128 = 0;
     for product in products {
-        sum += safe_bound_excess(product, level_bits, bound);
+        sum += greatest_excess(product, level_bits, bound);
         if sum > MODE_LIMIT {
             return None;
         }
@@ -126,7 +126,7 @@ fn safe_bound_excess_sum(products: &[Product], level_bits: u8, bound: u64) -> Op
 
 // An upper bound on the amount by which a product changes the coefficient of its state, if its
 // discrete value is at most `bound` in absolute value.
-fn safe_bound_excess(product: &Product, level_bits: u8, bound: u64) -> u128
+fn greatest_excess(product: &Product, level_bits: u8, bound: u64) -> u128
     requires size_limit { IsWithin 44 product.now.coef }
     requires bits { level_bits ≤ 24 }
     requires bound { bound ≤ 2 ^ 43 }
@@ -138,7 +138,7 @@ fn safe_bound_excess(product: &Product, level_bits: u8, bound: u64) -> u128
 }
 
 // The sum of the absolute values of coefficients.
-fn safe_bound_size_sum(entries: &[Entry]) -> u128
+fn size_sum_of_entries(entries: &[Entry]) -> u128
     requires count_limit { length entries.now ≤ 4096 }
     requires size_limit { All (λ entry. IsWithin 44 entry.coef) entries.now }
     ensures value { result ≡ sum_by (λ entry. unsigned_abs entry.coef) entries.now }
@@ -146,13 +146,13 @@ fn safe_bound_size_sum(entries: &[Entry]) -> u128
 {
     let mut sum: u128 = 0;
     for entry in entries {
-        sum += safe_bound_entry_size(entry);
+        sum += size_of_entry(entry);
     }
     sum
 }
 
 // The absolute value of a coefficient.
-fn safe_bound_entry_size(entry: &Entry) -> u128
+fn size_of_entry(entry: &Entry) -> u128
     requires { IsWithin 44 entry.now.coef }
     ensures value { result ≡ unsigned_abs entry.now.coef }
     ensures bound { result ≤ 2 ^ 44 }
@@ -161,7 +161,7 @@ fn safe_bound_entry_size(entry: &Entry) -> u128
 }
 
 // Whether these values are at most a bound in absolute value.
-fn is_within_safe_bound(values: &[i64], bound: u64) -> bool
+fn are_values_within(values: &[i64], bound: u64) -> bool
     ensures { IsTrue result ↔ All (IsUpTo bound) values.now }
 {
     values.iter().all(|value| value.unsigned_abs() <= bound)

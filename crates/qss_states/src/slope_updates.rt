@@ -32,7 +32,7 @@ ghost use Rattle.qss_states.specs.SumMarks.{AreReaderSums, AreReadersMarkedOr, A
 ghost use Rattle.qss_states.specs.SumMarks.{IsSlopeAt};
 
 use crate::event_contexts::{EventLevels, HandlerResult, Mode, NewLevels, NewSlopes};
-use crate::row_sum_changes::{RowSum, row_sum_change, update_sums_of_slopes};
+use crate::row_sum_changes::{RowSum, sum_difference, update_sums_of_slopes};
 use crate::sum_marks::{is_sum_marked, mark_reader_sums};
 use qss_events::event_tick_leaving_level;
 use qss_machine::{Machine, Uses};
@@ -45,22 +45,22 @@ use std::sync::ledger::Ledger;
 /// their new slopes and due ticks. `steps` counts the lines that move.
 pub fn update_slopes_after_handlers<L: Ledger>(
     at: &NewLevels,
-    left: &HandlerResult,
+    handled: &HandlerResult,
     slopes: &mut [i128],
     lines: &mut [Integrator],
     agenda: &mut Agenda,
     steps: &mut Steps<L>,
 )
-    requires { CanRestart at.now left.now slopes.old lines.old agenda.old }
-    ensures slopes { slopes.new ≡ new_slopes at.now left.now.discretes.now }
+    requires { CanRestart at.now handled.now slopes.old lines.old agenda.old }
+    ensures slopes { slopes.new ≡ new_slopes at.now handled.now.discretes.now }
     ensures lines { (j : ℕ) → j < state_count at.now.machine.now
         → IsRestartedFrom at.now.machine.now at.now.tick
-        (int_at (states_left at.now left.now lines.old) j)
+        (int_at (states_left at.now handled.now lines.old) j)
         (int_at at.now.levels.now j)
-        (slope_at at.now.machine.now j at.now.levels.now left.now.discretes.now)
+        (slope_at at.now.machine.now j at.now.levels.now handled.now.discretes.now)
         j (line_at lines.new j) (due_at agenda.new j) }
     ensures kept { (j : ℕ) → j < state_count at.now.machine.now
-        → goes_from at.now.tick (int_at (states_left at.now left.now lines.old) j)
+        → goes_from at.now.tick (int_at (states_left at.now handled.now lines.old) j)
         (int_at at.now.levels.now j)
         (int_at slopes.new j) (line_at lines.old j) ≡ true
         → line_at lines.new j ≡ line_at lines.old j }
@@ -69,13 +69,13 @@ pub fn update_slopes_after_handlers<L: Ledger>(
         → due_at agenda.new place ≡ due_at agenda.old place }
     ensures counted { steps.new
         ≡ steps.old + replaced_lines_from (state_count at.now.machine.now) at.now.tick
-        (states_left at.now left.now lines.old) at.now.levels.now slopes.new lines.old }
+        (states_left at.now handled.now lines.old) at.now.levels.now slopes.new lines.old }
 {
-    update_slopes_from_handlers(at, left, lines, slopes);
-    let on = NewSlopes { taken: *at, slopes };
-    restart_state_slopes(&on, left.states, lines, agenda, steps);
+    update_slopes_from_handlers(at, handled, lines, slopes);
+    let on = NewSlopes { event: *at, slopes };
+    restart_state_slopes(&on, handled.states, lines, agenda, steps);
     update_reader_slopes(&on, at.moved, lines, agenda, steps);
-    update_reader_slopes(&on, left.assigned, lines, agenda, steps);
+    update_reader_slopes(&on, handled.assigned, lines, agenda, steps);
 }
 
 /// Updates the slopes of all rows for the new levels of the moved states. The moved states, and
@@ -91,12 +91,12 @@ pub fn update_slopes_of<L: Ledger>(
     steps: &mut Steps<L>,
 )
     requires ready { CanUpdateSlopesOf at.now slopes.old lines.old agenda.old }
-    requires room { state_count at.now.taken.machine.now ≤ vec_capacity touched.old }
+    requires room { state_count at.now.event.machine.now ≤ vec_capacity touched.old }
     ensures gone_on { AreAllScheduled at.now slopes.new
         (record { lines = lines.old; dues = agenda.old })
         (record { lines = lines.new; dues = agenda.new }) steps.old steps.new }
     ensures kept { (j : ℕ)
-        → is_listed (reached at.now.taken.machine.now at.now.taken.moved.now) j ≡ false
+        → is_listed (reached at.now.event.machine.now at.now.event.moved.now) j ≡ false
         → (line_at lines.new j ≡ line_at lines.old j)
         × (due_at agenda.new j ≡ due_at agenda.old j) }
     ensures room { vec_capacity touched.new ≡ vec_capacity touched.old }
@@ -104,7 +104,7 @@ pub fn update_slopes_of<L: Ledger>(
     touched.clear();
     update_slopes_for_levels(at, slopes, lines, touched, steps);
     let on = NewSlopes {
-        taken: at.taken,
+        event: at.event,
         slopes,
     };
     schedule_new_slopes(&on, touched.as_slice(), lines, agenda);
@@ -114,22 +114,22 @@ pub fn update_slopes_of<L: Ledger>(
 // assigned discrete variables.
 fn update_slopes_from_handlers(
     at: &NewLevels,
-    left: &HandlerResult,
+    handled: &HandlerResult,
     lines: &[Integrator],
     slopes: &mut [i128],
 )
-    requires allowed { CanUpdateAfterHandlers at.now left.now lines.now }
-    requires light { first_row_exceeding at.now left.now.discretes.now ≡ None }
-    requires before { WereSums sum.Slope at.now left.now.before.now slopes.old lines.now }
-    ensures { slopes.new ≡ new_slopes at.now left.now.discretes.now }
+    requires allowed { CanUpdateAfterHandlers at.now handled.now lines.now }
+    requires light { first_row_exceeding at.now handled.now.discretes.now ≡ None }
+    requires before { WereSums sum.Slope at.now handled.now.before.now slopes.old lines.now }
+    ensures { slopes.new ≡ new_slopes at.now handled.now.discretes.now }
 {
-    update_sums_of_slopes(at, left.before, lines, slopes);
+    update_sums_of_slopes(at, handled.before, lines, slopes);
     update_slopes_from_readers(
         at.machine,
         at.uses,
-        left.assigned,
+        handled.assigned,
         at.levels,
-        left.discretes,
+        handled.discretes,
         slopes,
     );
 }
@@ -223,27 +223,27 @@ fn restart_state_slopes<L: Ledger>(
     steps: &mut Steps<L>,
 )
     requires on { CanSchedule at.now lines.old agenda.old }
-    requires states { AreStatesOf at.now.taken.machine.now x.now }
-    requires may_move { MayMove at.now.taken.tick lines.old }
-    requires near { (j : ℕ) → is_listed at.now.taken.moved.now j ≡ true
-        → IsLineWithinQuantum (level_unit at.now.taken.machine.now) (int_at x.now j)
-        (int_at at.now.taken.levels.now j)
-        (quantum_of at.now.taken.machine.now j (int_at at.now.taken.levels.now j)) }
-    ensures go_on { AreScheduled at.now.taken.machine.now at.now.taken.tick
-        at.now.taken.levels.now at.now.slopes.now at.now.taken.moved.now (int_at x.now)
+    requires states { AreStatesOf at.now.event.machine.now x.now }
+    requires may_move { MayMove at.now.event.tick lines.old }
+    requires near { (j : ℕ) → is_listed at.now.event.moved.now j ≡ true
+        → IsLineWithinQuantum (level_unit at.now.event.machine.now) (int_at x.now j)
+        (int_at at.now.event.levels.now j)
+        (quantum_of at.now.event.machine.now j (int_at at.now.event.levels.now j)) }
+    ensures go_on { AreScheduled at.now.event.machine.now at.now.event.tick
+        at.now.event.levels.now at.now.slopes.now at.now.event.moved.now (int_at x.now)
         (record { lines = lines.old; dues = agenda.old })
         (record { lines = lines.new; dues = agenda.new }) }
     ensures kept { (j : ℕ)
-        → goes_from at.now.taken.tick (int_at x.now j) (int_at at.now.taken.levels.now j)
+        → goes_from at.now.event.tick (int_at x.now j) (int_at at.now.event.levels.now j)
         (int_at at.now.slopes.now j)
         (line_at lines.old j) ≡ true
         → line_at lines.new j ≡ line_at lines.old j }
     ensures counted { (states : List ℤ)
-        → ((j : ℕ) → is_listed at.now.taken.moved.now j ≡ true → int_at states j ≡ int_at x.now j)
-        → IsCountedFrom (state_count at.now.taken.machine.now) at.now.taken.tick states
-        at.now.taken.levels.now at.now.slopes.now lines.old lines.new steps.old steps.new }
+        → ((j : ℕ) → is_listed at.now.event.moved.now j ≡ true → int_at states j ≡ int_at x.now j)
+        → IsCountedFrom (state_count at.now.event.machine.now) at.now.event.tick states
+        at.now.event.levels.now at.now.slopes.now lines.old lines.new steps.old steps.new }
 {
-    for j in at.taken.moved {
+    for j in at.event.moved {
         restart_state_slope(at, *j, x, lines, agenda, steps);
     }
 }
@@ -260,37 +260,37 @@ fn restart_state_slope<L: Ledger>(
     steps: &mut Steps<L>,
 )
     requires allowed { CanScheduleOne at.now j lines.old agenda.old }
-    requires states { AreStatesOf at.now.taken.machine.now x.now }
-    requires later { (line_at lines.old j).tick ≤ at.now.taken.tick }
-    requires size_limit { IsWithin 89 (state_at (line_at lines.old j) at.now.taken.tick) }
-    requires near { IsLineWithinQuantum (level_unit at.now.taken.machine.now) (int_at x.now j)
-        (int_at at.now.taken.levels.now j)
-        (quantum_of at.now.taken.machine.now j (int_at at.now.taken.levels.now j)) }
-    ensures goes_on { IsOneScheduled at.now.taken.machine.now at.now.taken.tick
-        at.now.taken.levels.now at.now.slopes.now j (int_at x.now j)
+    requires states { AreStatesOf at.now.event.machine.now x.now }
+    requires later { (line_at lines.old j).tick ≤ at.now.event.tick }
+    requires size_limit { IsWithin 89 (state_at (line_at lines.old j) at.now.event.tick) }
+    requires near { IsLineWithinQuantum (level_unit at.now.event.machine.now) (int_at x.now j)
+        (int_at at.now.event.levels.now j)
+        (quantum_of at.now.event.machine.now j (int_at at.now.event.levels.now j)) }
+    ensures goes_on { IsOneScheduled at.now.event.machine.now at.now.event.tick
+        at.now.event.levels.now at.now.slopes.now j (int_at x.now j)
         (record { lines = lines.old; dues = agenda.old })
         (record { lines = lines.new; dues = agenda.new }) }
-    ensures kept { goes_from at.now.taken.tick (int_at x.now j) (int_at at.now.taken.levels.now j)
+    ensures kept { goes_from at.now.event.tick (int_at x.now j) (int_at at.now.event.levels.now j)
         (int_at at.now.slopes.now j)
         (line_at lines.old j) ≡ true
         → line_at lines.new j ≡ line_at lines.old j }
     ensures counted { (states : List ℤ) → int_at states j ≡ int_at x.now j
-        → IsCountedFrom (state_count at.now.taken.machine.now) at.now.taken.tick states
-        at.now.taken.levels.now at.now.slopes.now lines.old lines.new steps.old steps.new }
+        → IsCountedFrom (state_count at.now.event.machine.now) at.now.event.tick states
+        at.now.event.levels.now at.now.slopes.now lines.old lines.new steps.old steps.new }
 {
     let here = Integrator {
-        tick: at.taken.tick,
+        tick: at.event.tick,
         x: x[j as usize],
         slope: at.slopes[j as usize],
-        level: at.taken.levels[j as usize],
+        level: at.event.levels[j as usize],
     };
-    replace_slope_update_line(&mut lines[j as usize], &here, steps);
-    agenda.set(j, event_tick_leaving_level(at.taken.machine, j, &here));
+    replace_line(&mut lines[j as usize], &here, steps);
+    agenda.set(j, event_tick_leaving_level(at.event.machine, j, &here));
 }
 
 /// Replaces a line by `here`, from the tick of `here` on, unless it already continues in this way.
 /// It returns whether it was replaced.
-pub(crate) fn replace_slope_update_line<L: Ledger>(
+pub(crate) fn replace_line<L: Ledger>(
     line: &mut Integrator,
     here: &Integrator,
     steps: &mut Steps<L>,
@@ -323,19 +323,19 @@ pub(crate) fn update_reader_slopes<L: Ledger>(
     steps: &mut Steps<L>,
 )
     requires variables { All
-        (λ var. var < state_count at.now.taken.machine.now
-        + discrete_count at.now.taken.machine.now) variables.now }
+        (λ var. var < state_count at.now.event.machine.now
+        + discrete_count at.now.event.machine.now) variables.now }
     requires allowed { CanUpdateSlopes at.now lines.old agenda.old }
-    ensures resloped { HaveSlopesUpdated at.now.taken.machine.now at.now.taken.tick
-        at.now.taken.levels.now at.now.slopes.now
-        (flat_map (reading_rows at.now.taken.machine.now) variables.now)
+    ensures resloped { HaveSlopesUpdated at.now.event.machine.now at.now.event.tick
+        at.now.event.levels.now at.now.slopes.now
+        (flat_map (reading_rows at.now.event.machine.now) variables.now)
         (record { lines = lines.old; dues = agenda.old })
         (record { lines = lines.new; dues = agenda.new }) }
-    ensures counted { IsCounted (state_count at.now.taken.machine.now) at.now.taken.levels.now
+    ensures counted { IsCounted (state_count at.now.event.machine.now) at.now.event.levels.now
         at.now.slopes.now lines.old lines.new steps.old steps.new }
 {
     for var in variables {
-        let readers = at.taken.uses.rows_of(*var);
+        let readers = at.event.uses.rows_of(*var);
         update_slopes(at, readers, lines, agenda, steps);
     }
 }
@@ -348,14 +348,14 @@ fn update_slopes<L: Ledger>(
     agenda: &mut Agenda,
     steps: &mut Steps<L>,
 )
-    requires states { All (λ j. j < state_count at.now.taken.machine.now) states.now }
+    requires states { All (λ j. j < state_count at.now.event.machine.now) states.now }
     requires allowed { CanUpdateSlopes at.now lines.old agenda.old }
-    ensures resloped { HaveSlopesUpdated at.now.taken.machine.now at.now.taken.tick
-        at.now.taken.levels.now at.now.slopes.now
+    ensures resloped { HaveSlopesUpdated at.now.event.machine.now at.now.event.tick
+        at.now.event.levels.now at.now.slopes.now
         states.now
         (record { lines = lines.old; dues = agenda.old })
         (record { lines = lines.new; dues = agenda.new }) }
-    ensures counted { IsCounted (state_count at.now.taken.machine.now) at.now.taken.levels.now
+    ensures counted { IsCounted (state_count at.now.event.machine.now) at.now.event.levels.now
         at.now.slopes.now lines.old lines.new steps.old steps.new }
 {
     for j in states {
@@ -373,29 +373,30 @@ fn update_slope<L: Ledger>(
     steps: &mut Steps<L>,
 )
     requires allowed { CanScheduleOne at.now j lines.old agenda.old }
-    requires ready { MayUpdateSlope at.now.taken.machine.now at.now.taken.tick
-        (int_at at.now.taken.levels.now j) (int_at at.now.slopes.now j)
+    requires ready { MayUpdateSlope at.now.event.machine.now at.now.event.tick
+        (int_at at.now.event.levels.now j) (int_at at.now.slopes.now j)
         j (line_at lines.old j) (due_at agenda.old j) }
-    ensures goes_on { IsOneScheduled at.now.taken.machine.now at.now.taken.tick
-        at.now.taken.levels.now at.now.slopes.now j
-        (state_at (line_at lines.old j) at.now.taken.tick)
+    ensures goes_on { IsOneScheduled at.now.event.machine.now at.now.event.tick
+        at.now.event.levels.now at.now.slopes.now j
+        (state_at (line_at lines.old j) at.now.event.tick)
         (record { lines = lines.old; dues = agenda.old })
         (record { lines = lines.new; dues = agenda.new }) }
-    ensures kept { has_level_and_slope (int_at at.now.taken.levels.now j) (int_at at.now.slopes.now j)
+    ensures kept { has_level_and_slope (int_at at.now.event.levels.now j)
+        (int_at at.now.slopes.now j)
         (line_at lines.old j)
         ≡ true
         → line_at lines.new j ≡ line_at lines.old j }
-    ensures counted { IsCounted (state_count at.now.taken.machine.now) at.now.taken.levels.now
+    ensures counted { IsCounted (state_count at.now.event.machine.now) at.now.event.levels.now
         at.now.slopes.now lines.old lines.new steps.old steps.new }
 {
     let slope = at.slopes[j as usize];
-    let level = at.taken.levels[j as usize];
+    let level = at.event.levels[j as usize];
     let line = &lines[j as usize];
     if line.slope == slope && line.level == level {
         return;
     }
     let line = &mut lines[j as usize];
-    line.move_to(at.taken.tick, steps);
+    line.move_to(at.event.tick, steps);
     schedule_new_slope(at, j, lines, agenda);
 }
 
@@ -409,24 +410,24 @@ pub(crate) fn schedule_new_slope(
     agenda: &mut Agenda,
 )
     requires allowed { CanScheduleOne at.now j lines.old agenda.old }
-    requires ready { MaySchedule at.now.taken.machine.now at.now.taken.tick j
-        (int_at at.now.taken.levels.now j) (line_at lines.old j) }
-    ensures goes_on { IsOneScheduled at.now.taken.machine.now at.now.taken.tick
-        at.now.taken.levels.now at.now.slopes.now j
-        (state_at (line_at lines.old j) at.now.taken.tick)
+    requires ready { MaySchedule at.now.event.machine.now at.now.event.tick j
+        (int_at at.now.event.levels.now j) (line_at lines.old j) }
+    ensures goes_on { IsOneScheduled at.now.event.machine.now at.now.event.tick
+        at.now.event.levels.now at.now.slopes.now j
+        (state_at (line_at lines.old j) at.now.event.tick)
         (record { lines = lines.old; dues = agenda.old })
         (record { lines = lines.new; dues = agenda.new }) }
     ensures same_tick { (line_at lines.new j).tick ≡ (line_at lines.old j).tick }
 {
     let slope = at.slopes[j as usize];
-    let level = at.taken.levels[j as usize];
+    let level = at.event.levels[j as usize];
     let line = &mut lines[j as usize];
-    set_slope_update_line(line, slope, level);
-    agenda.set(j, event_tick_leaving_level(at.taken.machine, j, line));
+    set_slope_and_level(line, slope, level);
+    agenda.set(j, event_tick_leaving_level(at.event.machine, j, line));
 }
 
 // Sets the slope and the level of a line from its tick on.
-fn set_slope_update_line(line: &mut Integrator, slope: i128, level: i64)
+fn set_slope_and_level(line: &mut Integrator, slope: i128, level: i64)
     requires slope { IsWithin 88 slope }
     requires level { IsWithin 43 level }
     ensures { line.new ≡ record line.old { slope = slope; level = level } }
@@ -444,17 +445,17 @@ fn update_slopes_for_levels<L: Ledger>(
     touched: &mut Vec<u32>,
     steps: &mut Steps<L>,
 )
-    requires ready { CanFollow sum.Slope at.now.taken at.now.discretes.now slopes.old
+    requires ready { CanFollow sum.Slope at.now.event at.now.discretes.now slopes.old
         lines.old }
-    requires allowed { CanAdvance at.now.taken.tick lines.old touched.old.items
+    requires allowed { CanAdvance at.now.event.tick lines.old touched.old.items
         (vec_capacity touched.old) }
     ensures slopes { slopes.new ≡ quiet_slopes at.now }
-    ensures gathered { HaveAdvanced at.now.taken.tick
-        (reached at.now.taken.machine.now at.now.taken.moved.now)
+    ensures gathered { HaveAdvanced at.now.event.tick
+        (reached at.now.event.machine.now at.now.event.moved.now)
         (advancing_of lines.old touched.old steps.old)
         (advancing_of lines.new touched.new steps.new) }
 {
-    for state in at.taken.moved {
+    for state in at.event.moved {
         update_slopes_for_level(at, *state, slopes, lines, touched, steps);
     }
 }
@@ -472,23 +473,24 @@ fn update_slopes_for_level<L: Ledger>(
     requires { CanFollowLevel at.now state slopes.old lines.old touched.old.items
         (vec_capacity touched.old) }
     ensures slopes { IsWritten (pos 0)
-        (IsSumAfterLevelChange sum.Slope at.now.taken.machine.now state (line_at lines.old state).level
-        (int_at at.now.taken.levels.now state) at.now.discretes.now slopes.old)
-        (reading_rows at.now.taken.machine.now state) slopes.old slopes.new }
-    ensures gathered { HaveAdvanced at.now.taken.tick
-        (state ∷ reading_rows at.now.taken.machine.now state)
+        (IsSumAfterLevelChange sum.Slope at.now.event.machine.now state
+        (line_at lines.old state).level
+        (int_at at.now.event.levels.now state) at.now.discretes.now slopes.old)
+        (reading_rows at.now.event.machine.now state) slopes.old slopes.new }
+    ensures gathered { HaveAdvanced at.now.event.tick
+        (state ∷ reading_rows at.now.event.machine.now state)
         (advancing_of lines.old touched.old steps.old)
         (advancing_of lines.new touched.new steps.new) }
 {
     let line = &lines[state as usize];
     let old = line.level;
-    advance_slope_update_line(at.taken.tick, state, lines, touched, steps);
+    advance_line(at.event.tick, state, lines, touched, steps);
     update_row_slopes(at, state, old, slopes, lines, touched, steps);
 }
 
 // Moves the line of a state to a tick and adds the state to the affected ones, unless the line is
 // already there.
-fn advance_slope_update_line<L: Ledger>(
+fn advance_line<L: Ledger>(
     tick: u64,
     j: u32,
     lines: &mut [Integrator],
@@ -502,13 +504,13 @@ fn advance_slope_update_line<L: Ledger>(
         (advancing_of lines.new touched.new steps.new) }
 {
     let line = &mut lines[j as usize];
-    if move_slope_update_line(line, tick, steps) {
+    if move_line(line, tick, steps) {
         touched.push_reserved(j);
     }
 }
 
 // Moves a line to a tick, unless it is already there. It returns whether it moved.
-fn move_slope_update_line<L: Ledger>(line: &mut Integrator, tick: u64, steps: &mut Steps<L>) -> bool
+fn move_line<L: Ledger>(line: &mut Integrator, tick: u64, steps: &mut Steps<L>) -> bool
     requires later { line.old.tick ≤ tick }
     requires tick_limit { tick ≤ tick_limit }
     requires size_limit { IsWithin 89 (state_at line.old tick) }
@@ -541,27 +543,27 @@ fn update_row_slopes<L: Ledger>(
         (vec_capacity touched.old) }
     requires old { IsWithin 43 old }
     ensures slopes { IsWritten (pos 0)
-        (IsSumAfterLevelChange sum.Slope at.now.taken.machine.now state old
-        (int_at at.now.taken.levels.now state) at.now.discretes.now slopes.old)
-        (reading_rows at.now.taken.machine.now state) slopes.old slopes.new }
-    ensures gathered { HaveAdvanced at.now.taken.tick
-        (reading_rows at.now.taken.machine.now state)
+        (IsSumAfterLevelChange sum.Slope at.now.event.machine.now state old
+        (int_at at.now.event.levels.now state) at.now.discretes.now slopes.old)
+        (reading_rows at.now.event.machine.now state) slopes.old slopes.new }
+    ensures gathered { HaveAdvanced at.now.event.tick
+        (reading_rows at.now.event.machine.now state)
         (advancing_of lines.old touched.old steps.old)
         (advancing_of lines.new touched.new steps.new) }
 {
     let mode = Mode {
-        machine: at.taken.machine,
+        machine: at.event.machine,
         discretes: at.discretes,
     };
-    let rows = at.taken.uses.rows_of(state);
-    let coefficients = at.taken.uses.coefficients_of(state);
-    let new = at.taken.levels[state as usize];
+    let rows = at.event.uses.rows_of(state);
+    let coefficients = at.event.uses.coefficients_of(state);
+    let new = at.event.levels[state as usize];
     for place in 0..rows.len() {
         let row = rows[place];
         let own = coefficients[place];
-        let change = row_sum_change(RowSum::Slope, &mode, own, row, state, old, new);
+        let change = sum_difference(RowSum::Slope, &mode, own, row, state, old, new);
         slopes[row as usize] += change;
-        advance_slope_update_line(at.taken.tick, row, lines, touched, steps);
+        advance_line(at.event.tick, row, lines, touched, steps);
     }
 }
 
@@ -574,13 +576,14 @@ fn schedule_new_slopes(
     agenda: &mut Agenda,
 )
     requires on { CanSchedule at.now lines.old agenda.old }
-    requires states { All (λ j. j < state_count at.now.taken.machine.now) states.now }
+    requires states { All (λ j. j < state_count at.now.event.machine.now) states.now }
     requires ready { (j : ℕ) → is_listed states.now j ≡ true
-        → MaySchedule at.now.taken.machine.now at.now.taken.tick j (int_at at.now.taken.levels.now j)
+        → MaySchedule at.now.event.machine.now at.now.event.tick j
+        (int_at at.now.event.levels.now j)
         (line_at lines.old j) }
-    ensures { AreScheduled at.now.taken.machine.now at.now.taken.tick
-        at.now.taken.levels.now at.now.slopes.now states.now
-        (λ j. state_at (line_at lines.old j) at.now.taken.tick)
+    ensures { AreScheduled at.now.event.machine.now at.now.event.tick
+        at.now.event.levels.now at.now.slopes.now states.now
+        (λ j. state_at (line_at lines.old j) at.now.event.tick)
         (record { lines = lines.old; dues = agenda.old })
         (record { lines = lines.new; dues = agenda.new }) }
 {

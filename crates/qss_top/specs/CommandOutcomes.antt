@@ -6,7 +6,7 @@ use Rattle.mu_io.specs.Sinks.{AppendsPrefix}
 use Rattle.qss_compile.specs.Causes.{is_memory}
 use Rattle.qss_compile.specs.RefusalLines as Refusals
 use Rattle.qss_compile.specs.declared.model_refusal.Refused.{Refused}
-use Rattle.qss_answers.specs.RefusalTexts.{refusal_line}
+use Rattle.qss_answers.specs.RefusalTexts.{write_refusal}
 use Rattle.qss_top.specs.MachineAnswers.{Answer, IsMessageText, status_of_refusal}
 use Rattle.qss_top.specs.MachineAnswers.{usage_line}
 use Rattle.qss_top.specs.MachineAnswers.{too_long_line, overflow_line}
@@ -35,7 +35,7 @@ line_text outcome.Usage = usage_line
 line_text outcome.TooLong = too_long_line
 line_text (outcome.Refused r) = Refusals.line_of r
 line_text (outcome.Overflow name tick) = overflow_line name tick
-line_text (outcome.Rejected why) = refusal_line why
+line_text (outcome.Rejected why) = write_refusal why
 line_text _ = []
 
 -- the outcome of a rejected source, which may be out of memory

@@ -16,7 +16,7 @@ use Rattle.qss_events.specs.RunTexts.{run_by_rule, run_text}
 use Rattle.qss_run.specs.RunSummaries.{level_count, end_sum}
 use Rattle.qss_quant.specs.declared.quantizer.Rule.TheVariants.{Floor}
 use Rattle.qss_answers.specs.Answers as Results
-use Rattle.qss_answers.specs.RefusalTexts.{refusal_line}
+use Rattle.qss_answers.specs.RefusalTexts.{write_refusal}
 use Rattle.qss_answers.specs.CertificateAnswers.{IsCertification, IsUpgrade}
 use Rattle.qss_answers.specs.declared.refusal.Refusal.TheVariants as reasons
 use Rattle.qss_answers.specs.declared.refusal.Refusal.{Refusal}
@@ -64,7 +64,7 @@ IsMessageText quiet text = text ≡ []
 IsMessageText usage text = text ≡ usage_line
 IsMessageText too_long text = text ≡ too_long_line
 IsMessageText (refused bytes) text = IsRefusalText bytes text
-IsMessageText (rejected why) text = text ≡ refusal_line why
+IsMessageText (rejected why) text = text ≡ write_refusal why
 IsMessageText (overflowed name tick) text = text ≡ overflow_line name tick
 
 -- an answer: the status, the text on standard output, and the content of the line

@@ -24,7 +24,7 @@ use crate::command::print_source;
 use crate::command_outcome::Outcome;
 use crate::comparison::compare_machine;
 use crate::file_reading::{FileKind, MODEL_LIMIT, limit_of, too_long};
-use crate::machine_task::answer_machine_task;
+use crate::machine_task::answer_task;
 use crate::run_origin::RunSources;
 use crate::source::compile_source;
 use cert_check::scope;
@@ -42,7 +42,7 @@ pub fn answer_source<O: Sink>(alloc: Global, task: Task, source: &[u8], out: &mu
     if source.len() > MODEL_LIMIT {
         return Outcome::TooLong;
     }
-    answer_machine_task(alloc, task, source, out)
+    answer_task(alloc, task, source, out)
 }
 
 /// Writes the canonical text of a model. The outcome and the text on `out` are specified.

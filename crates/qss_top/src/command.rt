@@ -15,7 +15,7 @@ use crate::command_outcome::Outcome;
 use crate::comparison::write_text;
 use crate::file_reading::{FileKind, read_file};
 use crate::generation::on_generation;
-use crate::machine_task::answer_machine_task;
+use crate::machine_task::answer_task;
 use crate::two_file_command::execute_two_file_task;
 use mu_canonical::write_model;
 use mu_io::{Items, Shelf, Sink};
@@ -80,7 +80,7 @@ fn execute_file_task<S: Shelf, O: Sink>(
         (Answers (command_with task.entry model.now)) result shelf.old shelf.new out.old out.new }
 {
     match read_file(alloc, shelf, model, FileKind::Model) {
-        Ok(bytes) => answer_machine_task(alloc, task, &bytes, out),
+        Ok(bytes) => answer_task(alloc, task, &bytes, out),
         Err(what) => what,
     }
 }

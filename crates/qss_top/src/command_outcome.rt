@@ -7,8 +7,8 @@ ghost use Rattle.qss_top.specs.WrittenTexts.{IsLineWritten};
 
 use crate::status::Status;
 use mu_io::{Name, Sink, write_all};
-use qss_answers::{AnswerResult, Refusal, refusal_line};
-use qss_compile::{ModelErr, Refused, model_refusal_line};
+use qss_answers::{AnswerResult, Refusal, write_refusal};
+use qss_compile::{ModelErr, Refused, phase_fault_line};
 use qss_rows::RunResult;
 use std::alloc::{AllocError, Global};
 
@@ -95,7 +95,7 @@ pub fn report<E: Sink>(alloc: Global, outcome: &Outcome, err: &mut E) -> Status
         Outcome::ReadFault => tell(Status::ReadFault, b"read fault\n", err),
         Outcome::WriteFault => tell(Status::WriteFault, b"write fault\n", err),
         Outcome::TooLong => tell(Status::ModelRefused, b"refused: top 1\n", err),
-        Outcome::Refused(refused) => match model_refusal_line(alloc, refused) {
+        Outcome::Refused(refused) => match phase_fault_line(alloc, refused) {
             Ok(line) => tell(Status::ModelRefused, &line, err),
             Err(_) => tell(Status::Memory, b"out of memory\n", err),
         },
@@ -103,7 +103,7 @@ pub fn report<E: Sink>(alloc: Global, outcome: &Outcome, err: &mut E) -> Status
             Ok(line) => tell(Status::Overflow, &line, err),
             Err(_) => tell(Status::Memory, b"out of memory\n", err),
         },
-        Outcome::Rejected(why) => match refusal_line(alloc, *why) {
+        Outcome::Rejected(why) => match write_refusal(alloc, *why) {
             Ok(line) => tell(refusal_status(*why), &line, err),
             Err(_) => tell(Status::Memory, b"out of memory\n", err),
         },

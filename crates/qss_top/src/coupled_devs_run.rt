@@ -7,7 +7,7 @@ ghost use Rattle.qss_top.specs.Frames.{WritesAnswer};
 
 use crate::command_outcome::Outcome;
 use mu_io::Sink;
-use qss_devs::write_coupled_run;
+use qss_devs::write_devs_run;
 use qss_machine::Machine;
 use std::alloc::Global;
 
@@ -18,5 +18,5 @@ pub(crate) fn coupled_machine<O: Sink>(alloc: Global, m: Machine, out: &mut O) -
     ensures { WritesAnswer O.written O.faults O.failed true
         (λ answer. answer ≡ printed_run_answer plain_options m) result out.old out.new }
 {
-    Outcome::from(write_coupled_run(alloc, m, None, out))
+    Outcome::from(write_devs_run(alloc, m, None, out))
 }

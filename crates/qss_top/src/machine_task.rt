@@ -19,18 +19,13 @@ use qss_run::write_run_by_rule;
 use std::alloc::{AllocError, Global};
 
 /// Executes a task on the machine of a source.
-pub(crate) fn answer_machine_task<O: Sink>(
-    alloc: Global,
-    task: Task,
-    bytes: &[u8],
-    out: &mut O,
-) -> Outcome
+pub(crate) fn answer_task<O: Sink>(alloc: Global, task: Task, bytes: &[u8], out: &mut O) -> Outcome
     requires { length bytes.now ≤ 2 ^ 20 }
     ensures { WritesAnswer O.written O.faults O.failed (task_goes task.entry)
         (IsSourceAnswer task.entry bytes.now) result out.old out.new }
 {
     match compile_source(alloc, share_of(task), bytes) {
-        Ok(m) => execute_machine_task(alloc, task, m, out),
+        Ok(m) => execute_task_on_machine(alloc, task, m, out),
         Err(what) => what,
     }
 }
@@ -48,7 +43,7 @@ fn share_of(task: Task) -> u16
 
 // Executes a task on a machine.
 #[inline(never)]
-fn execute_machine_task<O: Sink>(alloc: Global, task: Task, m: Machine, out: &mut O) -> Outcome
+fn execute_task_on_machine<O: Sink>(alloc: Global, task: Task, m: Machine, out: &mut O) -> Outcome
     ensures { WritesAnswer O.written O.faults O.failed (task_goes task.entry)
         (IsTaskAnswer task.entry m) result out.old out.new }
 {

@@ -8,7 +8,7 @@ use crate::command_outcome::Outcome;
 use mu_io::Sink;
 use qss_answers::Refusal;
 use qss_machine::Machine;
-use qss_order2::write_second_run;
+use qss_order2::write_second_order;
 use std::alloc::Global;
 
 /// Writes the second-order run of a machine, and rejects a machine with clauses.
@@ -33,5 +33,5 @@ fn run_second<O: Sink>(alloc: Global, m: Machine, out: &mut O) -> Outcome
     ensures { WritesAnswer O.written O.faults O.failed true (λ answer. answer ≡ second_run_answer m)
         result out.old out.new }
 {
-    Outcome::from(write_second_run(alloc, m, out))
+    Outcome::from(write_second_order(alloc, m, out))
 }

@@ -23,15 +23,15 @@ push-requires c =
 pub loop-row-preserved : goal.loop-row-preserved
 loop-row-preserved c =
     let m = c.args.m.now in
-    let fits : FitsSigned w128 c.start_row_constant.result = search rules in
+    let fits : FitsSigned w128 c.slope_at_zero_levels.result = search rules in
     let changed = simp to_z-of_z at c.push.ensures in
     let many = ap length c.as_slice-row-items.ensures in
     let within : c.loop-row.row-index < state_count m =
     omega (arith, c.loop-row-test.true, many, m.has_rows.one_each) in
     let row = row-is m c.as_slice-row-items.result.now c.loop-row.row-index c.row-item.result
     c.as_slice-row-items.ensures within c.row-item.is in
-    let value : c.start_row_constant.result ≡ start_constant_part m c.loop-row.row-index =
-    c.start_row_constant.ensures
+    let value : c.slope_at_zero_levels.result ≡ start_constant_part m c.loop-row.row-index =
+    c.slope_at_zero_levels.ensures
     ∙ ap (λ (r : SlopeRow). constant_part (state_count m) r (start_discretes m)) row in
     rw changed (ap₂ (λ (a : List ℤ) (b : ℤ). a ++ b ∷ []) c.loop-row.invariant value
     ∙ sym (map-range_with_len_more (start_constant_part m) 0 c.loop-row.row-index c.loop-row.row-index (omega arith)))

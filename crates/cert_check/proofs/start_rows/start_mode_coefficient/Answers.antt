@@ -26,8 +26,8 @@ rounded-small m sum small =
     let near = nearest_bound sum unit (nearest_of sum unit) positive meets in
     omega (arith, near, small, one_unit)
 
-pub slope_row_coefficient-own-requires : goal.slope_row_coefficient-own-requires
-slope_row_coefficient-own-requires c =
+pub entry_coefficient-own-requires : goal.entry_coefficient-own-requires
+entry_coefficient-own-requires c =
     let few = few-entries c.args.m.now c.args.row.now c.requires in
     rw c.as_slice.ensures (record { count_limit = omega (arith, few) })
 
@@ -50,8 +50,8 @@ overflow_add-result c =
     c.near_div.ensures.value in
     let small = subst IsRounded (sym rounded)
     (rounded-small m sum c.sum_start_products-products.ensures.bound) in
-    two_fit c.slope_row_coefficient-own.result c.near_div.result (2 ^ 95) (2 ^ 111 + 2 ^ 24)
-    c.slope_row_coefficient-own.ensures.bound small (omega arith)
+    two_fit c.entry_coefficient-own.result c.near_div.result (2 ^ 95) (2 ^ 111 + 2 ^ 24)
+    c.entry_coefficient-own.ensures.bound small (omega arith)
 
 pub returns : goal.returns
 returns c =
@@ -64,8 +64,8 @@ returns c =
     c.near_div.ensures.value in
     let small = subst IsRounded (sym rounded)
     (rounded-small m sum c.sum_start_products-products.ensures.bound) in
-    let own = rw c.as_slice.ensures at c.slope_row_coefficient-own.ensures.value in
-    two_sum c.slope_row_coefficient-own.result c.near_div.result (2 ^ 95) (2 ^ 111 + 2 ^ 24)
-    c.slope_row_coefficient-own.ensures.bound small (omega arith)
+    let own = rw c.as_slice.ensures at c.entry_coefficient-own.ensures.value in
+    two_sum c.entry_coefficient-own.result c.near_div.result (2 ^ 95) (2 ^ 111 + 2 ^ 24)
+    c.entry_coefficient-own.ensures.bound small (omega arith)
     ∙ ap₂ (λ (a b : ℤ). a +ℤ b) own
     (rounded ∙ ap (λ z. nearest_of z (pos (2 ^ m.f))) c.sum_start_products-products.ensures.value)

@@ -40,27 +40,27 @@ returns-in_err-form c =
     rw (q.1, q.2) (state_fails (flat_model c.args.m.now) c.args.sizes c.args.solved.now v old (keep_states (flat_model c.args.m.now) 0 c.args.sizes.states (kept_so_far c.args.solved.now c.args.kept.now)) fault c.requires.sizes c.loop-var-test.true c.loop-var.invariant.rest
     (keep_part_fault c.args.sizes part (kept_so_far c.args.solved.now old) fault (fault_same given part fault same (answer_fault (of_equations c.args.sizes) given fault c.in_err-form.ensures))))
 
-pub returns-in_err-keep_normal_form : goal.returns-in_err-keep_normal_form
-returns-in_err-keep_normal_form c =
-    let q = err_from_is_err_and c.from_residual-in_err-keep_normal_form.result c.from_residual-in_err-keep_normal_form.ensures.1 in
-    let fault : AffineErr = c.in_err-keep_normal_form.field-0.0 in
+pub returns-in_err-push_counted_form : goal.returns-in_err-push_counted_form
+returns-in_err-push_counted_form c =
+    let q = err_from_is_err_and c.from_residual-in_err-push_counted_form.result c.from_residual-in_err-push_counted_form.ensures.1 in
+    let fault : AffineErr = c.in_err-push_counted_form.field-0.0 in
     let v : ℕ = c.loop-var.var in
     let old : CountedForms = c.loop-var.kept in
     let f : ExactForm = c.in_ok-form.form in
     let part : Result AffineForm AffineErr = state_part (flat_model c.args.m.now) c.args.sizes c.args.solved.now v in
     let is : part ≡ Ok (form_meaning f) = sym (part_along c.args.sizes c.args.solved.now c.args.solved.now c.deref.result.now c.args.m.now.equations.items v refl c.deref.ensures.value) ∙ c.in_ok-form.ensures.0 in
     rw (q.1, q.2) (state_fails (flat_model c.args.m.now) c.args.sizes c.args.solved.now v old (keep_states (flat_model c.args.m.now) 0 c.args.sizes.states (kept_so_far c.args.solved.now c.args.kept.now)) fault c.requires.sizes c.loop-var-test.true c.loop-var.invariant.rest
-    (keep_count_fault c.args.sizes part (kept_so_far c.args.solved.now old) (form_meaning f) fault is (c.in_err-keep_normal_form.ensures (of_equations c.args.sizes) c.in_ok-form.ensures.1)))
+    (keep_count_fault c.args.sizes part (kept_so_far c.args.solved.now old) (form_meaning f) fault is (c.in_err-push_counted_form.ensures (of_equations c.args.sizes) c.in_ok-form.ensures.1)))
 
 pub loop-var-preserved : goal.loop-var-preserved
 loop-var-preserved c =
     let v : ℕ = c.loop-var.var in
     let old : CountedForms = c.loop-var.kept in
-    let new : CountedForms = c.keep_normal_form.new.kept in
+    let new : CountedForms = c.push_counted_form.new.kept in
     let f : ExactForm = c.in_ok-form.form in
     let part : Result AffineForm AffineErr = state_part (flat_model c.args.m.now) c.args.sizes c.args.solved.now v in
     let is : part ≡ Ok (form_meaning f) = sym (part_along c.args.sizes c.args.solved.now c.args.solved.now c.deref.result.now c.args.m.now.equations.items v refl c.deref.ensures.value) ∙ c.in_ok-form.ensures.0 in
-    let kept = c.in_ok-keep_normal_form.ensures (of_equations c.args.sizes) c.in_ok-form.ensures.1 in
+    let kept = c.in_ok-push_counted_form.ensures (of_equations c.args.sizes) c.in_ok-form.ensures.1 in
     record {
       rest = sym (state_more (flat_model c.args.m.now) c.args.sizes c.args.solved.now v old new c.requires.sizes c.loop-var-test.true (keep_done c.args.sizes c.args.solved.now part old new f is kept.0 kept.1)) ∙ c.loop-var.invariant.rest;
       kept = state_kept c.args.sizes old.forms.items new.forms.items f c.loop-var.invariant.kept (omega (arith, c.loop-var.invariant.one_each, c.loop-var-test.true)) c.in_ok-form.ensures.1 kept.1;

@@ -17,27 +17,27 @@ use Rattle.mu_affine.proofs.WholeModels.{equations_numbered, clauses_numbered, o
 use Rattle.mu_affine.proofs.WholeModels.{whole_done, whole_clauses_fault}
 use Rattle.mu_affine.proofs.normal_forms.normal.Goals as goal
 
-pub solve_normal_forms-requires-clause-fit : goal.solve_normal_forms-requires-clause-fit
-solve_normal_forms-requires-clause-fit c =
+pub solve_algebraic_variables-requires-clause-fit : goal.solve_algebraic_variables-requires-clause-fit
+solve_algebraic_variables-requires-clause-fit c =
     let m : FlatModelTree = flat_model c.args.m.now in
-    let n : Sizes = c.normal_form_sizes-sizes.result in
+    let n : Sizes = c.count_states_and_discretes-sizes.result in
     let sizes : n ≡ sizes_of m = sizes_same m n
-    (c.normal_form_sizes-sizes.ensures.states ∙ ap (λ xs. count_of_role State (map flat_variable xs)) c.deref.ensures.value)
-    (c.normal_form_sizes-sizes.ensures.discretes ∙ ap (λ xs. count_of_role Discrete (map flat_variable xs)) c.deref.ensures.value) in
+    (c.count_states_and_discretes-sizes.ensures.states ∙ ap (λ xs. count_of_role State (map flat_variable xs)) c.deref.ensures.value)
+    (c.count_states_and_discretes-sizes.ensures.discretes ∙ ap (λ xs. count_of_role Discrete (map flat_variable xs)) c.deref.ensures.value) in
     sizes_small m n sizes c.requires.flat
 
-pub solve_normal_forms-requires-clause-equations : goal.solve_normal_forms-requires-clause-equations
-solve_normal_forms-requires-clause-equations c =
+pub solve_algebraic_variables-requires-clause-equations : goal.solve_algebraic_variables-requires-clause-equations
+solve_algebraic_variables-requires-clause-equations c =
     let m : FlatModelTree = flat_model c.args.m.now in
-    let n : Sizes = c.normal_form_sizes-sizes.result in
+    let n : Sizes = c.count_states_and_discretes-sizes.result in
     let sizes : n ≡ sizes_of m = sizes_same m n
-    (c.normal_form_sizes-sizes.ensures.states ∙ ap (λ xs. count_of_role State (map flat_variable xs)) c.deref.ensures.value)
-    (c.normal_form_sizes-sizes.ensures.discretes ∙ ap (λ xs. count_of_role Discrete (map flat_variable xs)) c.deref.ensures.value) in
+    (c.count_states_and_discretes-sizes.ensures.states ∙ ap (λ xs. count_of_role State (map flat_variable xs)) c.deref.ensures.value)
+    (c.count_states_and_discretes-sizes.ensures.discretes ∙ ap (λ xs. count_of_role Discrete (map flat_variable xs)) c.deref.ensures.value) in
     let count : length c.deref-3.result.now ≡ length m.vars = one_for_each c.args.m.now c.deref-3.result.now c.in_ok-firsts.firsts.items c.len.result c.deref-3.ensures.value c.in_ok-firsts.ensures.one_each (c.len.ensures ∙ c.args.m.now.vars.ok.0) in
     equations_numbered m n (length c.deref-3.result.now) sizes count c.requires.flat
 
-pub solve_normal_forms-requires-clause-within : goal.solve_normal_forms-requires-clause-within
-solve_normal_forms-requires-clause-within c =
+pub solve_algebraic_variables-requires-clause-within : goal.solve_algebraic_variables-requires-clause-within
+solve_algebraic_variables-requires-clause-within c =
     let m : FlatModelTree = flat_model c.args.m.now in
     let count : length c.deref-3.result.now ≡ length m.vars = one_for_each c.args.m.now c.deref-3.result.now c.in_ok-firsts.firsts.items c.len.result c.deref-3.ensures.value c.in_ok-firsts.ensures.one_each (c.len.ensures ∙ c.args.m.now.vars.ok.0) in
     subst (All (λ v. v < length c.deref-3.result.now)) (sym c.as_slice.ensures) (order_within m c.args.order.now.vars (length c.deref-3.result.now) count c.requires.order)
@@ -45,19 +45,19 @@ solve_normal_forms-requires-clause-within c =
 pub keep_normal_state_forms-requires-clause-fit : goal.keep_normal_state_forms-requires-clause-fit
 keep_normal_state_forms-requires-clause-fit c =
     let m : FlatModelTree = flat_model c.args.m.now in
-    let n : Sizes = c.normal_form_sizes-sizes.result in
+    let n : Sizes = c.count_states_and_discretes-sizes.result in
     let sizes : n ≡ sizes_of m = sizes_same m n
-    (c.normal_form_sizes-sizes.ensures.states ∙ ap (λ xs. count_of_role State (map flat_variable xs)) c.deref.ensures.value)
-    (c.normal_form_sizes-sizes.ensures.discretes ∙ ap (λ xs. count_of_role Discrete (map flat_variable xs)) c.deref.ensures.value) in
+    (c.count_states_and_discretes-sizes.ensures.states ∙ ap (λ xs. count_of_role State (map flat_variable xs)) c.deref.ensures.value)
+    (c.count_states_and_discretes-sizes.ensures.discretes ∙ ap (λ xs. count_of_role Discrete (map flat_variable xs)) c.deref.ensures.value) in
     sizes_small m n sizes c.requires.flat
 
 pub keep_normal_state_forms-requires-clause-equations : goal.keep_normal_state_forms-requires-clause-equations
 keep_normal_state_forms-requires-clause-equations c =
     let m : FlatModelTree = flat_model c.args.m.now in
-    let n : Sizes = c.normal_form_sizes-sizes.result in
+    let n : Sizes = c.count_states_and_discretes-sizes.result in
     let sizes : n ≡ sizes_of m = sizes_same m n
-    (c.normal_form_sizes-sizes.ensures.states ∙ ap (λ xs. count_of_role State (map flat_variable xs)) c.deref.ensures.value)
-    (c.normal_form_sizes-sizes.ensures.discretes ∙ ap (λ xs. count_of_role Discrete (map flat_variable xs)) c.deref.ensures.value) in
+    (c.count_states_and_discretes-sizes.ensures.states ∙ ap (λ xs. count_of_role State (map flat_variable xs)) c.deref.ensures.value)
+    (c.count_states_and_discretes-sizes.ensures.discretes ∙ ap (λ xs. count_of_role Discrete (map flat_variable xs)) c.deref.ensures.value) in
     let firsts : length c.deref-3.result.now ≡ length m.vars = one_for_each c.args.m.now c.deref-3.result.now c.in_ok-firsts.firsts.items c.len.result c.deref-3.ensures.value c.in_ok-firsts.ensures.one_each (c.len.ensures ∙ c.args.m.now.vars.ok.0) in
     let count : length c.deref-5.result.now ≡ length m.vars = ap length c.deref-5.ensures.value ∙ c.in_ok-solved.ensures.1.one_each ∙ firsts in
     equations_numbered m n (length c.deref-5.result.now) sizes count c.requires.flat
@@ -65,37 +65,37 @@ keep_normal_state_forms-requires-clause-equations c =
 pub keep_normal_state_forms-requires-clause-states : goal.keep_normal_state_forms-requires-clause-states
 keep_normal_state_forms-requires-clause-states c =
     let m : FlatModelTree = flat_model c.args.m.now in
-    let n : Sizes = c.normal_form_sizes-sizes.result in
+    let n : Sizes = c.count_states_and_discretes-sizes.result in
     let sizes : n ≡ sizes_of m = sizes_same m n
-    (c.normal_form_sizes-sizes.ensures.states ∙ ap (λ xs. count_of_role State (map flat_variable xs)) c.deref.ensures.value)
-    (c.normal_form_sizes-sizes.ensures.discretes ∙ ap (λ xs. count_of_role Discrete (map flat_variable xs)) c.deref.ensures.value) in
+    (c.count_states_and_discretes-sizes.ensures.states ∙ ap (λ xs. count_of_role State (map flat_variable xs)) c.deref.ensures.value)
+    (c.count_states_and_discretes-sizes.ensures.discretes ∙ ap (λ xs. count_of_role Discrete (map flat_variable xs)) c.deref.ensures.value) in
     let count : length c.deref-4.result.now ≡ length m.vars = one_for_each c.args.m.now c.deref-4.result.now c.in_ok-firsts.firsts.items c.len.result c.deref-4.ensures.value c.in_ok-firsts.ensures.one_each (c.len.ensures ∙ c.args.m.now.vars.ok.0) in
     states_few m n (length c.deref-4.result.now) sizes count
 
 pub keep_normal_state_forms-requires-clause-solved : goal.keep_normal_state_forms-requires-clause-solved
 keep_normal_state_forms-requires-clause-solved c =
-    subst (AreSolved (of_equations c.normal_form_sizes-sizes.result)) (sym c.deref-5.ensures.value) c.in_ok-solved.ensures.1.finished
+    subst (AreSolved (of_equations c.count_states_and_discretes-sizes.result)) (sym c.deref-5.ensures.value) c.in_ok-solved.ensures.1.finished
 
 pub keep_normal_clause_forms-requires-clause-fit : goal.keep_normal_clause_forms-requires-clause-fit
 keep_normal_clause_forms-requires-clause-fit c =
     let m : FlatModelTree = flat_model c.args.m.now in
-    let n : Sizes = c.normal_form_sizes-sizes.result in
+    let n : Sizes = c.count_states_and_discretes-sizes.result in
     let sizes : n ≡ sizes_of m = sizes_same m n
-    (c.normal_form_sizes-sizes.ensures.states ∙ ap (λ xs. count_of_role State (map flat_variable xs)) c.deref.ensures.value)
-    (c.normal_form_sizes-sizes.ensures.discretes ∙ ap (λ xs. count_of_role Discrete (map flat_variable xs)) c.deref.ensures.value) in
+    (c.count_states_and_discretes-sizes.ensures.states ∙ ap (λ xs. count_of_role State (map flat_variable xs)) c.deref.ensures.value)
+    (c.count_states_and_discretes-sizes.ensures.discretes ∙ ap (λ xs. count_of_role Discrete (map flat_variable xs)) c.deref.ensures.value) in
     sizes_small m n sizes c.requires.flat
 
 pub keep_normal_clause_forms-requires-clause-solved : goal.keep_normal_clause_forms-requires-clause-solved
 keep_normal_clause_forms-requires-clause-solved c =
-    subst (AreSolved (of_equations c.normal_form_sizes-sizes.result)) (sym c.deref-6.ensures.value) c.in_ok-solved.ensures.1.finished
+    subst (AreSolved (of_equations c.count_states_and_discretes-sizes.result)) (sym c.deref-6.ensures.value) c.in_ok-solved.ensures.1.finished
 
 pub keep_normal_clause_forms-requires-clause-numbered : goal.keep_normal_clause_forms-requires-clause-numbered
 keep_normal_clause_forms-requires-clause-numbered c =
     let m : FlatModelTree = flat_model c.args.m.now in
-    let n : Sizes = c.normal_form_sizes-sizes.result in
+    let n : Sizes = c.count_states_and_discretes-sizes.result in
     let sizes : n ≡ sizes_of m = sizes_same m n
-    (c.normal_form_sizes-sizes.ensures.states ∙ ap (λ xs. count_of_role State (map flat_variable xs)) c.deref.ensures.value)
-    (c.normal_form_sizes-sizes.ensures.discretes ∙ ap (λ xs. count_of_role Discrete (map flat_variable xs)) c.deref.ensures.value) in
+    (c.count_states_and_discretes-sizes.ensures.states ∙ ap (λ xs. count_of_role State (map flat_variable xs)) c.deref.ensures.value)
+    (c.count_states_and_discretes-sizes.ensures.discretes ∙ ap (λ xs. count_of_role Discrete (map flat_variable xs)) c.deref.ensures.value) in
     let firsts : length c.deref-3.result.now ≡ length m.vars = one_for_each c.args.m.now c.deref-3.result.now c.in_ok-firsts.firsts.items c.len.result c.deref-3.ensures.value c.in_ok-firsts.ensures.one_each (c.len.ensures ∙ c.args.m.now.vars.ok.0) in
     let count : length c.deref-6.result.now ≡ length m.vars = ap length c.deref-6.ensures.value ∙ c.in_ok-solved.ensures.1.one_each ∙ firsts in
     subst (λ xs. All (All (IsNumberedBranch (of_clauses n) (length c.deref-6.result.now))) (map flat_clause xs)) (sym c.deref-7.ensures.value) (clauses_numbered m n (length c.deref-6.result.now) sizes count c.requires.flat)
@@ -103,10 +103,10 @@ keep_normal_clause_forms-requires-clause-numbered c =
 pub returns-in_err-keep_normal_clause_forms-clause-err : goal.returns-in_err-keep_normal_clause_forms-clause-err
 returns-in_err-keep_normal_clause_forms-clause-err c =
     let m : FlatModelTree = flat_model c.args.m.now in
-    let n : Sizes = c.normal_form_sizes-sizes.result in
+    let n : Sizes = c.count_states_and_discretes-sizes.result in
     let sizes : n ≡ sizes_of m = sizes_same m n
-    (c.normal_form_sizes-sizes.ensures.states ∙ ap (λ xs. count_of_role State (map flat_variable xs)) c.deref.ensures.value)
-    (c.normal_form_sizes-sizes.ensures.discretes ∙ ap (λ xs. count_of_role Discrete (map flat_variable xs)) c.deref.ensures.value) in
+    (c.count_states_and_discretes-sizes.ensures.states ∙ ap (λ xs. count_of_role State (map flat_variable xs)) c.deref.ensures.value)
+    (c.count_states_and_discretes-sizes.ensures.discretes ∙ ap (λ xs. count_of_role Discrete (map flat_variable xs)) c.deref.ensures.value) in
     let order : List ℕ = c.args.order.now.vars in
     let s : CountedForms = c.in_ok-solved.solved in
     let k : CountedForms = record { forms = c.new.result; count = s.count } in
@@ -124,10 +124,10 @@ returns-in_err-keep_normal_clause_forms-clause-err c =
 pub returns-clause-ok : goal.returns-clause-ok
 returns-clause-ok c =
     let m : FlatModelTree = flat_model c.args.m.now in
-    let n : Sizes = c.normal_form_sizes-sizes.result in
+    let n : Sizes = c.count_states_and_discretes-sizes.result in
     let sizes : n ≡ sizes_of m = sizes_same m n
-    (c.normal_form_sizes-sizes.ensures.states ∙ ap (λ xs. count_of_role State (map flat_variable xs)) c.deref.ensures.value)
-    (c.normal_form_sizes-sizes.ensures.discretes ∙ ap (λ xs. count_of_role Discrete (map flat_variable xs)) c.deref.ensures.value) in
+    (c.count_states_and_discretes-sizes.ensures.states ∙ ap (λ xs. count_of_role State (map flat_variable xs)) c.deref.ensures.value)
+    (c.count_states_and_discretes-sizes.ensures.discretes ∙ ap (λ xs. count_of_role Discrete (map flat_variable xs)) c.deref.ensures.value) in
     let order : List ℕ = c.args.order.now.vars in
     let s : CountedForms = c.in_ok-solved.solved in
     let k : CountedForms = record { forms = c.new.result; count = s.count } in

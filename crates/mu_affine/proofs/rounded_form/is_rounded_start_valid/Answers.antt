@@ -3,8 +3,8 @@ use Rattle.qss_machine.specs.MachineLimits.{IsRow}
 use Rattle.mu_affine.proofs.RowLaws.{row_is}
 use Rattle.mu_affine.proofs.rounded_form.is_rounded_start_valid.Goals as goal
 
-pub is_slope_row_in_limits-requires-clause-row : goal.is_slope_row_in_limits-requires-clause-row
-is_slope_row_in_limits-requires-clause-row c =
+pub is_row_in_limits-requires-clause-row : goal.is_row_in_limits-requires-clause-row
+is_row_in_limits-requires-clause-row c =
     let some = rw c.in-Some.is at c.in_ok-row.ensures.some in
     let n = length c.args.levels.now in
     let g = length c.args.values.now in

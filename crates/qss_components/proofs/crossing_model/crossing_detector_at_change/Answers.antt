@@ -7,8 +7,8 @@ use Rattle.qss_components.proofs.crossing_model.crossing_detector_at_change.Goal
 
 pub move_to-requires-clause-size_limit : goal.move_to-requires-clause-size_limit
 move_to-requires-clause-size_limit c =
-    let w : DetectorView = record { rel = c.watch.inside.rel; tick = c.watch.inside.tick; value = c.watch.inside.value; speed = c.watch.inside.speed } in
-    turned_small w c.watch.invariant c.args.tick (subst (λ (v : DetectorView). IsCrossingNext v (Some c.args.tick)) (sym c.watch.view_is) c.requires)
+    let w : DetectorView = record { rel = c.detector.inside.rel; tick = c.detector.inside.tick; value = c.detector.inside.value; speed = c.detector.inside.speed } in
+    turned_small w c.detector.invariant c.args.tick (subst (λ (v : DetectorView). IsCrossingNext v (Some c.args.tick)) (sym c.detector.view_is) c.requires)
 
 pub returns-clause-later : goal.returns-clause-later
 returns-clause-later c next is =

@@ -39,8 +39,8 @@ returns-then-input-var-2 c =
 pub returns-else-input-var-2 : goal.returns-else-input-var-2
 returns-else-input-var-2 c = state_not_given c.args.m.now c.args.tick c.args.input c.args.msg c.in-State.var c.in-State.state c.in-State.is c.if-input-var-2.false
 
-pub scale_form_value-requires-clause-value : goal.scale_form_value-requires-clause-value
-scale_form_value-requires-clause-value c =
+pub scale_discrete_value-requires-clause-value : goal.scale_discrete_value-requires-clause-value
+scale_discrete_value-requires-clause-value c =
     let m = c.args.m.now in
     let own : IsMessage m (Discrete c.in-Discrete.var c.in-Discrete.value) = subst (IsMessage m) c.in-Discrete.is c.requires.message in
     let of_value : FitsSigned w64 c.in-Discrete.value = omega (arith, ints, own.2) in
@@ -51,10 +51,10 @@ returns-then-is_crossing_input_of c =
     let m = c.args.m.now in
     let own : IsMessage m (Discrete c.in-Discrete.var c.in-Discrete.value) = subst (IsMessage m) c.in-Discrete.is c.requires.message in
     let of_value : FitsSigned w64 c.in-Discrete.value = omega (arith, ints, own.2) in
-    let of_at : FitsSigned w128 c.scale_form_value.result = record { sfits = c.scale_form_value.type_inv } in
+    let of_at : FitsSigned w128 c.scale_discrete_value.result = record { sfits = c.scale_discrete_value.type_inv } in
     let i : Input = c.args.input in
-    let at : c.scale_form_value.result ≡ c.in-Discrete.value *ℤ level_unit m = simp to_z-of_z at c.scale_form_value.ensures.value in
-    let anew : c.begin_crossing_input-then-is_crossing_input_of.result ≡ record i { tick = c.args.tick; at = c.scale_form_value.result; speed = pos 0 } = simp to_z-of_z at c.begin_crossing_input-then-is_crossing_input_of.ensures in
+    let at : c.scale_discrete_value.result ≡ c.in-Discrete.value *ℤ level_unit m = simp to_z-of_z at c.scale_discrete_value.ensures.value in
+    let anew : c.begin_crossing_input-then-is_crossing_input_of.result ≡ record i { tick = c.args.tick; at = c.scale_discrete_value.result; speed = pos 0 } = simp to_z-of_z at c.begin_crossing_input-then-is_crossing_input_of.ensures in
     anew
     ∙ ap (λ (z : ℤ). record i { tick = c.args.tick; at = z; speed = pos 0 }) at
     ∙ discrete_given m c.args.tick i c.args.msg c.in-Discrete.var c.in-Discrete.value c.in-Discrete.is (sym c.is_crossing_input_of.ensures ∙ c.if-is_crossing_input_of.true)

@@ -26,7 +26,7 @@ read_crossing_on_arrival-requires-clause-timely c =
     let place = c.loop-place.place in
     let d = c.index-crossings-place.result in
     let h : place < length c.args.crossings.now = omega (arith, c.loop-place-test.true) in
-    subst (λ (k : CrossingModel). IsTimely k.watch.tick (IsCrossingNext k.watch) c.args.tick) (sym (c.loop-place.invariant.crossings.rest place d (omega arith))) (c.requires.timely place d h)
+    subst (λ (k : CrossingModel). IsTimely k.detector.tick (IsCrossingNext k.detector) c.args.tick) (sym (c.loop-place.invariant.crossings.rest place d (omega arith))) (c.requires.timely place d h)
 
 pub read_crossing_on_arrival-requires-clause-held : goal.read_crossing_on_arrival-requires-clause-held
 read_crossing_on_arrival-requires-clause-held c =
@@ -35,8 +35,8 @@ read_crossing_on_arrival-requires-clause-held c =
     let h : place < length c.args.crossings.now = omega (arith, c.loop-place-test.true) in
     c.loop-place.invariant.rest place (omega arith)
     ∙ ap (λ flags. flag_at flags place) c.requires.held
-    ∙ get_or-map (λ (k : CrossingModel). compares k.watch.rel k.watch.value) c.args.crossings.now place d false h
-    ∙ ap (λ (k : CrossingModel). compares k.watch.rel k.watch.value) (sym (c.loop-place.invariant.crossings.rest place d (omega arith)))
+    ∙ get_or-map (λ (k : CrossingModel). compares k.detector.rel k.detector.value) c.args.crossings.now place d false h
+    ∙ ap (λ (k : CrossingModel). compares k.detector.rel k.detector.value) (sym (c.loop-place.invariant.crossings.rest place d (omega arith)))
 
 pub loop-place-preserved : goal.loop-place-preserved
 loop-place-preserved c =
@@ -50,13 +50,13 @@ loop-place-preserved c =
     let h : place < length old = omega (arith, c.loop-place-test.true) in
     let same : get_or xs place d ≡ get_or old place d = inv.crossings.rest place d (omega arith) in
     let within : place < length c.loop-place.now = omega (arith, h, inv.as_many, c.requires.same_length) in
-    let told : c.read_crossing_on_arrival.result ≡ flag_at (map (λ (k : CrossingModel). holds_at k.watch tick) old) place =
-    c.read_crossing_on_arrival.ensures.now ∙ ap (λ (k : CrossingModel). holds_at k.watch tick) same ∙ sym (get_or-map (λ (k : CrossingModel). holds_at k.watch tick) old place d false h) in
+    let told : c.read_crossing_on_arrival.result ≡ flag_at (map (λ (k : CrossingModel). holds_at k.detector tick) old) place =
+    c.read_crossing_on_arrival.ensures.now ∙ ap (λ (k : CrossingModel). holds_at k.detector tick) same ∙ sym (get_or-map (λ (k : CrossingModel). holds_at k.detector tick) old place d false h) in
     record {
       crossings = read_more tick place old xs x d h inv.crossings (c.read_crossing_on_arrival.ensures.machine ∙ ap (λ (k : CrossingModel). k.machine.value) same)
           (subst (λ (k : CrossingModel). IsRead tick (crossing_of k) (crossing_of x)) same c.read_crossing_on_arrival.ensures.read) c.read_crossing_on_arrival.ensures.later;
       as_many = length-set c.loop-place.now place c.read_crossing_on_arrival.result ∙ inv.as_many;
-      told = one_more false (flag_at (map (λ (k : CrossingModel). holds_at k.watch tick) old)) c.loop-place.now place c.read_crossing_on_arrival.result within inv.told told;
+      told = one_more false (flag_at (map (λ (k : CrossingModel). holds_at k.detector tick) old)) c.loop-place.now place c.read_crossing_on_arrival.result within inv.told told;
       rest = λ k past. get_or-set_other c.loop-place.now place k c.read_crossing_on_arrival.result false (λ e. absurd (omega (arith, e, past))) ∙ inv.rest k (omega (arith, past));
     }
 
@@ -65,9 +65,9 @@ returns c =
     let tick = c.args.tick in
     let old : List CrossingModel = c.args.crossings.now in
     let inv = c.loop-place.invariant in
-    let all : length (map (λ (k : CrossingModel). holds_at k.watch tick) old) ≡ length old = length-map old (λ (k : CrossingModel). holds_at k.watch tick) in
+    let all : length (map (λ (k : CrossingModel). holds_at k.detector tick) old) ≡ length old = length-map old (λ (k : CrossingModel). holds_at k.detector tick) in
     record {
-      now = same_lists false c.loop-place.now (map (λ (k : CrossingModel). holds_at k.watch tick) old) (inv.as_many ∙ c.requires.same_length ∙ sym all)
+      now = same_lists false c.loop-place.now (map (λ (k : CrossingModel). holds_at k.detector tick) old) (inv.as_many ∙ c.requires.same_length ∙ sym all)
           (λ k h. inv.told k (omega (arith, h, all, c.loop-place-test.false)));
       machines = λ k d h. inv.crossings.machines k d (omega (arith, h, c.loop-place-test.false)) h;
       read = λ k d h. inv.crossings.read k d (omega (arith, h, c.loop-place-test.false)) h;

@@ -11,7 +11,7 @@ use Rattle.qss_devs.proofs.coupled_arrivals.read_crossing_on_arrival.Goals as go
 
 pub returns-then-not-is_due-clause-now : goal.returns-then-not-is_due-clause-now
 returns-then-not-is_due-clause-now c =
-    let w = c.args.crossing.now.watch in
+    let w = c.args.crossing.now.detector in
     let found = c.is_due.ensures.next in
     c.requires.held
     ∙ sym (still_holds w c.args.tick found.0 c.requires.timely.not_before (omega (arith, c.requires.timely.in_time))
@@ -27,7 +27,7 @@ returns-then-not-is_due-clause-read c = inl refl
 pub returns-then-not-is_due-clause-later : goal.returns-then-not-is_due-clause-later
 returns-then-not-is_due-clause-later c n is =
     let before : c.args.tick ≤ n = c.requires.timely.not_past n is in
-    let other : n ≢ c.args.tick = λ same. c.is_due.ensures.other c.if-not-is_due.true (subst (λ (k : ℕ). IsCrossingNext c.args.crossing.now.watch (Some k)) same is) in
+    let other : n ≢ c.args.tick = λ same. c.is_due.ensures.other c.if-not-is_due.true (subst (λ (k : ℕ). IsCrossingNext c.args.crossing.now.detector (Some k)) same is) in
     omega (arith, before, other)
 
 pub internal-requires-clause-due : goal.internal-requires-clause-due
@@ -40,9 +40,9 @@ pub returns-clause-now : goal.returns-clause-now
 returns-clause-now c =
     let x = c.args.crossing.now in
     let due = c.is_due.ensures.due c.if-not-is_due.false in
-    let sent : c.output.result ≡ Some (Truth x.place (holds_at x.watch c.args.tick)) =
-    message_is c.output.result (Truth x.place (holds_at x.watch c.args.tick)) ((c.output.ensures.when (Some c.args.tick) due).1 refl) (c.output.ensures.what c.args.tick due) in
-    c.coupled_arrival_truth-now.ensures x.place (holds_at x.watch c.args.tick) sent
+    let sent : c.output.result ≡ Some (Truth x.place (holds_at x.detector c.args.tick)) =
+    message_is c.output.result (Truth x.place (holds_at x.detector c.args.tick)) ((c.output.ensures.when (Some c.args.tick) due).1 refl) (c.output.ensures.what c.args.tick due) in
+    c.message_truth-now.ensures x.place (holds_at x.detector c.args.tick) sent
 
 pub returns-clause-machine : goal.returns-clause-machine
 returns-clause-machine c = (c.internal.ensures.turned c.args.tick (c.is_due.ensures.due c.if-not-is_due.false)).2.0

@@ -22,13 +22,13 @@ read_all_on_arrival-requires-clause-same_length g c = c.requires.flags ∙ sym (
 
 pub read_all_on_arrival-requires-clause-timely : goal.read_all_on_arrival-requires-clause-timely
 read_all_on_arrival-requires-clause-timely g c =
-    subst (All (λ (k : CrossingModel). IsTimely k.watch.tick (IsCrossingNext k.watch) c.args.tick)) (sym c.as_mut_slice.ensures.value)
+    subst (All (λ (k : CrossingModel). IsTimely k.detector.tick (IsCrossingNext k.detector) c.args.tick)) (sym c.as_mut_slice.ensures.value)
     (crossings_timely c.args.m.now c.args.tick c.args.parts.now c.requires.parts c.requires.timely)
 
 pub read_all_on_arrival-requires-clause-held : goal.read_all_on_arrival-requires-clause-held
 read_all_on_arrival-requires-clause-held g c =
     crossings_hold c.args.m.now c.args.parts.now c.requires.parts c.args.now.now c.requires.flags c.requires.held
-    ∙ ap (map (λ (k : CrossingModel). compares k.watch.rel k.watch.value)) (sym c.as_mut_slice.ensures.value)
+    ∙ ap (map (λ (k : CrossingModel). compares k.detector.rel k.detector.value)) (sym c.as_mut_slice.ensures.value)
 
 pub returns : goal.returns
 returns g c =
@@ -45,14 +45,14 @@ returns g c =
     (subst (λ (zs : List CrossingModel). (k : ℕ) (d : CrossingModel) → k < length zs → (get_or ys k d).machine.value ≡ (get_or zs k d).machine.value) was c.read_all_on_arrival.ensures.machines) in
     let read = subst (λ (zs : List CrossingModel). (k : ℕ) (d : CrossingModel) → k < length old.crossings.items → IsRead tick (crossing_of (get_or old.crossings.items k d)) (crossing_of (get_or zs k d))) (sym items)
     (subst (λ (zs : List CrossingModel). (k : ℕ) (d : CrossingModel) → k < length zs → IsRead tick (crossing_of (get_or zs k d)) (crossing_of (get_or ys k d))) was c.read_all_on_arrival.ensures.read) in
-    let later = subst (All (λ (k : CrossingModel). (next : ℕ) → IsCrossingNext k.watch (Some next) → tick < next)) (sym items) c.read_all_on_arrival.ensures.later in
+    let later = subst (All (λ (k : CrossingModel). (next : ℕ) → IsCrossingNext k.detector (Some next) → tick < next)) (sym items) c.read_all_on_arrival.ensures.later in
     record {
       unchanged = refl;
       parts = read_components m tick old new c.requires.parts refl refl refl as_many machines;
       now = λ place h.
           let inside : place < length old.crossings.items = omega (arith, h, c.requires.parts.crossings) in
-          ap (λ flags. flag_at flags place) (c.read_all_on_arrival.ensures.now ∙ ap (map (λ (k : CrossingModel). holds_at k.watch tick)) was)
-          ∙ at_twice crossing_of (λ (k : Crossing). holds_at k.watch tick) old.crossings.items place no_crossing false inside;
+          ap (λ flags. flag_at flags place) (c.read_all_on_arrival.ensures.now ∙ ap (map (λ (k : CrossingModel). holds_at k.detector tick)) was)
+          ∙ at_twice crossing_of (λ (k : Crossing). holds_at k.detector tick) old.crossings.items place no_crossing false inside;
       agree = λ v a. read_agree m tick old new c.requires.parts refl refl refl as_many machines read later v a;
       later = read_later m tick old new c.requires.parts refl refl refl as_many machines read later;
     }

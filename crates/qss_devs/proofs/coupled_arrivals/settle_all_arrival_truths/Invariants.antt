@@ -7,5 +7,5 @@ use Rattle.qss_devs.proofs.coupled_arrivals.settle_all_arrival_truths.Given as g
 abbrev pub invariant-loop-place : goal.invariant-loop-place
 invariant-loop-place l = record {
   as_many : length l.flags ≡ length l.crossings;
-  each : (k : ℕ) → k < l.place → flag_at l.flags k ≡ flag_at (map (λ c. compares c.watch.rel c.watch.value) l.crossings) k;
+  each : (k : ℕ) → k < l.place → flag_at l.flags k ≡ flag_at (map (λ c. compares c.detector.rel c.detector.value) l.crossings) k;
 }

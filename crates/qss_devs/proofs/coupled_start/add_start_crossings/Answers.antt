@@ -19,21 +19,21 @@ use Rattle.qss_devs.specs.Starts.{start_values, first_input, IsFirstCrossing, Is
 use Rattle.qss_devs.proofs.Begun.{inputs_given, first_parts, own_condition, places_more, places_few}
 use Rattle.qss_devs.proofs.coupled_start.add_start_crossings.Goals as goal
 
-pub start_coupled_watch-watch-requires-clause-parts : goal.start_coupled_watch-watch-requires-clause-parts
-start_coupled_watch-watch-requires-clause-parts c =
+pub start_coupled_detector-detector-requires-clause-parts : goal.start_coupled_detector-detector-requires-clause-parts
+start_coupled_detector-detector-requires-clause-parts c =
     let m = c.args.m.now in
     let condition : Condition = c.coupled_branch_condition-condition.result.now in
     subst (λ (xs : List Input). AreParts xs condition.form.time condition.form.gamma) (sym (c.as_slice.ensures.value ∙ c.in_ok-inputs.ensures)) (first_parts m condition c.coupled_branch_condition-condition.ensures.form.bounded)
 
-pub start_coupled_watch-watch-requires-clause-lines : goal.start_coupled_watch-watch-requires-clause-lines
-start_coupled_watch-watch-requires-clause-lines c =
+pub start_coupled_detector-detector-requires-clause-lines : goal.start_coupled_detector-detector-requires-clause-lines
+start_coupled_detector-detector-requires-clause-lines c =
     let m = c.args.m.now in
     let condition : Condition = c.coupled_branch_condition-condition.result.now in
     let given : All (IsGiven m 0) (map (first_input m (start_values m)) condition.form.entries) = inputs_given m condition.form.entries c.coupled_branch_condition-condition.ensures.form.entries.known in
     subst (All (IsInput 0)) (sym (c.as_slice.ensures.value ∙ c.in_ok-inputs.ensures)) (λ k d h. (given k d h).line)
 
-pub start_coupled_watch-watch-requires-clause-size_limit : goal.start_coupled_watch-watch-requires-clause-size_limit
-start_coupled_watch-watch-requires-clause-size_limit c =
+pub start_coupled_detector-detector-requires-clause-size_limit : goal.start_coupled_detector-detector-requires-clause-size_limit
+start_coupled_detector-detector-requires-clause-size_limit c =
     let m = c.args.m.now in
     let condition : Condition = c.coupled_branch_condition-condition.result.now in
     let given : All (IsGiven m 0) (map (first_input m (start_values m)) condition.form.entries) = inputs_given m condition.form.entries c.coupled_branch_condition-condition.ensures.form.entries.known in
@@ -48,7 +48,7 @@ start_coupled_crossing-crossing-requires-clause-lines c =
     let m = c.args.m.now in
     let condition : Condition = c.coupled_branch_condition-condition.result.now in
     let given : All (IsGiven m 0) (map (first_input m (start_values m)) condition.form.entries) = inputs_given m condition.form.entries c.coupled_branch_condition-condition.ensures.form.entries.known in
-    let own : c.start_coupled_watch-watch.result.tick ≡ 0 = ap (λ (w : DetectorView). w.tick) c.start_coupled_watch-watch.ensures in
+    let own : c.start_coupled_detector-detector.result.tick ≡ 0 = ap (λ (w : DetectorView). w.tick) c.start_coupled_detector-detector.ensures in
     subst (λ t. All (IsInput t) c.in_ok-inputs.inputs.items) (sym own) (subst (All (IsInput 0)) (sym c.in_ok-inputs.ensures) (λ k d h. (given k d h).line))
 
 pub start_coupled_crossing-crossing-requires-clause-stays : goal.start_coupled_crossing-crossing-requires-clause-stays
@@ -85,12 +85,12 @@ loop-branch-preserved c =
       value = form_at m xs condition.form.time condition.form.gamma 0;
       speed = speed_by m xs condition.form.time;
     } in
-    let crossing_with : DetectorView → List Input → Crossing = λ w xs. record { place = place; watch = w; inputs = xs; time = condition.form.time; gamma = condition.form.gamma } in
+    let crossing_with : DetectorView → List Input → Crossing = λ w xs. record { place = place; detector = w; inputs = xs; time = condition.form.time; gamma = condition.form.gamma } in
     let first : IsFirstCrossing m place condition c.start_coupled_crossing-crossing.result = record {
       machine = c.start_coupled_crossing-crossing.ensures.machine ∙ c.in_ok-machine.ensures ∙ c.requires.same;
       crossing = c.start_coupled_crossing-crossing.ensures.crossing
-          ∙ ap (λ n. record { place = n; watch = c.start_coupled_watch-watch.result; inputs = c.in_ok-inputs.inputs.items; time = condition.form.time; gamma = condition.form.gamma }) count
-          ∙ ap (λ (w : DetectorView). crossing_with w c.in_ok-inputs.inputs.items) (c.start_coupled_watch-watch.ensures ∙ ap watch_of (c.as_slice.ensures.value ∙ inputs))
+          ∙ ap (λ n. record { place = n; detector = c.start_coupled_detector-detector.result; inputs = c.in_ok-inputs.inputs.items; time = condition.form.time; gamma = condition.form.gamma }) count
+          ∙ ap (λ (w : DetectorView). crossing_with w c.in_ok-inputs.inputs.items) (c.start_coupled_detector-detector.ensures ∙ ap watch_of (c.as_slice.ensures.value ∙ inputs))
           ∙ ap (crossing_with (watch_of (map (first_input m (start_values m)) condition.form.entries))) inputs;
     } in
     let here : IsFirstAt m place c.start_coupled_crossing-crossing.result = subst (λ (k : Condition). IsFirstCrossing m place k c.start_coupled_crossing-crossing.result) own first in

@@ -22,13 +22,13 @@ start_coupled_parts-requires-clause-states g c = c.as_slice.ensures.value ∙ ap
 pub start_coupled_parts-requires-clause-discretes : goal.start_coupled_parts-requires-clause-discretes
 start_coupled_parts-requires-clause-discretes g c = c.as_slice-2.ensures.value ∙ ap (λ (v : Values). v.d) c.work.view_is ∙ ap (λ (v : Values). v.d) c.in_ok-work.ensures
 
-pub set_coupled_event_snapshot-requires-clause-not_later : goal.set_coupled_event_snapshot-requires-clause-not_later
-set_coupled_event_snapshot-requires-clause-not_later g c =
+pub set_snapshot_rows-requires-clause-not_later : goal.set_snapshot_rows-requires-clause-not_later
+set_snapshot_rows-requires-clause-not_later g c =
     subst (All (λ (i : IntegratorModel _ _). i.line.tick ≤ 0)) (sym c.as_slice-6.ensures.value)
     (λ j d h. let own = ap (λ (l : Line). l.tick) (c.in_ok-parts.ensures.integrators j d h).line in omega (arith, own))
 
-pub set_coupled_event_snapshot-requires-clause-count_limit : goal.set_coupled_event_snapshot-requires-clause-count_limit
-set_coupled_event_snapshot-requires-clause-count_limit g c =
+pub set_snapshot_rows-requires-clause-count_limit : goal.set_snapshot_rows-requires-clause-count_limit
+set_snapshot_rows-requires-clause-count_limit g c =
     let m : Machine = c.args.m.now in
     omega (
       arith,
@@ -41,8 +41,8 @@ set_coupled_event_snapshot-requires-clause-count_limit g c =
       m.has_variables.few,
     )
 
-pub set_coupled_event_snapshot-requires-clause-room : goal.set_coupled_event_snapshot-requires-clause-room
-set_coupled_event_snapshot-requires-clause-room g c =
+pub set_snapshot_rows-requires-clause-room : goal.set_snapshot_rows-requires-clause-room
+set_snapshot_rows-requires-clause-room g c =
     let m : Machine = c.args.m.now in
     omega (
       arith,
@@ -68,7 +68,7 @@ returns g c =
       parts = c.in_ok-parts.parts;
       work = c.in_ok-work.work;
       truths = record { now = c.in_ok-now.now; at_arrival = c.in_ok-at_arrival.at_arrival; after_handlers = c.in_ok-after_handlers.after_handlers };
-      rows = c.set_coupled_event_snapshot.new.rows;
+      rows = c.set_snapshot_rows.new.rows;
     } in
     let first : AreFirst m q s = record {
       parts = c.in_ok-parts.ensures.parts;
@@ -81,7 +81,7 @@ returns g c =
       after_handlers = c.in_ok-after_handlers.ensures ∙ ap (λ (ks : List CrossingModel). map held ks) c.as_slice-5.ensures.value;
       room = omega (
         arith,
-        c.set_coupled_event_snapshot.ensures.room,
+        c.set_snapshot_rows.ensures.room,
         c.in_ok-rows.ensures.capacity,
         c.capacity.ensures,
         c.len.ensures,
@@ -102,7 +102,7 @@ returns g c =
     record {
       represents_snapshot = first_stands m q s first;
       snapshot = snapshot;
-      rows = c.set_coupled_event_snapshot.ensures.rows
+      rows = c.set_snapshot_rows.ensures.rows
           ∙ rows_at kind.Start 0 c.as_slice-6.result.now c.as_slice-7.result.now s c.as_slice-6.ensures.value (c.as_slice-7.ensures.value ∙ ap (λ (v : Values). v.d) c.work.view_is)
           ∙ ap (snapshot_rows kind.Start 0) snapshot;
     }

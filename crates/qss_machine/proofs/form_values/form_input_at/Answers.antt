@@ -37,8 +37,8 @@ returns-then-past_states-discretes-clause-value c =
     let x : ℤ = get_or c.args.discretes.now k (pos 0) in
     let small : IsWithin 43 x = All-get_or (IsWithin 43) c.args.discretes.now k (pos 0) c.if-past_states-discretes.true c.requires.discretes in
     let narrow : FitsSigned w64 x = omega (arith, ints, small) in
-    let fits : FitsSigned w128 c.scale_form_value.result = record { sfits = c.scale_form_value.type_inv } in
-    to_z-of_z w128 c.scale_form_value.result fits ∙ (rw (to_z-of_z w64 x narrow) at c.scale_form_value.ensures.value)
+    let fits : FitsSigned w128 c.scale_discrete_value.result = record { sfits = c.scale_discrete_value.type_inv } in
+    to_z-of_z w128 c.scale_discrete_value.result fits ∙ (rw (to_z-of_z w64 x narrow) at c.scale_discrete_value.ensures.value)
     ∙ sym (at_discrete (pos (2 ^ c.args.unit_bits)) c.args.states.now c.args.discretes.now c.args.before.now c.args.var c.if-var-states.false c.if-past_states-discretes.true)
 
 pub returns-then-past_discretes-before-clause-value : goal.returns-then-past_discretes-before-clause-value
@@ -47,6 +47,6 @@ returns-then-past_discretes-before-clause-value c =
     let x : ℤ = get_or c.args.before.now k (pos 0) in
     let small : IsWithin 43 x = All-get_or (IsWithin 43) c.args.before.now k (pos 0) c.if-past_discretes-before.true c.requires.before in
     let narrow : FitsSigned w64 x = omega (arith, ints, small) in
-    let fits : FitsSigned w128 c.scale_form_value-then-past_discretes-before.result = record { sfits = c.scale_form_value-then-past_discretes-before.type_inv } in
-    to_z-of_z w128 c.scale_form_value-then-past_discretes-before.result fits ∙ (rw (to_z-of_z w64 x narrow) at c.scale_form_value-then-past_discretes-before.ensures.value)
+    let fits : FitsSigned w128 c.scale_discrete_value-then-past_discretes-before.result = record { sfits = c.scale_discrete_value-then-past_discretes-before.type_inv } in
+    to_z-of_z w128 c.scale_discrete_value-then-past_discretes-before.result fits ∙ (rw (to_z-of_z w64 x narrow) at c.scale_discrete_value-then-past_discretes-before.ensures.value)
     ∙ sym (at_before (pos (2 ^ c.args.unit_bits)) c.args.states.now c.args.discretes.now c.args.before.now c.args.var c.if-var-states.false c.if-past_states-discretes.false c.if-past_discretes-before.true)

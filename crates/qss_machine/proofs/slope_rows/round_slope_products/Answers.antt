@@ -10,16 +10,16 @@ use mir.Syntax.{w128}
 pub returns-clause-value : goal.returns-clause-value
 returns-clause-value c =
     let sum_fits = c.ranges.sum in
-    let unit_fits : FitsSigned w128 c.slope_row_unit.result = record { sfits = c.slope_row_unit.type_inv } in
+    let unit_fits : FitsSigned w128 c.units_in_one.result = record { sfits = c.units_in_one.type_inv } in
     let fits : FitsSigned w128 c.near_div.result = record { sfits = c.near_div.type_inv } in
-    rw (to_z-of_z w128 c.near_div.result fits) (rw (to_z-of_z w128 c.args.sum sum_fits, to_z-of_z w128 c.slope_row_unit.result unit_fits, c.slope_row_unit.ensures) at c.near_div.ensures.value)
+    rw (to_z-of_z w128 c.near_div.result fits) (rw (to_z-of_z w128 c.args.sum sum_fits, to_z-of_z w128 c.units_in_one.result unit_fits, c.units_in_one.ensures) at c.near_div.ensures.value)
 
 pub returns-clause-bound : goal.returns-clause-bound
 returns-clause-bound c =
     let sum_fits = c.ranges.sum in
-    let unit_fits : FitsSigned w128 c.slope_row_unit.result = record { sfits = c.slope_row_unit.type_inv } in
+    let unit_fits : FitsSigned w128 c.units_in_one.result = record { sfits = c.units_in_one.type_inv } in
     let fits : FitsSigned w128 c.near_div.result = record { sfits = c.near_div.type_inv } in
-    let near = rw (to_z-of_z w128 c.args.sum sum_fits, to_z-of_z w128 c.slope_row_unit.result unit_fits, c.slope_row_unit.ensures) at c.near_div.ensures.nearest in
+    let near = rw (to_z-of_z w128 c.args.sum sum_fits, to_z-of_z w128 c.units_in_one.result unit_fits, c.units_in_one.ensures) at c.near_div.ensures.nearest in
     let one_unit : 2 ^ c.args.level_bits ≤ 2 ^ 24 = pow_mono c.requires.bits in
     let sum : unsigned_abs c.args.sum ≤ 2 ^ 111 = c.requires.sum in
     rw (to_z-of_z w128 c.near_div.result fits)

@@ -11,7 +11,7 @@ use Rattle.qss_machine.proofs.variable_uses.mark_entry_uses.Goals as goal
 pub loop-entry-preserved : goal.loop-entry-preserved
 loop-entry-preserved c =
     marks_more _ _ _ _ _ _ _ (λ v. list_any_more (λ (entry : Entry). entry.var == v) c.args.entries.now c.loop-entry.entry-index (record { var = 0; coef = pos 0 }) c.loop-entry-test.true)
-    c.loop-entry.invariant c.in_ok-mark_variable_use.ensures
+    c.loop-entry.invariant c.in_ok-mark_reader.ensures
 
 pub returns : goal.returns
 returns c =

@@ -134,8 +134,8 @@ leaving_drift_of-drift-requires-clause-change c =
     let of_unit : FitsSigned w128 c.args.f.now.unit = unit_wide c.args.f.now in
     simp to_z-of_z small
 
-pub first_order2_leaving-requires-clause-inside : goal.first_order2_leaving-requires-clause-inside
-first_order2_leaving-requires-clause-inside c =
+pub first_step_past_limit-requires-clause-inside : goal.first_step_past_limit-requires-clause-inside
+first_step_past_limit-requires-clause-inside c =
     let m = c.args.f.now.machine in
     let q = c.args.q.now in
     let v = motion_at m q c.args.tick in
@@ -171,8 +171,8 @@ first_order2_leaving-requires-clause-inside c =
     (sym limit) (c.requires.moves.near j c.requires.state)) in
     simp to_z-of_z near
 
-pub first_order2_leaving-requires-clause-bound : goal.first_order2_leaving-requires-clause-bound
-first_order2_leaving-requires-clause-bound c =
+pub first_step_past_limit-requires-clause-bound : goal.first_step_past_limit-requires-clause-bound
+first_step_past_limit-requires-clause-bound c =
     let m = c.args.f.now.machine in
     let is : c.index-4.result.now ≡ reach_of m c.args.state =
     limit_is c.args.f.now c.args.state c.requires.state _ c.index-4.ensures in
@@ -182,8 +182,8 @@ first_order2_leaving-requires-clause-bound c =
     limit_wide m c.args.state c.requires.state _ is in
     simp to_z-of_z below
 
-pub first_order2_leaving-requires-clause-bend : goal.first_order2_leaving-requires-clause-bend
-first_order2_leaving-requires-clause-bend c =
+pub first_step_past_limit-requires-clause-bend : goal.first_step_past_limit-requires-clause-bend
+first_step_past_limit-requires-clause-bend c =
     let m = c.args.f.now.machine in
     let q = c.args.q.now in
     let v = motion_at m q c.args.tick in
@@ -255,9 +255,9 @@ returns c =
     c.args.f.now.is_fixed.own_unit
     ∙ ap (λ (z : ℤ). rise_at m j v.levels -ℤ level_unit m *ℤ z) change in
     let Found = λ (g d b l : ℤ). FirstUpTo (λ k. l ≤ℤ pos (unsigned_abs (curve_at g d b k)))
-    c.args.reach c.first_order2_leaving.result in
+    c.args.reach c.first_step_past_limit.result in
     let found : Found c.leaving_gap_of-gap.result c.leaving_drift_of-drift.result c.index-3.result.now
-    c.index-4.result.now = simp to_z-of_z at c.first_order2_leaving.ensures in
+    c.index-4.result.now = simp to_z-of_z at c.first_step_past_limit.ensures in
     let at_gap : Found (int_at v.states j -ℤ level_unit m *ℤ int_at v.levels j)
     c.leaving_drift_of-drift.result c.index-3.result.now c.index-4.result.now =
     subst (λ g. Found g c.leaving_drift_of-drift.result c.index-3.result.now c.index-4.result.now)

@@ -14,7 +14,7 @@ returns c = record {
     touched = ap (λ (s : PlaceList). s.count) c.in_ok-empty.ensures
         ∙ ap length c.as_slice-states.ensures;
     calm = c.in_ok-calm_level_limit.ensures;
-    levels = ap length c.in_ok-equal_list.ensures ∙ length-replicate _ _
+    levels = ap length c.in_ok-repeat_value.ensures ∙ length-replicate _ _
         ∙ ap length c.as_slice-states.ensures;
     rows = omega (
       arith,

@@ -48,10 +48,10 @@ returns c =
     record {
       lists = record {
         places = ap length places ∙ length-map-range_with_len (start_place m) 0 n;
-        changes = ap length c.in_ok-equal_list.ensures ∙ length-replicate _ _ ∙ count;
-        rises = ap length c.in_ok-equal_list-2.ensures ∙ length-replicate _ _ ∙ count;
-        bends = ap length c.in_ok-equal_list-3.ensures ∙ length-replicate _ _ ∙ count;
+        changes = ap length c.in_ok-repeat_value.ensures ∙ length-replicate _ _ ∙ count;
+        rises = ap length c.in_ok-repeat_value-2.ensures ∙ length-replicate _ _ ∙ count;
+        bends = ap length c.in_ok-repeat_value-3.ensures ∙ length-replicate _ _ ∙ count;
       };
       places = places;
-      changes = c.in_ok-equal_list.ensures ∙ ap (λ (k : ℕ). replicate k (pos 0)) count;
+      changes = c.in_ok-repeat_value.ensures ∙ ap (λ (k : ℕ). replicate k (pos 0)) count;
     }

@@ -12,8 +12,8 @@ use Rattle.mu_num.proofs.Tables.{map_twice}
 use Rattle.qss_order2.proofs.order2_start.start_order2_states.Goals as goal
 use mir.Syntax.{w128}
 
-pub finer_order2_start-requires : goal.finer_order2_start-requires
-finer_order2_start-requires c =
+pub fine_state-requires : goal.fine_state-requires
+fine_state-requires c =
     let j = c.loop-j.j in
     let m = c.args.m.now in
     let state : StateInfo = c.index-states-j.result in
@@ -47,12 +47,12 @@ loop-j-preserved c =
     let small : IsWithin 88 read.x0 = subst (λ (s : StateInfo). IsWithin 88 s.x0) (sym is)
     ((m.has_variables.each_state j state h).start) in
     let of_x : FitsSigned w128 read.x0 = wide read.x0 (omega (arith, small)) in
-    let fits : FitsSigned w128 c.finer_order2_start.result = record { sfits = c.finer_order2_start.type_inv } in
-    let own : c.finer_order2_start.result ≡ pos 64 *ℤ read.x0 = simp to_z-of_z at c.finer_order2_start.ensures in
+    let fits : FitsSigned w128 c.fine_state.result = record { sfits = c.fine_state.type_inv } in
+    let own : c.fine_state.result ≡ pos 64 *ℤ read.x0 = simp to_z-of_z at c.fine_state.ensures in
     record {
       so_far = map_more (λ (s : StateInfo). pos 64 *ℤ s.x0) m.states j state c.loop-j.list.items
           c.push_reserved.new.self.items _ h inv.so_far c.push_reserved.ensures.items
-          (to_z-of_z w128 c.finer_order2_start.result fits ∙ own ∙ ap (λ (s : StateInfo). pos 64 *ℤ s.x0) is);
+          (to_z-of_z w128 c.fine_state.result fits ∙ own ∙ ap (λ (s : StateInfo). pos 64 *ℤ s.x0) is);
       as_many = omega (arith, c.push_reserved.ensures.len, inv.as_many);
       room = omega (arith, c.push_reserved.ensures.capacity, inv.room);
     }

@@ -9,8 +9,8 @@ use Rattle.qss_own_traces.proofs.Legitimate.{held_trace, trace_legitimate}
 use Rattle.qss_own_traces.proofs.Placing.{held_places}
 use Rattle.qss_own_traces.proofs.first_order_trace.first_trace.Goals as goal
 
-pub finish_own_trace_draft-requires-clause-places : goal.finish_own_trace_draft-requires-clause-places
-finish_own_trace_draft-requires-clause-places c =
+pub finish_draft_trace-requires-clause-places : goal.finish_draft_trace-requires-clause-places
+finish_draft_trace-requires-clause-places c =
     let m = c.args.m.now in
     let end = c.in_ok-run_to_last_tick.ensures.end in
     let snapshots = (first_run m).snapshots in
@@ -24,7 +24,7 @@ returns-clause-traced c =
     let snapshots = (first_run m).snapshots in
     record {
       reaches_end = end.reaches_end;
-      is_trace = held_trace m 1 (states_from (start_snapshot m) snapshots) (levels_from (start_snapshot m) snapshots) c.run_to_last_tick.new.self.draft _ c.requires.size end.held c.in_ok-finish_own_trace_draft.ensures;
+      is_trace = held_trace m 1 (states_from (start_snapshot m) snapshots) (levels_from (start_snapshot m) snapshots) c.run_to_last_tick.new.self.draft _ c.requires.size end.held c.in_ok-finish_draft_trace.ensures;
     }
 
 pub returns-clause-legitimate : goal.returns-clause-legitimate

@@ -24,8 +24,8 @@ run_to_last_tick-requires-clause-fits c =
     let a = c.affine_system-a.ensures in
     record { same_size = a.size; same = a.system; small = small-system c.args.m.now c.affine_system-a.result c.requires.size.few a.size a.coef a.system }
 
-pub finish_own_trace_draft-requires-clause-places : goal.finish_own_trace_draft-requires-clause-places
-finish_own_trace_draft-requires-clause-places c =
+pub finish_draft_trace-requires-clause-places : goal.finish_draft_trace-requires-clause-places
+finish_draft_trace-requires-clause-places c =
     let m = c.args.m.now in
     let end = c.in_ok-run_to_last_tick.ensures.end in
     let run = second_order_run m in
@@ -39,7 +39,7 @@ returns-clause-traced c =
     let run = second_order_run m in
     record {
       reaches_end = end.reaches_end;
-      is_trace = held_trace m second_scale (states_from2 run.start run.snapshots) (levels_from2 run.start run.snapshots) c.run_to_last_tick.new.self.draft _ c.requires.size end.held c.in_ok-finish_own_trace_draft.ensures;
+      is_trace = held_trace m second_scale (states_from2 run.start run.snapshots) (levels_from2 run.start run.snapshots) c.run_to_last_tick.new.self.draft _ c.requires.size end.held c.in_ok-finish_draft_trace.ensures;
     }
 
 pub returns-clause-legitimate : goal.returns-clause-legitimate

@@ -15,9 +15,9 @@ returns-then-speed-lt0 c =
     let of_unit = c.ranges.unit in
     let gap = c.args.x -ℤ c.args.unit *ℤ c.args.level in
     let limit = c.args.unit *ℤ c.args.quantum in
-    let of_room : FitsSigned w128 c.level_gap_below.result = record { sfits = c.level_gap_below.type_inv } in
+    let of_room : FitsSigned w128 c.room_below.result = record { sfits = c.room_below.type_inv } in
     let of_back : FitsSigned w128 (pos 0 -ℤ c.args.speed) = omega (arith, ints, c.requires.speed) in
-    let room : c.level_gap_below.result ≡ limit +ℤ gap = simp to_z-of_z at c.level_gap_below.ensures.value in
+    let room : c.room_below.result ≡ limit +ℤ gap = simp to_z-of_z at c.room_below.ensures.value in
     leaves_below gap c.args.speed (pos 0 -ℤ c.args.speed) limit _ (omega (arith, ints)) (omega (arith, ints)) c.requires.near (rw room at (simp to_z-of_z at c.first_tick.ensures))
 
 pub returns-else-speed-lt0 : goal.returns-else-speed-lt0
@@ -29,6 +29,6 @@ returns-else-speed-lt0 c =
     let of_unit = c.ranges.unit in
     let gap = c.args.x -ℤ c.args.unit *ℤ c.args.level in
     let limit = c.args.unit *ℤ c.args.quantum in
-    let of_room : FitsSigned w128 c.level_gap_above.result = record { sfits = c.level_gap_above.type_inv } in
-    let room : c.level_gap_above.result ≡ limit -ℤ gap = simp to_z-of_z at c.level_gap_above.ensures.value in
+    let of_room : FitsSigned w128 c.room_above.result = record { sfits = c.room_above.type_inv } in
+    let room : c.room_above.result ≡ limit -ℤ gap = simp to_z-of_z at c.room_above.ensures.value in
     leaves_above gap c.args.speed limit _ (omega (arith, ints)) c.requires.near (rw room at (simp to_z-of_z at c.first_tick-else-speed-lt0.ensures))

@@ -6,9 +6,9 @@ use Rattle.qss_rows.specs.Simulations.{text_in}
 use Rattle.qss_rows.specs.Writes.{IsWriting}
 use Rattle.qss_rows.proofs.simulation_rows.write_simulation_event.Goals as goal
 
-pub returns-in_err-write_simulation_rows : goal.returns-in_err-write_simulation_rows
-returns-in_err-write_simulation_rows g c =
-    let given : c.from_residual.result ≡ Err c.in_err-write_simulation_rows.field-0.0 = search rules in
+pub returns-in_err-write_last_event : goal.returns-in_err-write_last_event
+returns-in_err-write_last_event g c =
+    let given : c.from_residual.result ≡ Err c.in_err-write_last_event.field-0.0 = search rules in
     let next = c.next_event-end in
     record {
       machine = next.ensures.machine;
@@ -16,9 +16,9 @@ returns-in_err-write_simulation_rows g c =
       unended = search rules;
       same_end = search rules;
       ended = search rules;
-      written = subst (λ r. IsWriting (λ k. g.O.Sink.written k) (λ k. g.O.Sink.faults k) (λ k. g.O.Sink.failed k) (result_err r) c.args.out.now c.write_simulation_rows.new.out (text_in (g.S.Simulation.present next.new.self))) (sym given)
-          c.in_err-write_simulation_rows.ensures.written;
-      stopped = λ e. c.in_err-write_simulation_rows.ensures.stopped (subst (λ r. result_err r ≡ Some Memory) given e);
+      written = subst (λ r. IsWriting (λ k. g.O.Sink.written k) (λ k. g.O.Sink.faults k) (λ k. g.O.Sink.failed k) (result_err r) c.args.out.now c.write_last_event.new.out (text_in (g.S.Simulation.present next.new.self))) (sym given)
+          c.in_err-write_last_event.ensures.written;
+      stopped = λ e. c.in_err-write_last_event.ensures.stopped (subst (λ r. result_err r ≡ Some Memory) given e);
     }
 
 pub returns : goal.returns
@@ -30,6 +30,6 @@ returns g c =
       unended = next.ensures.unended;
       same_end = next.ensures.same_end;
       ended = next.ensures.ended;
-      written = c.in_ok-write_simulation_rows.ensures.written;
+      written = c.in_ok-write_last_event.ensures.written;
       stopped = λ e. absurd (cc e);
     }

@@ -10,20 +10,20 @@ use Rattle.qss_rows.proofs.Simulated.{some_holds}
 use Rattle.qss_rows.proofs.WrittenLines.{text_in-append, stops_early, stops_sooner, begins, goes_on, fails, halts, ends}
 use Rattle.qss_rows.proofs.simulation_rows.write_simulation_events.Goals as goal
 
-pub returns-in_err-write_simulation_rows : goal.returns-in_err-write_simulation_rows
-returns-in_err-write_simulation_rows g c =
-    let given : c.from_residual.result ≡ Err c.in_err-write_simulation_rows.field-0.0 = search rules in
+pub returns-in_err-write_last_event : goal.returns-in_err-write_last_event
+returns-in_err-write_last_event g c =
+    let given : c.from_residual.result ≡ Err c.in_err-write_last_event.field-0.0 = search rules in
     let present = g.S.Simulation.present c.args.sim.now in
     let to_come = g.S.Simulation.to_come c.args.sim.now in
     record {
       machine = refl;
       written =
-          subst (λ r. IsWriting (λ k. g.O.Sink.written k) (λ k. g.O.Sink.faults k) (λ k. g.O.Sink.failed k) (result_err r) c.args.out.now c.write_simulation_rows.new.out (text_in (present ++ to_come))) (sym given)
-          (subst (IsWriting (λ k. g.O.Sink.written k) (λ k. g.O.Sink.faults k) (λ k. g.O.Sink.failed k) (Some c.in_err-write_simulation_rows.field-0.0) c.args.out.now c.write_simulation_rows.new.out) (sym (text_in-append present to_come))
-          (stops_early (λ k. g.O.Sink.written k) (λ k. g.O.Sink.faults k) (λ k. g.O.Sink.failed k) c.in_err-write_simulation_rows.field-0.0 c.args.out.now c.write_simulation_rows.new.out (text_in present) (text_in to_come) c.in_err-write_simulation_rows.ensures.written));
+          subst (λ r. IsWriting (λ k. g.O.Sink.written k) (λ k. g.O.Sink.faults k) (λ k. g.O.Sink.failed k) (result_err r) c.args.out.now c.write_last_event.new.out (text_in (present ++ to_come))) (sym given)
+          (subst (IsWriting (λ k. g.O.Sink.written k) (λ k. g.O.Sink.faults k) (λ k. g.O.Sink.failed k) (Some c.in_err-write_last_event.field-0.0) c.args.out.now c.write_last_event.new.out) (sym (text_in-append present to_come))
+          (stops_early (λ k. g.O.Sink.written k) (λ k. g.O.Sink.faults k) (λ k. g.O.Sink.failed k) c.in_err-write_last_event.field-0.0 c.args.out.now c.write_last_event.new.out (text_in present) (text_in to_come) c.in_err-write_last_event.ensures.written));
       stopped = λ f.
-          stops_sooner (λ k. g.O.Sink.written k) [] present to_come c.args.out.now c.write_simulation_rows.new.out
-          (c.in_err-write_simulation_rows.ensures.stopped (subst (λ r. result_err r ≡ Some Memory) given f));
+          stops_sooner (λ k. g.O.Sink.written k) [] present to_come c.args.out.now c.write_last_event.new.out
+          (c.in_err-write_last_event.ensures.stopped (subst (λ r. result_err r ≡ Some Memory) given f));
       end = search rules;
     }
 
@@ -31,8 +31,8 @@ pub events-init : goal.events-init
 events-init g c = record {
   machine = refl;
   goes_on = c.requires;
-  way = begins (λ k. g.O.Sink.written k) (λ k. g.O.Sink.faults k) (λ k. g.O.Sink.failed k) c.args.out.now c.write_simulation_rows.new.out (g.S.Simulation.present c.args.sim.now) (g.S.Simulation.to_come c.args.sim.now)
-      c.in_ok-write_simulation_rows.ensures.written;
+  way = begins (λ k. g.O.Sink.written k) (λ k. g.O.Sink.faults k) (λ k. g.O.Sink.failed k) c.args.out.now c.write_last_event.new.out (g.S.Simulation.present c.args.sim.now) (g.S.Simulation.to_come c.args.sim.now)
+      c.in_ok-write_last_event.ensures.written;
   same_end = λ end h. h;
 }
 

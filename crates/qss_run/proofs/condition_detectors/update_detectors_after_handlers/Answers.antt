@@ -111,8 +111,8 @@ returns c =
       kept = λ place h none own_speed.
           let before = are.kept place (among_settling m place h (reinitialized_of s.work.log) s.assigned.items s.changed.items ∙ none) in
           let on = going.each place (omega (arith, h, many)) in
-          let stays = on.kept (ap (λ (w : DetectorView). w.speed) before.watch ∙ own_speed ∙ ap (speed_of m (condition_at m place).form) (sym slopes)) in
-          record { watch = stays.0 ∙ before.watch; truth = ap (λ (flags : List Bool). flag_at flags place) still ∙ before.truth; due = stays.1 ∙ before.due };
+          let stays = on.kept (ap (λ (w : DetectorView). w.speed) before.detector ∙ own_speed ∙ ap (speed_of m (condition_at m place).form) (sym slopes)) in
+          record { detector = stays.0 ∙ before.detector; truth = ap (λ (flags : List Bool). flag_at flags place) still ∙ before.truth; due = stays.1 ∙ before.due };
       unread = λ j none.
           along.at_arrival.others j (
           ap (λ vs. one_reads m (touched_after m (reinitialized_of s.work.log) vs c.as_slice-4.result.now) j) c.as_slice-3.ensures.value

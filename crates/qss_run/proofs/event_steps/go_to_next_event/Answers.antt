@@ -87,8 +87,8 @@ loop-tick-preserved g c =
       are_silent = ((before.0 ++ visited.0) ++ next ∷ [], silent_visit Rule m c.args.from w0 (before.0 ++ visited.0) t next stepped none, omega (arith, few));
     }
 
-pub set_event_step_ends-requires : goal.set_event_step_ends-requires
-set_event_step_ends-requires g c =
+pub set_last_rows-requires : goal.set_last_rows-requires
+set_last_rows-requires g c =
     let at_last : c.loop-tick.tick ≡ c.args.m.now.last = omega (arith, c.loop-tick-test.false, c.loop-tick.invariant.in_time) in
     subst (λ t. IsStoreAt c.args.m.now t c.loop-tick.s) at_last c.loop-tick.invariant.stands
 
@@ -136,4 +136,4 @@ returns-clause-counted g c =
     let end : c.loop-tick.tick ≡ m.last = omega (arith, c.loop-tick.invariant.in_time, c.loop-tick-test.false) in
     let there : AreEventFree Rule m c.args.from w0 before.0 m.last (snapshot_of m.last c.loop-tick.s) =
     subst (λ t. AreEventFree Rule m c.args.from w0 before.0 t (snapshot_of t c.loop-tick.s)) end before.1 in
-    (before.0, subst (AreEventFree Rule m c.args.from w0 before.0 m.last) (sym c.set_event_step_ends.ensures.snapshot) there, omega (arith, before.2))
+    (before.0, subst (AreEventFree Rule m c.args.from w0 before.0 m.last) (sym c.set_last_rows.ensures.snapshot) there, omega (arith, before.2))

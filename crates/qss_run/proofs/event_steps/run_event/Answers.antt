@@ -41,16 +41,16 @@ make_risen_truths_due-requires-clause-none_risen g c calm place h =
     ∙ ap (λ b. became_true s.conditions.at_arrival.items b place) c.as_slice-after_handlers.ensures.value
     ∙ none_to_call c.args.m.now c.args.tick s c.requires.stands calm place
 
-pub take_event_step_states-requires-clause-none_before : goal.take_event_step_states-requires-clause-none_before
-take_event_step_states-requires-clause-none_before g c =
+pub take_due_states-requires-clause-none_before : goal.take_due_states-requires-clause-none_before
+take_due_states-requires-clause-none_before g c =
     let s : Store = c.args.s.now in
     let fits = c.requires.stands.fits in
     none_called_before c.len-states.result (c.args.tick + 1) c.as_slice-at_arrival.result.now c.as_slice-after_handlers.result.now s.agenda c.make_risen_truths_due.new.agenda c.make_risen_truths_due.ensures
     (omega (arith, fits.places, c.len-states.ensures, s.lines.ok.0, fits.lines, ap length c.as_slice-after_handlers.ensures.value, fits.own_conditions.after_handlers))
     (λ place due e. omega (arith, dues_later c.args.m.now c.args.tick s c.requires.stands place due e))
 
-pub take_event_step_conditions-requires-clause-count_limit : goal.take_event_step_conditions-requires-clause-count_limit
-take_event_step_conditions-requires-clause-count_limit g c =
+pub take_due_conditions-requires-clause-count_limit : goal.take_due_conditions-requires-clause-count_limit
+take_due_conditions-requires-clause-count_limit g c =
     let s : Store = c.args.s.now in
     omega (
       arith,
@@ -64,11 +64,11 @@ take_event_step_conditions-requires-clause-count_limit g c =
       conditions_few c.args.m.now,
     )
 
-pub take_event_step_conditions-requires-clause-none_before : goal.take_event_step_conditions-requires-clause-none_before
-take_event_step_conditions-requires-clause-none_before g c =
+pub take_due_conditions-requires-clause-none_before : goal.take_due_conditions-requires-clause-none_before
+take_due_conditions-requires-clause-none_before g c =
     let s : Store = c.args.s.now in
     let fits = c.requires.stands.fits in
-    none_left_before c.len-states.result (c.args.tick + 1) c.take_event_step_states.new.moved.items c.make_risen_truths_due.new.agenda c.take_event_step_states.new.agenda c.take_event_step_states.ensures.due c.take_event_step_states.ensures.out.without
+    none_left_before c.len-states.result (c.args.tick + 1) c.take_due_states.new.moved.items c.make_risen_truths_due.new.agenda c.take_due_states.new.agenda c.take_due_states.ensures.due c.take_due_states.ensures.out.without
     (none_called_before c.len-states.result (c.args.tick + 1) c.as_slice-at_arrival.result.now c.as_slice-after_handlers.result.now s.agenda c.make_risen_truths_due.new.agenda c.make_risen_truths_due.ensures
     (omega (arith, fits.places, c.len-states.ensures, s.lines.ok.0, fits.lines, ap length c.as_slice-after_handlers.ensures.value, fits.own_conditions.after_handlers))
     (λ place due e. omega (arith, dues_later c.args.m.now c.args.tick s c.requires.stands place due e)))
@@ -83,9 +83,9 @@ run_event_of_states-requires-clause-ready g c =
     record {
       taken = (
         s.agenda,
-        is_taken m c.args.tick s c.len-states.result c.len-conditions.result c.as_slice-at_arrival.result.now c.as_slice-after_handlers.result.now c.take_event_step_states.new.moved c.take_event_step_conditions.new.changed
-            c.make_risen_truths_due.new.agenda c.take_event_step_states.new.agenda c.take_event_step_conditions.new.agenda c.requires.stands states places c.as_slice-at_arrival.ensures.value c.as_slice-after_handlers.ensures.value
-            c.make_risen_truths_due.ensures c.take_event_step_states.ensures.due c.take_event_step_states.ensures.out.without c.take_event_step_conditions.ensures.changing c.take_event_step_conditions.ensures.taken c.take_event_step_states.ensures.out.room c.take_event_step_conditions.ensures.room,
+        is_taken m c.args.tick s c.len-states.result c.len-conditions.result c.as_slice-at_arrival.result.now c.as_slice-after_handlers.result.now c.take_due_states.new.moved c.take_due_conditions.new.changed
+            c.make_risen_truths_due.new.agenda c.take_due_states.new.agenda c.take_due_conditions.new.agenda c.requires.stands states places c.as_slice-at_arrival.ensures.value c.as_slice-after_handlers.ensures.value
+            c.make_risen_truths_due.ensures c.take_due_states.ensures.due c.take_due_states.ensures.out.without c.take_due_conditions.ensures.changing c.take_due_conditions.ensures.taken c.take_due_states.ensures.out.room c.take_due_conditions.ensures.room,
       );
       in_time = c.requires.in_time;
     }
@@ -100,9 +100,9 @@ run_event_with_conditions-requires g c =
     record {
       taken = (
         s.agenda,
-        is_taken m c.args.tick s c.len-states.result c.len-conditions.result c.as_slice-at_arrival.result.now c.as_slice-after_handlers.result.now c.take_event_step_states.new.moved c.take_event_step_conditions.new.changed
-            c.make_risen_truths_due.new.agenda c.take_event_step_states.new.agenda c.take_event_step_conditions.new.agenda c.requires.stands states places c.as_slice-at_arrival.ensures.value c.as_slice-after_handlers.ensures.value
-            c.make_risen_truths_due.ensures c.take_event_step_states.ensures.due c.take_event_step_states.ensures.out.without c.take_event_step_conditions.ensures.changing c.take_event_step_conditions.ensures.taken c.take_event_step_states.ensures.out.room c.take_event_step_conditions.ensures.room,
+        is_taken m c.args.tick s c.len-states.result c.len-conditions.result c.as_slice-at_arrival.result.now c.as_slice-after_handlers.result.now c.take_due_states.new.moved c.take_due_conditions.new.changed
+            c.make_risen_truths_due.new.agenda c.take_due_states.new.agenda c.take_due_conditions.new.agenda c.requires.stands states places c.as_slice-at_arrival.ensures.value c.as_slice-after_handlers.ensures.value
+            c.make_risen_truths_due.ensures c.take_due_states.ensures.due c.take_due_states.ensures.out.without c.take_due_conditions.ensures.changing c.take_due_conditions.ensures.taken c.take_due_states.ensures.out.room c.take_due_conditions.ensures.room,
       );
       in_time = c.requires.in_time;
     }

@@ -130,8 +130,8 @@ returns-then-is_some-clause-visited g c =
 pub returns-then-is_some-clause-kept : goal.returns-then-is_some-clause-kept
 returns-then-is_some-clause-kept g c none = clash c.requantize_moved-over.result (sym c.is_some.ensures ∙ c.if-is_some.true) none
 
-pub update_state_event_step-requires-clause-ready : goal.update_state_event_step-requires-clause-ready
-update_state_event_step-requires-clause-ready g c =
+pub continue_moved_states-requires-clause-ready : goal.continue_moved_states-requires-clause-ready
+continue_moved_states-requires-clause-ready g c =
     let m = c.args.m.now in
     let t = c.args.tick + 1 in
     let s : Store = c.args.s.now in
@@ -207,11 +207,11 @@ update_state_event_step-requires-clause-ready g c =
           omega (arith, ap (λ ls. (line_at ls j).tick) c.as_mut_slice-2.ensures.value, not_later);
     }
 
-pub update_state_event_step-requires-clause-tick_limit : goal.update_state_event_step-requires-clause-tick_limit
-update_state_event_step-requires-clause-tick_limit g c = omega (arith, c.requires.ready.in_time, c.args.m.now.has_units.last_tick)
+pub continue_moved_states-requires-clause-tick_limit : goal.continue_moved_states-requires-clause-tick_limit
+continue_moved_states-requires-clause-tick_limit g c = omega (arith, c.requires.ready.in_time, c.args.m.now.has_units.last_tick)
 
-pub update_state_event_step-requires-clause-size_limit : goal.update_state_event_step-requires-clause-size_limit
-update_state_event_step-requires-clause-size_limit g c =
+pub continue_moved_states-requires-clause-size_limit : goal.continue_moved_states-requires-clause-size_limit
+continue_moved_states-requires-clause-size_limit g c =
     let m = c.args.m.now in
     let t = c.args.tick + 1 in
     let s : Store = c.args.s.now in
@@ -223,8 +223,8 @@ update_state_event_step-requires-clause-size_limit g c =
     let none = both_none (first_exceeding 88 (states_at s.lines.items t)) (option_or (first_exceeding 43 fresh) (position (exceeds_row_limits m fresh s.work.d) m.rows)) (sym calm ∙ over) in
     subst (λ ls. All (IsWithin 88) (states_at ls t)) (sym c.as_mut_slice-2.ensures.value) (lines_then m c.args.tick c.requires.ready.taken.0 s c.requires.ready.taken.1 c.requires.ready.in_time none.0).small
 
-pub update_state_event_step-requires-clause-watched : goal.update_state_event_step-requires-clause-watched
-update_state_event_step-requires-clause-watched g c place inside =
+pub continue_moved_states-requires-clause-watched : goal.continue_moved_states-requires-clause-watched
+continue_moved_states-requires-clause-watched g c place inside =
     let m = c.args.m.now in
     let t = c.args.tick + 1 in
     let s : Store = c.args.s.now in
@@ -236,20 +236,20 @@ update_state_event_step-requires-clause-watched g c place inside =
     (subst (λ d. IsDetectorAt m t x d s.slopes.items place (detector_at s.conditions.detectors.items place) (due_at s.agenda (state_count m + place))) (sym of_d)
     (watched m c.args.tick agenda s c.requires.ready.taken.1 c.requires.ready.in_time c.requires.none_changes place inside)))
 
-pub update_state_event_step-requires-clause-room : goal.update_state_event_step-requires-clause-room
-update_state_event_step-requires-clause-room g c = c.requires.ready.taken.1.stands.fits.room.touched
+pub continue_moved_states-requires-clause-room : goal.continue_moved_states-requires-clause-room
+continue_moved_states-requires-clause-room g c = c.requires.ready.taken.1.stands.fits.room.touched
 
 pub copy_settled_truths-requires-clause-same_length : goal.copy_settled_truths-requires-clause-same_length
 copy_settled_truths-requires-clause-same_length g c =
-    ap length c.as_mut_slice-at_arrival.ensures.value ∙ c.update_state_event_step.ensures.fits.at_arrival ∙ sym c.update_state_event_step.ensures.fits.after_handlers ∙ sym (ap length c.as_slice-after_handlers.ensures.value)
+    ap length c.as_mut_slice-at_arrival.ensures.value ∙ c.continue_moved_states.ensures.fits.at_arrival ∙ sym c.continue_moved_states.ensures.fits.after_handlers ∙ sym (ap length c.as_slice-after_handlers.ensures.value)
 
 pub copy_settled_truths-requires-clause-count : goal.copy_settled_truths-requires-clause-count
 copy_settled_truths-requires-clause-count g c =
-    let fits = c.update_state_event_step.ensures.fits in fits.flipped ∙ sym (ap length c.as_slice-after_handlers.ensures.value ∙ fits.after_handlers)
+    let fits = c.continue_moved_states.ensures.fits in fits.flipped ∙ sym (ap length c.as_slice-after_handlers.ensures.value ∙ fits.after_handlers)
 
 pub copy_settled_truths-requires-clause-alike : goal.copy_settled_truths-requires-clause-alike
 copy_settled_truths-requires-clause-alike g c = λ place none.
-    let rest = c.update_state_event_step.ensures.rest in
+    let rest = c.continue_moved_states.ensures.rest in
     ap (λ flags. flag_at flags place) (c.as_mut_slice-at_arrival.ensures.value ∙ ap (λ (all : Conditions). all.at_arrival.items) rest)
     ∙ c.requires.ready.taken.1.stands.alike place (ap (λ (all : Conditions). is_listed all.flipped.places place) (sym rest) ∙ none)
     ∙ sym (ap (λ flags. flag_at flags place) (c.as_slice-after_handlers.ensures.value ∙ ap (λ (all : Conditions). all.after_handlers.items) rest))
@@ -279,32 +279,32 @@ returns g c =
     c.as_slice-4.ensures.value ∙ with_items_is s.levels c.requantize_moved-over.new.levels many ∙ c.requantize_moved-over.ensures.taken.1.levels calm in
     let of_d : c.as_slice-5.result.now ≡ s.work.d = c.as_slice-5.ensures.value ∙ ap (λ (v : Values). v.d) c.work.view_is in
     let fits = taken.stands.fits in
-    let own : Conditions = c.update_state_event_step.new.watched in
-    let own_settled : own.after_handlers.items ≡ s.conditions.after_handlers.items = ap (λ (all : Conditions). all.after_handlers.items) c.update_state_event_step.ensures.rest in
+    let own : Conditions = c.continue_moved_states.new.condition_set in
+    let own_settled : own.after_handlers.items ≡ s.conditions.after_handlers.items = ap (λ (all : Conditions). all.after_handlers.items) c.continue_moved_states.ensures.rest in
     let next : Store = record s {
       conditions = record own { at_arrival = with_items own.at_arrival c.copy_settled_truths.new.at_arrival; flipped = c.copy_settled_truths.new.flipped };
       levels = with_items s.levels c.requantize_moved-over.new.levels;
-      slopes = with_items s.slopes c.update_state_event_step.new.slopes;
-      lines = with_items s.lines c.update_state_event_step.new.lines;
+      slopes = with_items s.slopes c.continue_moved_states.new.slopes;
+      lines = with_items s.lines c.continue_moved_states.new.lines;
       weights = c.requantize_moved-over.new.weights;
-      agenda = c.update_state_event_step.new.agenda;
-      touched = c.update_state_event_step.new.touched;
+      agenda = c.continue_moved_states.new.agenda;
+      touched = c.continue_moved_states.new.touched;
       rows = c.requantize_moved-over.new.rows;
     } in
     let good : FitsMachine m next = record {
-      own_conditions = arrived_anew m own (with_items own.at_arrival c.copy_settled_truths.new.at_arrival) c.copy_settled_truths.new.flipped c.update_state_event_step.ensures.fits
-          (same_length own.at_arrival c.copy_settled_truths.new.at_arrival ∙ c.update_state_event_step.ensures.fits.at_arrival) c.copy_settled_truths.ensures.count;
+      own_conditions = arrived_anew m own (with_items own.at_arrival c.copy_settled_truths.new.at_arrival) c.copy_settled_truths.new.flipped c.continue_moved_states.ensures.fits
+          (same_length own.at_arrival c.copy_settled_truths.new.at_arrival ∙ c.continue_moved_states.ensures.fits.at_arrival) c.copy_settled_truths.ensures.count;
       uses = fits.uses;
-      lines = same_length s.lines c.update_state_event_step.new.lines ∙ fits.lines;
+      lines = same_length s.lines c.continue_moved_states.new.lines ∙ fits.lines;
       levels = same_length s.levels c.requantize_moved-over.new.levels ∙ fits.levels;
-      slopes = same_length s.slopes c.update_state_event_step.new.slopes ∙ fits.slopes;
+      slopes = same_length s.slopes c.continue_moved_states.new.slopes ∙ fits.slopes;
       weights = (c.requantize_moved-over.ensures.weights calm).as_many;
-      places = c.update_state_event_step.ensures.gone_on.places ∙ taken.without.as_many ∙ fits.places;
+      places = c.continue_moved_states.ensures.gone_on.places ∙ taken.without.as_many ∙ fits.places;
       values = fits.values;
       before = fits.before;
       room = record {
         moved = fits.room.moved;
-        touched = omega (arith, c.update_state_event_step.ensures.room, fits.room.touched);
+        touched = omega (arith, c.continue_moved_states.ensures.room, fits.room.touched);
         changed = fits.room.changed;
         fired = fits.room.fired;
         assigned = fits.room.assigned;
@@ -312,8 +312,8 @@ returns g c =
         rows = omega (arith, c.requantize_moved-over.ensures.room, fits.room.rows);
       };
     } in
-    let of_slopes : next.slopes.items ≡ c.update_state_event_step.new.slopes = with_items_is s.slopes c.update_state_event_step.new.slopes (c.update_state_event_step.auto.slopes ∙ c.as_mut_slice.ensures.len) in
-    let of_lines : next.lines.items ≡ c.update_state_event_step.new.lines = with_items_is s.lines c.update_state_event_step.new.lines (c.update_state_event_step.auto.lines ∙ c.as_mut_slice-2.ensures.len) in
+    let of_slopes : next.slopes.items ≡ c.continue_moved_states.new.slopes = with_items_is s.slopes c.continue_moved_states.new.slopes (c.continue_moved_states.auto.slopes ∙ c.as_mut_slice.ensures.len) in
+    let of_lines : next.lines.items ≡ c.continue_moved_states.new.lines = with_items_is s.lines c.continue_moved_states.new.lines (c.continue_moved_states.auto.lines ∙ c.as_mut_slice-2.ensures.len) in
     let of_arrived : next.conditions.at_arrival.items ≡ s.conditions.after_handlers.items =
     with_items_is own.at_arrival c.copy_settled_truths.new.at_arrival (c.copy_settled_truths.auto.at_arrival ∙ c.as_mut_slice-at_arrival.ensures.len) ∙ c.copy_settled_truths.ensures.at_arrival ∙ c.as_slice-after_handlers.ensures.value ∙ own_settled in
     let own_levels : next.levels.items ≡ c.as_slice-4.result.now = sym c.as_slice-4.ensures.value in
@@ -322,8 +322,8 @@ returns g c =
     ∙ (both_none (first_exceeding 43 fresh) (position (exceeds_row_limits m fresh s.work.d) m.rows) (sym none_both.1)).1 in
     let many_states : length x ≡ state_count m = length-map-range_with_len (λ j. state_at (line_at s.lines.items j) t) 0 (length s.lines.items) ∙ fits.lines in
     let after_handlers : s.conditions.after_handlers.items ≡ truths m x next.work.d t = same_truths m c.args.tick agenda s taken c.requires.ready.in_time c.requires.none_changes in
-    let slopes : c.update_state_event_step.new.slopes ≡ tabulate (state_count m) (λ j. slope_at m j next.levels.items next.work.d) =
-    c.update_state_event_step.ensures.gone_on.slopes
+    let slopes : c.continue_moved_states.new.slopes ≡ tabulate (state_count m) (λ j. slope_at m j next.levels.items next.work.d) =
+    c.continue_moved_states.ensures.gone_on.slopes
     ∙ ap (λ d. tabulate (state_count m) (λ j. slope_at m j c.as_slice-4.result.now d)) of_d
     ∙ ap (λ l. tabulate (state_count m) (λ j. slope_at m j l next.work.d)) (sym own_levels) in
     let again = stands_again m t next x many_states good
@@ -335,20 +335,20 @@ returns g c =
     (c.requantize_moved-over.ensures.weights calm))
     (λ j inside.
     subst (λ ls. IsRestartedFrom m t (int_at x j) (int_at next.levels.items j) (slope_at m j next.levels.items next.work.d) j (line_at ls j) (due_at next.agenda j)) (sym of_lines)
-    (subst (λ l. IsRestartedFrom m t (int_at x j) (int_at l j) (slope_at m j l next.work.d) j (line_at c.update_state_event_step.new.lines j) (due_at next.agenda j)) (sym own_levels)
-    (subst (λ y. IsRestartedFrom m t y (int_at c.as_slice-4.result.now j) (slope_at m j c.as_slice-4.result.now next.work.d) j (line_at c.update_state_event_step.new.lines j) (due_at next.agenda j))
+    (subst (λ l. IsRestartedFrom m t (int_at x j) (int_at l j) (slope_at m j l next.work.d) j (line_at c.continue_moved_states.new.lines j) (due_at next.agenda j)) (sym own_levels)
+    (subst (λ y. IsRestartedFrom m t y (int_at c.as_slice-4.result.now j) (slope_at m j c.as_slice-4.result.now next.work.d) j (line_at c.continue_moved_states.new.lines j) (due_at next.agenda j))
     (ap (λ ls. state_at (line_at ls j) t) c.as_mut_slice-2.ensures.value ∙ sym (leads m c.args.tick agenda s taken c.requires.ready.in_time j inside))
-    (subst (λ d. IsRestartedFrom m t (state_at (line_at c.as_mut_slice-2.result.now j) t) (int_at c.as_slice-4.result.now j) (slope_at m j c.as_slice-4.result.now d) j (line_at c.update_state_event_step.new.lines j) (due_at next.agenda j))
-    of_d (c.update_state_event_step.ensures.gone_on.lines j inside)))))
+    (subst (λ d. IsRestartedFrom m t (state_at (line_at c.as_mut_slice-2.result.now j) t) (int_at c.as_slice-4.result.now j) (slope_at m j c.as_slice-4.result.now d) j (line_at c.continue_moved_states.new.lines j) (due_at next.agenda j))
+    of_d (c.continue_moved_states.ensures.gone_on.lines j inside)))))
     (own_settled ∙ after_handlers)
     (λ place inside.
     subst (λ sl. IsDetectorAt m t x next.work.d sl place (detector_at own.detectors.items place) (due_at next.agenda (state_count m + place))) (sym of_slopes)
-    (subst (λ ls. IsDetectorAt m t (states_at ls t) next.work.d c.update_state_event_step.new.slopes place (detector_at own.detectors.items place) (due_at next.agenda (state_count m + place))) c.as_mut_slice-2.ensures.value
-    (subst (λ d. IsDetectorAt m t (states_at c.as_mut_slice-2.result.now t) d c.update_state_event_step.new.slopes place (detector_at own.detectors.items place) (due_at next.agenda (state_count m + place))) of_d
-    (c.update_state_event_step.ensures.detectors place inside))))
+    (subst (λ ls. IsDetectorAt m t (states_at ls t) next.work.d c.continue_moved_states.new.slopes place (detector_at own.detectors.items place) (due_at next.agenda (state_count m + place))) c.as_mut_slice-2.ensures.value
+    (subst (λ d. IsDetectorAt m t (states_at c.as_mut_slice-2.result.now t) d c.continue_moved_states.new.slopes place (detector_at own.detectors.items place) (due_at next.agenda (state_count m + place))) of_d
+    (c.continue_moved_states.ensures.detectors place inside))))
     (not_rising m c.args.tick agenda s taken c.requires.ready.in_time c.requires.none_changes ∙ sym (none_rises_then (snapshot_of c.args.tick s) (snapshot_of t next) of_arrived own_settled))
     (rising m c.args.tick agenda s taken c.requires.ready.in_time c.requires.none_changes next.agenda
-    (c.update_state_event_step.ensures.beyond (state_count m + length (conditions m)) (omega arith)))
+    (c.continue_moved_states.ensures.beyond (state_count m + length (conditions m)) (omega arith)))
     (λ place none. ap (λ flags. flag_at flags place) (of_arrived ∙ sym own_settled)) in
     let w : Snapshot = snapshot_of c.args.tick s in
     let new_levels : next.levels.items ≡ fresh = own_levels ∙ levels in
@@ -365,8 +365,8 @@ returns g c =
     moved_changes m c.args.tick agenda s taken c.requires.ready.in_time c.args.q.now.name fresh (allowed none_both.0) j among (ap (λ l. int_at l j) (sym new_levels) ∙ sym same)) in
     let few : count_by (is_listed (reached m s.moved.items)) (range_with_len 0 (state_count m)) ≤ touches_at m t w (Ok (snapshot_of t next)) =
     reached_touched m t w (snapshot_of t next) s.moved.items taken.due.numbers changed in
-    let counted : c.update_state_event_step.new.steps ≤ c.args.steps.now + count_by (is_listed (reached m s.moved.items)) (range_with_len 0 (state_count m)) =
-    subst (λ js. c.update_state_event_step.new.steps ≤ c.args.steps.now + count_by (is_listed (reached m js)) (range_with_len 0 (state_count m))) c.as_slice-3.ensures.value c.update_state_event_step.ensures.gone_on.counted in
+    let counted : c.continue_moved_states.new.steps ≤ c.args.steps.now + count_by (is_listed (reached m s.moved.items)) (range_with_len 0 (state_count m)) =
+    subst (λ js. c.continue_moved_states.new.steps ≤ c.args.steps.now + count_by (is_listed (reached m js)) (range_with_len 0 (state_count m))) c.as_slice-3.ensures.value c.continue_moved_states.ensures.gone_on.counted in
     record {
       visited = record {
         stepped = steps_or (IsAllowedLevel c.args.q.now.name) m t w (snapshot_of t next) h fresh None is_h allowed (sym calm ∙ over) (λ none. end);
@@ -382,8 +382,8 @@ returns g c =
         counted = omega (arith, counted, few);
       };
       kept = λ none j inside untouched.
-          let left = c.update_state_event_step.ensures.kept j inside
+          let left = c.continue_moved_states.ensures.kept j inside
           (ap (λ js. is_listed (reached m js) j) c.as_slice-3.ensures.value ∙ unreached m t w (snapshot_of t next) s.moved.items taken.due.numbers changed j inside untouched) in
           (ap (λ ls. line_at ls j) of_lines ∙ left.0 ∙ ap (λ ls. line_at ls j) c.as_mut_slice-2.ensures.value, left.1);
-      touched_room = c.update_state_event_step.ensures.room;
+      touched_room = c.continue_moved_states.ensures.room;
     }

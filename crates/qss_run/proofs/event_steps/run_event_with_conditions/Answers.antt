@@ -61,8 +61,8 @@ handle_changed_conditions-over-requires-clause-ready g c =
         fits = fits.own_conditions;
         changed = subst (AreRisingBelow (length (conditions m))) (sym c.as_slice-2.ensures.value) taken.changing.numbers;
         watched = λ place h.
-            let watch : DetectorView = detector_at s.conditions.detectors.items place in
-            subst (λ ls. (watch.tick ≤ t) × (All (IsWithin 88) (states_at ls t) → IsSmall (value_at watch t)) × (holds_at watch t ≡ truth m (condition_at m place) (states_at ls t) s.work.d t))
+            let detector : DetectorView = detector_at s.conditions.detectors.items place in
+            subst (λ ls. (detector.tick ≤ t) × (All (IsWithin 88) (states_at ls t) → IsSmall (value_at detector t)) × (holds_at detector t ≡ truth m (condition_at m place) (states_at ls t) s.work.d t))
             (sym c.as_slice.ensures.value) (watched_then m c.args.tick agenda s taken c.requires.in_time place h);
         alike = taken.stands.alike;
         others = λ place h none.
@@ -209,8 +209,8 @@ returns-then-is_some-2 g c =
       counted = omega arith;
     }
 
-pub update_condition_event_step-requires : goal.update_condition_event_step-requires
-update_condition_event_step-requires g c =
+pub continue_after_handlers-requires : goal.continue_after_handlers-requires
+continue_after_handlers-requires g c =
     let m = c.args.m.now in
     let t = c.args.tick + 1 in
     let s : Store = c.args.s.now in
@@ -359,7 +359,7 @@ returns g c =
     let are_fresh : levels ≡ fresh = of_levels ∙ c.requantize_after_handlers-over.ensures.taken.1.levels fine in
     let fits = taken.stands.fits in
     let w : Snapshot = snapshot_of c.args.tick s in
-    let next : Snapshot = snapshot_of t c.update_condition_event_step.new.s in
+    let next : Snapshot = snapshot_of t c.continue_after_handlers.new.s in
     let x : List ℤ = states_with s.lines.items t moved new.x in
     let of_x : x ≡ h.states = sym handled.own_states in
     let at_arrival : List Bool = c.handle_changed_conditions-over.new.self.at_arrival.items in
@@ -368,7 +368,7 @@ returns g c =
     c.handle_changed_conditions-over.ensures.at_arrival calm
     ∙ ap (λ ls. truths m (states_at ls t) s.work.d t) c.as_slice.ensures.value
     ∙ ap (λ y. truths m y s.work.d t) files_read in
-    let snapshot : next ≡ record { states = x; levels = levels; discretes = new.d; at_arrival = at_arrival; after_handlers = truths m x new.d t } = c.update_condition_event_step.ensures.snapshot in
+    let snapshot : next ≡ record { states = x; levels = levels; discretes = new.d; at_arrival = at_arrival; after_handlers = truths m x new.d t } = c.continue_after_handlers.ensures.snapshot in
     let end : next ≡ end_of m t w h fresh =
     snapshot
     ∙ same_worlds (record { states = x; levels = levels; discretes = new.d; at_arrival = at_arrival; after_handlers = truths m x new.d t }) (end_of m t w h fresh) of_x are_fresh of_d of_arrived
@@ -386,18 +386,18 @@ returns g c =
     (λ j inside none.
     sym (int_at-states_at s.lines.items t j (omega (arith, inside, fits.lines))) ∙ ap (λ xs. int_at xs j) files_read ∙ sym (kept_state m t w j none)
     ∙ ap (λ (k : HandlerState). int_at k.states j) (sym is_h) ∙ ap (λ xs. int_at xs j) (sym of_x)) in
-    let counted : c.update_condition_event_step.new.steps ≡ c.args.steps.now + replaced_lines_from (state_count m) t x next.levels slopes s.lines.items =
-    c.update_condition_event_step.ensures.counted ∙ ap (λ l. c.args.steps.now + replaced_lines_from (state_count m) t x l slopes s.lines.items) (sym next_levels) in
+    let counted : c.continue_after_handlers.new.steps ≡ c.args.steps.now + replaced_lines_from (state_count m) t x next.levels slopes s.lines.items =
+    c.continue_after_handlers.ensures.counted ∙ ap (λ l. c.args.steps.now + replaced_lines_from (state_count m) t x l slopes s.lines.items) (sym next_levels) in
     record {
       stepped = steps_to (IsAllowedLevel c.args.q.now.name) m t w next h fresh is_h calm_h allowed (sym fine ∙ over) end;
       rows = λ none.
-          ap (λ v. v.items) c.update_condition_event_step.ensures.rows
+          ap (λ v. v.items) c.continue_after_handlers.ensures.rows
           ∙ c.requantize_after_handlers-over.ensures.rows fine h.states to
           ∙ ap (λ r. r ++ level_rows t c.as_mut_slice.result.now c.requantize_after_handlers-over.new.levels h.states) (ap (λ (v : Values). v.log) handled.values ∙ ap (λ (k : HandlerState). k.rows) is_h)
           ∙ ap (λ l. (handlers_at m t w).rows ++ level_rows t l c.requantize_after_handlers-over.new.levels h.states) c.as_mut_slice.ensures.value
           ∙ ap (λ l. (handlers_at m t w).rows ++ level_rows t s.levels.items l h.states) (sym (next_levels ∙ of_levels))
           ∙ ap (λ y. (handlers_at m t w).rows ++ level_rows t s.levels.items next.levels y) (sym next_states);
-      stands = λ none. c.update_condition_event_step.ensures.stands;
-      room = ap (λ v. vec_capacity v) c.update_condition_event_step.ensures.rows ∙ c.requantize_after_handlers-over.ensures.room;
+      stands = λ none. c.continue_after_handlers.ensures.stands;
+      room = ap (λ v. vec_capacity v) c.continue_after_handlers.ensures.rows ∙ c.requantize_after_handlers-over.ensures.room;
       counted = omega (arith, counted, touched);
     }

@@ -18,7 +18,7 @@ use Rattle.qss_run.proofs.event_steps.skip_to_event.Goals as goal
 
 pub overflow_sub-result : goal.overflow_sub-result
 overflow_sub-result c =
-    let later = next_later c.args.m.now c.args.tick c.args.s.now c.next_event_step_tick-next.result c.args.m.now.last c.requires.stands c.requires.in_time c.next_event_step_tick-next.ensures.at_most c.next_event_step_tick-next.ensures.reached in
+    let later = next_later c.args.m.now c.args.tick c.args.s.now c.earliest_due_tick-next.result c.args.m.now.last c.requires.stands c.requires.in_time c.earliest_due_tick-next.ensures.at_most c.earliest_due_tick-next.ensures.reached in
     omega (arith, later)
 
 pub copy_settled_truths-requires-clause-same_length : goal.copy_settled_truths-requires-clause-same_length
@@ -38,12 +38,12 @@ returns c =
     let m = c.args.m.now in
     let s : Store = c.args.s.now in
     let tick = c.args.tick in
-    let next = c.next_event_step_tick-next.result in
-    let later : tick < next = next_later m tick s next m.last c.requires.stands c.requires.in_time c.next_event_step_tick-next.ensures.at_most c.next_event_step_tick-next.ensures.reached in
+    let next = c.earliest_due_tick-next.result in
+    let later : tick < next = next_later m tick s next m.last c.requires.stands c.requires.in_time c.earliest_due_tick-next.ensures.at_most c.earliest_due_tick-next.ensures.reached in
     let k : ℕ = (next - 1) - tick in
     let e : tick + k ≡ next - 1 = omega (arith, later) in
-    let before : tick + k < m.last = omega (arith, e, later, c.next_event_step_tick-next.ensures.at_most) in
-    let nothing : (place t : ℕ) → due_at s.agenda place ≡ Some t → tick + k + 1 ≤ t = λ place t due. let least : next ≤ t = c.next_event_step_tick-next.ensures.none_before place t due in omega (arith, e, least, later) in
+    let before : tick + k < m.last = omega (arith, e, later, c.earliest_due_tick-next.ensures.at_most) in
+    let nothing : (place t : ℕ) → due_at s.agenda place ≡ Some t → tick + k + 1 ≤ t = λ place t due. let least : next ≤ t = c.earliest_due_tick-next.ensures.none_before place t due in omega (arith, e, least, later) in
     let at_arrival : Vec Bool Global = with_items s.conditions.at_arrival c.copy_settled_truths.new.at_arrival in
     let is : at_arrival.items ≡ arrived_then k s.conditions.at_arrival.items s.conditions.after_handlers.items =
     with_items_is s.conditions.at_arrival c.copy_settled_truths.new.at_arrival (c.copy_settled_truths.auto.at_arrival ∙ c.as_mut_slice.ensures.len)
@@ -59,10 +59,10 @@ returns c =
     ∙ ap (λ flags. flag_at flags place) c.as_slice.ensures.value in
     record {
       later = omega (arith, later);
-      before = omega (arith, later, c.next_event_step_tick-next.ensures.at_most);
+      before = omega (arith, later, c.earliest_due_tick-next.ensures.at_most);
       reached = λ early.
           let there : (next - 1) + 1 ≡ next = omega (arith, later) in
-          let found = c.next_event_step_tick-next.ensures.reached (omega (arith, early, there)) in
+          let found = c.earliest_due_tick-next.ensures.reached (omega (arith, early, there)) in
           (found.0, found.1 ∙ ap (λ (t : ℕ). Some t) (sym there));
       silent = λ name. (
         quiet_worlds m (snapshot_of tick s) k,

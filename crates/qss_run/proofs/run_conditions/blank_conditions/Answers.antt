@@ -10,7 +10,7 @@ returns c =
     let places : c.len-count.result ≡ length (conditions c.args.m.now) = omega (arith, c.len-count.ensures, c.in_ok-branches.branches.ok.0, c.in_ok-branches.ensures.as_many) in
     record {
       branches = c.in_ok-branches.ensures;
-      detectors = ap length c.in_ok-equal_list.ensures ∙ length-replicate _ _ ∙ places;
+      detectors = ap length c.in_ok-repeat_value.ensures ∙ length-replicate _ _ ∙ places;
       at_arrival = ap length c.in_ok-at_arrival.ensures.0 ∙ length-replicate _ _ ∙ places;
       after_handlers = ap length c.in_ok-at_arrival.ensures.1 ∙ length-replicate _ _ ∙ places;
       flipped = ap (λ (s : PlaceList). s.count) c.in_ok-empty.ensures ∙ places;

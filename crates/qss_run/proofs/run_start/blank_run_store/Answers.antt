@@ -23,8 +23,8 @@ overflow_cast-states c =
       ap length c.in_ok-levels.ensures,
       count_start m,
       c.len-conditions.ensures,
-      c.in_ok-watched.watched.branches.ok.0,
-      c.in_ok-watched.ensures.branches.as_many,
+      c.in_ok-condition_set.condition_set.branches.ok.0,
+      c.in_ok-condition_set.ensures.branches.as_many,
       conditions_few m,
       m.has_variables.few,
     )
@@ -33,7 +33,7 @@ pub returns : goal.returns
 returns c =
     let m = c.args.m.now in
     let states : c.len-states.result ≡ state_count m = omega (arith, c.len-states.ensures, c.in_ok-levels.levels.ok.0, ap length c.in_ok-levels.ensures, count_start m) in
-    let places : c.len-conditions.result ≡ length (conditions m) = omega (arith, c.len-conditions.ensures, c.in_ok-watched.watched.branches.ok.0, c.in_ok-watched.ensures.branches.as_many) in
+    let places : c.len-conditions.result ≡ length (conditions m) = omega (arith, c.len-conditions.ensures, c.in_ok-condition_set.condition_set.branches.ok.0, c.in_ok-condition_set.ensures.branches.as_many) in
     let work = c.in_ok-work.ensures in
     let of_x = ap (λ (v : Values). v.x) work in
     let of_d = ap (λ (v : Values). v.d) work in
@@ -42,7 +42,7 @@ returns c =
     let discretes : length c.in_ok-work.work.d ≡ discrete_count m = ap length of_d ∙ length-map m.discretes (λ (d : DiscreteInfo). d.d0) in
     record {
       fits = record {
-        own_conditions = c.in_ok-watched.ensures;
+        own_conditions = c.in_ok-condition_set.ensures;
         uses = c.in_ok-uses.ensures.0;
         lines = c.in_ok-lines.ensures.0 ∙ states;
         levels = ap length c.in_ok-levels.ensures ∙ count_start m;

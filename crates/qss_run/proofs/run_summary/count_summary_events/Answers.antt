@@ -9,9 +9,9 @@ use Rattle.qss_run.proofs.run_summary.count_summary_events.Goals as goal
 pub events-preserved : goal.events-preserved
 events-preserved g c =
     let inv = c.events.invariant in
-    let first_view = c.args.sim.now.course in
-    let now = c.events.sim.course in
-    let new = c.next_event-outcome.new.self.course in
+    let first_view = c.args.sim.now.run in
+    let now = c.events.sim.run in
+    let new = c.next_event-outcome.new.self.run in
     let call = call_of c.events.sim.quantizer.name Floor now new c.next_event-outcome.result (Events c.in-Events.tick) inv.named c.next_event-outcome.ensures.same.0 c.in-Events.is (c.next_event-outcome.ensures.next inv.counting.unended) in
     let more : c.from-levels.result ≡ level_count new.rows = search rules in
     let kept : c.next_event-outcome.new.self.quantizer.name ≡ c.events.sim.quantizer.name = rw c.next_event-outcome.ensures.same.1 refl in
@@ -24,9 +24,9 @@ events-preserved g c =
 pub returns-in-Done-clause-counted : goal.returns-in-Done-clause-counted
 returns-in-Done-clause-counted g c =
     let inv = c.events.invariant in
-    let first_view = c.args.sim.now.course in
-    let now = c.events.sim.course in
-    let new = c.next_event-outcome.new.self.course in
+    let first_view = c.args.sim.now.run in
+    let now = c.events.sim.run in
+    let new = c.next_event-outcome.new.self.run in
     let call = call_of c.events.sim.quantizer.name Floor now new c.next_event-outcome.result Done inv.named c.next_event-outcome.ensures.same.0 c.in-Done.is (c.next_event-outcome.ensures.next inv.counting.unended) in
     let more : c.from-levels.result ≡ level_count new.rows = search rules in
     counts_end first_view now new c.events.levels c.from-levels.result inv.counting (c.next_event-outcome.ensures.rows Floor inv.named inv.counting.unended) more Done (done_left Floor now new call) (done_end Floor now new call)
@@ -34,9 +34,9 @@ returns-in-Done-clause-counted g c =
 pub returns-in-Over-clause-counted : goal.returns-in-Over-clause-counted
 returns-in-Over-clause-counted g c =
     let inv = c.events.invariant in
-    let first_view = c.args.sim.now.course in
-    let now = c.events.sim.course in
-    let new = c.next_event-outcome.new.self.course in
+    let first_view = c.args.sim.now.run in
+    let now = c.events.sim.run in
+    let new = c.next_event-outcome.new.self.run in
     let over = Over c.in-Over.tick c.in-Over.var in
     let call = call_of c.events.sim.quantizer.name Floor now new c.next_event-outcome.result over inv.named c.next_event-outcome.ensures.same.0 c.in-Over.is (c.next_event-outcome.ensures.next inv.counting.unended) in
     let more : c.from-levels.result ≡ level_count new.rows = search rules in

@@ -20,8 +20,8 @@ count_summary_events-counted-requires g c = record {
 
 pub line_variable_name-requires : goal.line_variable_name-requires
 line_variable_name-requires g c =
-    let course = c.args.sim.now.course in
-    let new = c.count_summary_events-counted.new.sim.course in
+    let course = c.args.sim.now.run in
+    let new = c.count_summary_events-counted.new.sim.run in
     let levels = c.count_summary_events-counted.result.levels in
     let counted = subst (λ (o : Outcome). IsCountFrom course levels o new) c.in-Over.is c.count_summary_events-counted.ensures.counted in
     subst (λ (m : Machine). c.in-Over.var < state_count m + discrete_count m) (sym (c.machine.ensures ∙ c.count_summary_events-counted.ensures.machine))
@@ -29,8 +29,8 @@ line_variable_name-requires g c =
 
 pub returns-in-Done : goal.returns-in-Done
 returns-in-Done g c =
-    let course = c.args.sim.now.course in
-    let new = c.count_summary_events-counted.new.sim.course in
+    let course = c.args.sim.now.run in
+    let new = c.count_summary_events-counted.new.sim.run in
     let levels = c.count_summary_events-counted.result.levels in
     let counted = subst (λ (o : Outcome). IsCountFrom course levels o new) c.in-Done.is c.count_summary_events-counted.ensures.counted in
     let fits : FitsSigned w128 c.summary_end_sum.result = search rules in

@@ -27,18 +27,18 @@ loop-state-init g c =
       room = refl;
     }
 
-pub next_event_level-fresh-requires-clause-state : goal.next_event_level-fresh-requires-clause-state
-next_event_level-fresh-requires-clause-state g c = c.requires.moved.below c.loop-state.state-index 0 c.loop-state-test.true
+pub requantize_level-fresh-requires-clause-state : goal.requantize_level-fresh-requires-clause-state
+requantize_level-fresh-requires-clause-state g c = c.requires.moved.below c.loop-state.state-index 0 c.loop-state-test.true
 
-pub next_event_level-fresh-requires-clause-small_state : goal.next_event_level-fresh-requires-clause-small_state
-next_event_level-fresh-requires-clause-small_state g c =
+pub requantize_level-fresh-requires-clause-small_state : goal.requantize_level-fresh-requires-clause-small_state
+requantize_level-fresh-requires-clause-small_state g c =
     let j : ℕ = get_or c.args.at.now.moved.now c.loop-state.state-index 0 in
     let small : IsWithin 88 (int_at c.args.x.now j) = c.requires.small_states j (among_at c.args.at.now.moved.now c.loop-state.state-index c.loop-state-test.true) in
     let fits : FitsSigned w128 (int_at c.args.x.now j) = omega (arith, ints, small) in
     rw (to_z-of_z w128 (int_at c.args.x.now j) fits) (omega (arith, small))
 
-pub next_event_level-fresh-requires-clause-small_level : goal.next_event_level-fresh-requires-clause-small_level
-next_event_level-fresh-requires-clause-small_level g c =
+pub requantize_level-fresh-requires-clause-small_level : goal.requantize_level-fresh-requires-clause-small_level
+requantize_level-fresh-requires-clause-small_level g c =
     let i = c.loop-state.state-index in
     let moved : List ℕ = c.args.at.now.moved.now in
     let j : ℕ = get_or moved i 0 in
@@ -73,11 +73,11 @@ loop-state-preserved g c =
     let same : int_at c.loop-state.levels j ≡ int_at olds j = inv.taken.1.off.others j (not_before moved i rising h) in
     let small_level : IsWithin 43 (int_at c.loop-state.levels j) = subst (IsWithin 43) (sym same) (c.requires.small_levels j (pos 0) (omega (arith, c.requires.levels, inside))) in
     let level : FitsSigned w64 (int_at c.loop-state.levels j) = omega (arith, ints, small_level) in
-    let fresh : ℤ = c.next_event_level-fresh.result in
-    let fresh_fits : FitsSigned w128 fresh = record { sfits = c.next_event_level-fresh.type_inv } in
+    let fresh : ℤ = c.requantize_level-fresh.result in
+    let fresh_fits : FitsSigned w128 fresh = record { sfits = c.requantize_level-fresh.type_inv } in
     let next : IsNextLevel (IsAllowedLevel name) m j (int_at states j) (int_at olds j) fresh =
     subst (λ (old : ℤ). IsNextLevel (IsAllowedLevel name) m j (int_at states j) old fresh) (to_z-of_z w64 (int_at c.loop-state.levels j) level ∙ same)
-    (subst (λ (z : ℤ). IsNextLevel (IsAllowedLevel name) m j z (to_z w64 (of_z w64 (int_at c.loop-state.levels j))) fresh) (to_z-of_z w128 (int_at states j) x) c.next_event_level-fresh.ensures.next) in
+    (subst (λ (z : ℤ). IsNextLevel (IsAllowedLevel name) m j z (to_z w64 (of_z w64 (int_at c.loop-state.levels j))) fresh) (to_z-of_z w128 (int_at states j) x) c.requantize_level-fresh.ensures.next) in
     let past : exceeds 43 fresh ≡ c.set_requantized_within_limit-past.result = sym (rw (to_z-of_z w128 fresh fresh_fits) at c.set_requantized_within_limit-past.ensures.past) in
     let row : c.set_requantized_within_limit-past.result ≡ false → c.set_requantized_within_limit-past.new.rows.items ≡ c.loop-state.rows.items ++ row_of tick j (int_at olds j) fresh (int_at states j) = λ e.
     (c.set_requantized_within_limit-past.ensures.taken e).rows_are

@@ -51,21 +51,21 @@ bounds-coefficients-place c =
       readers_as_many c.args.at.now.machine.now c.args.state c.rows_of-rows.result.now c.coefficients_of-coefficients.result.now (rows_are read) (coefficients_are read),
     )
 
-pub row_sum_change-change-requires-clause-allowed : goal.row_sum_change-change-requires-clause-allowed
-row_sum_change-change-requires-clause-allowed c = record {
+pub sum_difference-change-requires-clause-allowed : goal.sum_difference-change-requires-clause-allowed
+sum_difference-change-requires-clause-allowed c = record {
   mode = c.requires.allowed.mode;
   known = c.requires.allowed.known;
   small_old = rw (to_z-of_z w64 c.args.old c.ranges.old) c.requires.allowed.small_old;
   small_new = rw (to_z-of_z w64 c.args.new c.ranges.new) c.requires.allowed.small_new;
 }
 
-pub row_sum_change-change-requires-clause-own : goal.row_sum_change-change-requires-clause-own
-row_sum_change-change-requires-clause-own c =
+pub sum_difference-change-requires-clause-own : goal.sum_difference-change-requires-clause-own
+sum_difference-change-requires-clause-own c =
     let m = c.args.at.now.machine.now in
     let rows : List ℕ = c.rows_of-rows.result.now in
     let coefficients : List ℤ = c.coefficients_of-coefficients.result.now in
     let place = c.loop-place.place in
-    let read = (goal.at.row_sum_change-change-requires-clause-own c).After-coefficients_of-coefficients in
+    let read = (goal.at.sum_difference-change-requires-clause-own c).After-coefficients_of-coefficients in
     let own : int_at coefficients place ≡ row_coefficient m (get_or rows place 0) c.args.state =
     own_coefficient m c.args.state rows coefficients (rows_are read) (coefficients_are read) place c.loop-place-test.true in
     let small : IsWithin 44 (int_at coefficients place) =
@@ -82,9 +82,9 @@ overflow_add-sums c =
     let same : int_at c.loop-place.sums row ≡ int_at c.args.sums.now row = c.loop-place.invariant.written.others row (not_before rows i c.loop-place.invariant.known.rising c.loop-place-test.true) in
     let small : IsWithin 100 (int_at c.args.sums.now row) = c.requires.small_sums row known in
     let fits : FitsSigned w128 (int_at c.loop-place.sums row) = omega (arith, ints, same, small) in
-    let change : FitsSigned w128 c.row_sum_change-change.result = record { sfits = c.row_sum_change-change.type_inv } in
-    let bound : unsigned_abs c.row_sum_change-change.result ≤ 2 ^ 88 = c.row_sum_change-change.ensures.bound in
-    rw (to_z-of_z w128 (int_at c.loop-place.sums row) fits, to_z-of_z w128 c.row_sum_change-change.result change) (omega (arith, ints, same, small, bound))
+    let change : FitsSigned w128 c.sum_difference-change.result = record { sfits = c.sum_difference-change.type_inv } in
+    let bound : unsigned_abs c.sum_difference-change.result ≤ 2 ^ 88 = c.sum_difference-change.ensures.bound in
+    rw (to_z-of_z w128 (int_at c.loop-place.sums row) fits, to_z-of_z w128 c.sum_difference-change.result change) (omega (arith, ints, same, small, bound))
 
 pub loop-place-preserved : goal.loop-place-preserved
 loop-place-preserved c =
@@ -97,18 +97,18 @@ loop-place-preserved c =
     let same : int_at c.loop-place.sums row ≡ int_at c.args.sums.now row = inv.written.others row (not_before rows i c.loop-place.invariant.known.rising c.loop-place-test.true) in
     let small : IsWithin 100 (int_at c.args.sums.now row) = c.requires.small_sums row known in
     let fits : FitsSigned w128 (int_at c.loop-place.sums row) = omega (arith, ints, same, small) in
-    let change : FitsSigned w128 c.row_sum_change-change.result = record { sfits = c.row_sum_change-change.type_inv } in
-    let bound : unsigned_abs c.row_sum_change-change.result ≤ 2 ^ 88 = c.row_sum_change-change.ensures.bound in
-    let sum : FitsSigned w128 (int_at c.loop-place.sums row +ℤ c.row_sum_change-change.result) = omega (arith, ints, same, small, bound) in
+    let change : FitsSigned w128 c.sum_difference-change.result = record { sfits = c.sum_difference-change.type_inv } in
+    let bound : unsigned_abs c.sum_difference-change.result ≤ 2 ^ 88 = c.sum_difference-change.ensures.bound in
+    let sum : FitsSigned w128 (int_at c.loop-place.sums row +ℤ c.sum_difference-change.result) = omega (arith, ints, same, small, bound) in
     let inside : row < length c.loop-place.sums = omega (arith, known, inv.as_many) in
     let old : ℤ = to_z w64 (of_z w64 c.args.old) in
     let new : ℤ = to_z w64 (of_z w64 c.args.new) in
-    let value : ℤ = to_z w128 (of_z w128 (to_z w128 (of_z w128 (int_at c.loop-place.sums row)) +ℤ to_z w128 (of_z w128 c.row_sum_change-change.result))) in
-    let is : value ≡ int_at c.loop-place.sums row +ℤ c.row_sum_change-change.result =
-    rw (to_z-of_z w128 (int_at c.loop-place.sums row) fits, to_z-of_z w128 c.row_sum_change-change.result change) (to_z-of_z w128 (int_at c.loop-place.sums row +ℤ c.row_sum_change-change.result) sum) in
-    let own : c.row_sum_change-change.result ≡ taken_by c.args.kind (mode_coefficient_at m row c.args.state c.args.at.now.discretes.now) *ℤ (new -ℤ old) = c.row_sum_change-change.ensures.value in
+    let value : ℤ = to_z w128 (of_z w128 (to_z w128 (of_z w128 (int_at c.loop-place.sums row)) +ℤ to_z w128 (of_z w128 c.sum_difference-change.result))) in
+    let is : value ≡ int_at c.loop-place.sums row +ℤ c.sum_difference-change.result =
+    rw (to_z-of_z w128 (int_at c.loop-place.sums row) fits, to_z-of_z w128 c.sum_difference-change.result change) (to_z-of_z w128 (int_at c.loop-place.sums row +ℤ c.sum_difference-change.result) sum) in
+    let own : c.sum_difference-change.result ≡ taken_by c.args.kind (mode_coefficient_at m row c.args.state c.args.at.now.discretes.now) *ℤ (new -ℤ old) = c.sum_difference-change.ensures.value in
     let here : IsSumAfterLevelChange c.args.kind m c.args.state old new c.args.at.now.discretes.now c.args.sums.now row value =
-    (is ∙ ap (λ z. z +ℤ c.row_sum_change-change.result) same ∙ ap (λ z. int_at c.args.sums.now row +ℤ z) own, omega (arith, ints, is, same, bound)) in
+    (is ∙ ap (λ z. z +ℤ c.sum_difference-change.result) same ∙ ap (λ z. int_at c.args.sums.now row +ℤ z) own, omega (arith, ints, is, same, bound)) in
     record {
       written = written_more (pos 0) (IsSumAfterLevelChange c.args.kind m c.args.state old new c.args.at.now.discretes.now c.args.sums.now) rows c.args.sums.now c.loop-place.sums i value c.loop-place-test.true inside inv.written here;
       as_many = length-set c.loop-place.sums row value ∙ inv.as_many;

@@ -8,14 +8,14 @@ use Rattle.qss_machine.specs.declared.machine_parts.Product.{Product}
 use Rattle.qss_states.specs.SafeBounds.{excess}
 use Rattle.qss_states.proofs.safe_bounds.is_safe_row_bound.Goals as goal
 
-pub safe_bound_excess_sum-requires-clause-size_limit : goal.safe_bound_excess_sum-requires-clause-size_limit
-safe_bound_excess_sum-requires-clause-size_limit c = rw c.as_slice.ensures c.requires.factors
+pub greatest_excess_sum-requires-clause-size_limit : goal.greatest_excess_sum-requires-clause-size_limit
+greatest_excess_sum-requires-clause-size_limit c = rw c.as_slice.ensures c.requires.factors
 
-pub safe_bound_size_sum-requires-clause-count_limit : goal.safe_bound_size_sum-requires-clause-count_limit
-safe_bound_size_sum-requires-clause-count_limit c = rw c.as_slice-2.ensures c.requires.count_limit
+pub size_sum_of_entries-requires-clause-count_limit : goal.size_sum_of_entries-requires-clause-count_limit
+size_sum_of_entries-requires-clause-count_limit c = rw c.as_slice-2.ensures c.requires.count_limit
 
-pub safe_bound_size_sum-requires-clause-size_limit : goal.safe_bound_size_sum-requires-clause-size_limit
-safe_bound_size_sum-requires-clause-size_limit c = rw c.as_slice-2.ensures c.requires.size_limit
+pub size_sum_of_entries-requires-clause-size_limit : goal.size_sum_of_entries-requires-clause-size_limit
+size_sum_of_entries-requires-clause-size_limit c = rw c.as_slice-2.ensures c.requires.size_limit
 
 pub returns : goal.returns
 returns c =
@@ -23,12 +23,12 @@ returns c =
     let own = c.in-Some.ensures in
     let excesses : c.in-Some.excesses ≡ sum_by (excess c.args.level_bits c.args.bound) row.products =
     own.0 ∙ ap (λ (products : List Product). sum_by (excess c.args.level_bits c.args.bound) products) c.as_slice.ensures in
-    let sizes : c.safe_bound_size_sum.result ≡ sum_by (λ (entry : Entry). unsigned_abs entry.coef) row.entries =
-    c.safe_bound_size_sum.ensures.value ∙ ap (λ (entries : List Entry). sum_by (λ (entry : Entry). unsigned_abs entry.coef) entries) c.as_slice-2.ensures in (
+    let sizes : c.size_sum_of_entries.result ≡ sum_by (λ (entry : Entry). unsigned_abs entry.coef) row.entries =
+    c.size_sum_of_entries.ensures.value ∙ ap (λ (entries : List Entry). sum_by (λ (entry : Entry). unsigned_abs entry.coef) entries) c.as_slice-2.ensures in (
       λ e.
-          let all : c.safe_bound_size_sum.result + c.in-Some.excesses ≤ 2 ^ 44 = grind (arith, nat_tests) in
+          let all : c.size_sum_of_entries.result + c.in-Some.excesses ≤ 2 ^ 44 = grind (arith, nat_tests) in
           record { small = c.requires.bound; modes = omega (arith, excesses, sizes, all) },
       λ has.
-          let all : c.safe_bound_size_sum.result + c.in-Some.excesses ≤ 2 ^ 44 = omega (arith, excesses, sizes, has.modes) in
+          let all : c.size_sum_of_entries.result + c.in-Some.excesses ≤ 2 ^ 44 = omega (arith, excesses, sizes, has.modes) in
           grind (arith, nat_tests),
     )

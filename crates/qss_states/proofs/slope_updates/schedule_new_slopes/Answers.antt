@@ -14,7 +14,7 @@ use Rattle.qss_states.proofs.slope_updates.schedule_new_slopes.Goals as goal
 
 pub loop-j-init : goal.loop-j-init
 loop-j-init c = record {
-  on = none_go_on c.args.at.now.taken.machine.now c.args.at.now.taken.tick c.args.at.now.taken.levels.now c.args.at.now.slopes.now (λ k. state_at (line_at c.args.lines.now k) c.args.at.now.taken.tick)
+  on = none_go_on c.args.at.now.event.machine.now c.args.at.now.event.tick c.args.at.now.event.levels.now c.args.at.now.slopes.now (λ k. state_at (line_at c.args.lines.now k) c.args.at.now.event.tick)
       (record { lines = c.args.lines.now; dues = c.args.agenda.now });
   same_tick = λ j. refl;
 }
@@ -27,9 +27,9 @@ schedule_new_slope-requires-clause-allowed c = record {
 
 pub schedule_new_slope-requires-clause-ready : goal.schedule_new_slope-requires-clause-ready
 schedule_new_slope-requires-clause-ready c =
-    let m = c.args.at.now.taken.machine.now in
-    let tick = c.args.at.now.taken.tick in
-    let levels : List ℤ = c.args.at.now.taken.levels.now in
+    let m = c.args.at.now.event.machine.now in
+    let tick = c.args.at.now.event.tick in
+    let levels : List ℤ = c.args.at.now.event.levels.now in
     let i = c.loop-j.j-index in
     let states : List ℕ = c.args.states.now in
     let j : ℕ = get_or states i 0 in
@@ -46,9 +46,9 @@ schedule_new_slope-requires-clause-ready c =
 
 pub loop-j-preserved : goal.loop-j-preserved
 loop-j-preserved c =
-    let m = c.args.at.now.taken.machine.now in
-    let tick = c.args.at.now.taken.tick in
-    let levels : List ℤ = c.args.at.now.taken.levels.now in
+    let m = c.args.at.now.event.machine.now in
+    let tick = c.args.at.now.event.tick in
+    let levels : List ℤ = c.args.at.now.event.levels.now in
     let slopes : List ℤ = c.args.at.now.slopes.now in
     let i = c.loop-j.j-index in
     let states : List ℕ = c.args.states.now in
@@ -65,8 +65,8 @@ loop-j-preserved c =
 
 pub returns : goal.returns
 returns c =
-    let tick = c.args.at.now.taken.tick in
+    let tick = c.args.at.now.event.tick in
     let first : Schedules = record { lines = c.args.lines.now; dues = c.args.agenda.now } in
     let last : Schedules = record { lines = c.loop-j.lines; dues = c.loop-j.agenda } in
-    subst (λ (these : List ℕ). AreScheduled c.args.at.now.taken.machine.now tick c.args.at.now.taken.levels.now c.args.at.now.slopes.now these (λ k. state_at (line_at first.lines k) tick) first last)
+    subst (λ (these : List ℕ). AreScheduled c.args.at.now.event.machine.now tick c.args.at.now.event.levels.now c.args.at.now.slopes.now these (λ k. state_at (line_at first.lines k) tick) first last)
     (take_all c.loop-j.j-index c.args.states.now c.loop-j-test.false) c.loop-j.invariant.on

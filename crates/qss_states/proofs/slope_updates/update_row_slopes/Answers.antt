@@ -24,37 +24,37 @@ use mir.Syntax.{w64, w128}
 use mir.Val.{to_z, of_z}
 
 pub rows_of-rows-requires : goal.rows_of-rows-requires
-rows_of-rows-requires g c = omega (arith, c.requires.ready.known, rows_many c.args.at.now.taken.machine.now c.args.at.now.taken.uses.now c.requires.ready.new.uses)
+rows_of-rows-requires g c = omega (arith, c.requires.ready.known, rows_many c.args.at.now.event.machine.now c.args.at.now.event.uses.now c.requires.ready.new.uses)
 
 pub coefficients_of-coefficients-requires : goal.coefficients_of-coefficients-requires
-coefficients_of-coefficients-requires g c = omega (arith, c.requires.ready.known, coefficients_many c.args.at.now.taken.machine.now c.args.at.now.taken.uses.now c.requires.ready.new.uses)
+coefficients_of-coefficients-requires g c = omega (arith, c.requires.ready.known, coefficients_many c.args.at.now.event.machine.now c.args.at.now.event.uses.now c.requires.ready.new.uses)
 
 pub loop-place-init : goal.loop-place-init
 loop-place-init g c =
-    let m = c.args.at.now.taken.machine.now in
-    let readers = c.args.at.now.taken.uses.now in
+    let m = c.args.at.now.event.machine.now in
+    let readers = c.args.at.now.event.uses.now in
     let state : ℕ = c.args.state in
     let rows_are : c.rows_of-rows.result.now ≡ reading_rows m state = c.rows_of-rows.ensures ∙ rows_kept m readers c.requires.ready.new.uses state (omega (arith, c.requires.ready.known)) in
     record {
       written = search rules;
       as_many = c.requires.ready.many_slopes;
       known = reader_numbers m state c.rows_of-rows.result.now rows_are;
-      gathered = none_gathered c.args.at.now.taken.tick (advancing_of c.args.lines.now c.args.touched.now c.args.steps.now) c.requires.ready.can;
+      gathered = none_gathered c.args.at.now.event.tick (advancing_of c.args.lines.now c.args.touched.now c.args.steps.now) c.requires.ready.can;
     }
 
 pub bounds-coefficients-place : goal.bounds-coefficients-place
 bounds-coefficients-place g c =
-    let m = c.args.at.now.taken.machine.now in
-    let readers = c.args.at.now.taken.uses.now in
+    let m = c.args.at.now.event.machine.now in
+    let readers = c.args.at.now.event.uses.now in
     let state : ℕ = c.args.state in
     let rows_are : c.rows_of-rows.result.now ≡ reading_rows m state = c.rows_of-rows.ensures ∙ rows_kept m readers c.requires.ready.new.uses state (omega (arith, c.requires.ready.known)) in
     let coefficients_are : c.coefficients_of-coefficients.result.now ≡ reading_coefficients m state =
     c.coefficients_of-coefficients.ensures ∙ coefficients_kept m readers c.requires.ready.new.uses state (omega (arith, c.requires.ready.known)) in
     omega (arith, c.loop-place-test.true, readers_as_many m state c.rows_of-rows.result.now c.coefficients_of-coefficients.result.now rows_are coefficients_are)
 
-pub row_sum_change-change-requires-clause-allowed : goal.row_sum_change-change-requires-clause-allowed
-row_sum_change-change-requires-clause-allowed g c =
-    let level : ℤ = int_at c.args.at.now.taken.levels.now c.args.state in
+pub sum_difference-change-requires-clause-allowed : goal.sum_difference-change-requires-clause-allowed
+sum_difference-change-requires-clause-allowed g c =
+    let level : ℤ = int_at c.args.at.now.event.levels.now c.args.state in
     let small_new : IsWithin 43 level = c.requires.ready.new.small_levels c.args.state (pos 0) (omega (arith, c.requires.ready.known, c.requires.ready.new.levels)) in
     let of_new : FitsSigned w64 level = omega (arith, ints, small_new) in
     record {
@@ -64,10 +64,10 @@ row_sum_change-change-requires-clause-allowed g c =
       small_new = rw (to_z-of_z w64 level of_new) small_new;
     }
 
-pub row_sum_change-change-requires-clause-own : goal.row_sum_change-change-requires-clause-own
-row_sum_change-change-requires-clause-own g c =
-    let m = c.args.at.now.taken.machine.now in
-    let readers = c.args.at.now.taken.uses.now in
+pub sum_difference-change-requires-clause-own : goal.sum_difference-change-requires-clause-own
+sum_difference-change-requires-clause-own g c =
+    let m = c.args.at.now.event.machine.now in
+    let readers = c.args.at.now.event.uses.now in
     let state : ℕ = c.args.state in
     let rows_are : c.rows_of-rows.result.now ≡ reading_rows m state = c.rows_of-rows.ensures ∙ rows_kept m readers c.requires.ready.new.uses state (omega (arith, c.requires.ready.known)) in
     let coefficients_are : c.coefficients_of-coefficients.result.now ≡ reading_coefficients m state =
@@ -92,21 +92,21 @@ overflow_add-slopes g c =
     let rows : List ℕ = c.rows_of-rows.result.now in
     let i = c.loop-place.place in
     let row : ℕ = get_or rows i 0 in
-    let known : row < state_count c.args.at.now.taken.machine.now = c.loop-place.invariant.known.below i 0 c.loop-place-test.true in
+    let known : row < state_count c.args.at.now.event.machine.now = c.loop-place.invariant.known.below i 0 c.loop-place-test.true in
     let same : int_at c.loop-place.slopes row ≡ int_at c.args.slopes.now row = c.loop-place.invariant.written.others row (not_before rows i c.loop-place.invariant.known.rising c.loop-place-test.true) in
     let small : IsWithin 100 (int_at c.args.slopes.now row) = c.requires.ready.small_slopes row known in
     let fits : FitsSigned w128 (int_at c.loop-place.slopes row) = omega (arith, ints, same, small) in
-    let change : FitsSigned w128 c.row_sum_change-change.result = record { sfits = c.row_sum_change-change.type_inv } in
-    let bound : unsigned_abs c.row_sum_change-change.result ≤ 2 ^ 88 = c.row_sum_change-change.ensures.bound in
-    rw (to_z-of_z w128 (int_at c.loop-place.slopes row) fits, to_z-of_z w128 c.row_sum_change-change.result change) (omega (arith, ints, same, small, bound))
+    let change : FitsSigned w128 c.sum_difference-change.result = record { sfits = c.sum_difference-change.type_inv } in
+    let bound : unsigned_abs c.sum_difference-change.result ≤ 2 ^ 88 = c.sum_difference-change.ensures.bound in
+    rw (to_z-of_z w128 (int_at c.loop-place.slopes row) fits, to_z-of_z w128 c.sum_difference-change.result change) (omega (arith, ints, same, small, bound))
 
-pub advance_slope_update_line-requires-clause-known : goal.advance_slope_update_line-requires-clause-known
-advance_slope_update_line-requires-clause-known g c =
+pub advance_line-requires-clause-known : goal.advance_line-requires-clause-known
+advance_line-requires-clause-known g c =
     omega (arith, c.loop-place.invariant.known.below c.loop-place.place 0 c.loop-place-test.true, c.loop-place.invariant.gathered.joined.as_many, c.requires.ready.many_lines)
 
 pub loop-place-preserved : goal.loop-place-preserved
 loop-place-preserved g c =
-    let m = c.args.at.now.taken.machine.now in
+    let m = c.args.at.now.event.machine.now in
     let state : ℕ = c.args.state in
     let discretes : List ℤ = c.args.at.now.discretes.now in
     let rows : List ℕ = c.rows_of-rows.result.now in
@@ -117,33 +117,33 @@ loop-place-preserved g c =
     let same : int_at c.loop-place.slopes row ≡ int_at c.args.slopes.now row = inv.written.others row (not_before rows i inv.known.rising c.loop-place-test.true) in
     let small : IsWithin 100 (int_at c.args.slopes.now row) = c.requires.ready.small_slopes row known in
     let fits : FitsSigned w128 (int_at c.loop-place.slopes row) = omega (arith, ints, same, small) in
-    let change : FitsSigned w128 c.row_sum_change-change.result = record { sfits = c.row_sum_change-change.type_inv } in
-    let bound : unsigned_abs c.row_sum_change-change.result ≤ 2 ^ 88 = c.row_sum_change-change.ensures.bound in
-    let sum : FitsSigned w128 (int_at c.loop-place.slopes row +ℤ c.row_sum_change-change.result) = omega (arith, ints, same, small, bound) in
+    let change : FitsSigned w128 c.sum_difference-change.result = record { sfits = c.sum_difference-change.type_inv } in
+    let bound : unsigned_abs c.sum_difference-change.result ≤ 2 ^ 88 = c.sum_difference-change.ensures.bound in
+    let sum : FitsSigned w128 (int_at c.loop-place.slopes row +ℤ c.sum_difference-change.result) = omega (arith, ints, same, small, bound) in
     let inside : row < length c.loop-place.slopes = omega (arith, known, inv.as_many) in
     let old : ℤ = to_z w64 (of_z w64 c.args.old) in
-    let new : ℤ = to_z w64 (of_z w64 (int_at c.args.at.now.taken.levels.now state)) in
-    let value : ℤ = to_z w128 (of_z w128 (to_z w128 (of_z w128 (int_at c.loop-place.slopes row)) +ℤ to_z w128 (of_z w128 c.row_sum_change-change.result))) in
-    let is : value ≡ int_at c.loop-place.slopes row +ℤ c.row_sum_change-change.result =
-    rw (to_z-of_z w128 (int_at c.loop-place.slopes row) fits, to_z-of_z w128 c.row_sum_change-change.result change) (to_z-of_z w128 (int_at c.loop-place.slopes row +ℤ c.row_sum_change-change.result) sum) in
-    let own : c.row_sum_change-change.result ≡ mode_coefficient_at m row state discretes *ℤ (new -ℤ old) = c.row_sum_change-change.ensures.value in
+    let new : ℤ = to_z w64 (of_z w64 (int_at c.args.at.now.event.levels.now state)) in
+    let value : ℤ = to_z w128 (of_z w128 (to_z w128 (of_z w128 (int_at c.loop-place.slopes row)) +ℤ to_z w128 (of_z w128 c.sum_difference-change.result))) in
+    let is : value ≡ int_at c.loop-place.slopes row +ℤ c.sum_difference-change.result =
+    rw (to_z-of_z w128 (int_at c.loop-place.slopes row) fits, to_z-of_z w128 c.sum_difference-change.result change) (to_z-of_z w128 (int_at c.loop-place.slopes row +ℤ c.sum_difference-change.result) sum) in
+    let own : c.sum_difference-change.result ≡ mode_coefficient_at m row state discretes *ℤ (new -ℤ old) = c.sum_difference-change.ensures.value in
     let Follows : ℕ → ℤ → Type 0 = IsSumAfterLevelChange Slope m state old new discretes c.args.slopes.now in
-    let here : Follows row value = (is ∙ ap (λ z. z +ℤ c.row_sum_change-change.result) same ∙ ap (λ z. int_at c.args.slopes.now row +ℤ z) own, omega (arith, ints, is, same, bound)) in
+    let here : Follows row value = (is ∙ ap (λ z. z +ℤ c.sum_difference-change.result) same ∙ ap (λ z. int_at c.args.slopes.now row +ℤ z) own, omega (arith, ints, is, same, bound)) in
     record {
       written = written_more (pos 0) Follows rows c.args.slopes.now c.loop-place.slopes i value c.loop-place-test.true inside inv.written here;
       as_many = length-set c.loop-place.slopes row value ∙ inv.as_many;
       known = inv.known;
-      gathered = gathered_as (sym (take_more rows i 0 c.loop-place-test.true)) (gathered_then inv.gathered c.advance_slope_update_line.ensures);
+      gathered = gathered_as (sym (take_more rows i 0 c.loop-place-test.true)) (gathered_then inv.gathered c.advance_line.ensures);
     }
 
 pub returns-clause-slopes : goal.returns-clause-slopes
 returns-clause-slopes g c =
-    let m = c.args.at.now.taken.machine.now in
-    let readers = c.args.at.now.taken.uses.now in
+    let m = c.args.at.now.event.machine.now in
+    let readers = c.args.at.now.event.uses.now in
     let state : ℕ = c.args.state in
     let rows_are : c.rows_of-rows.result.now ≡ reading_rows m state = c.rows_of-rows.ensures ∙ rows_kept m readers c.requires.ready.new.uses state (omega (arith, c.requires.ready.known)) in
     let rows : List ℕ = c.rows_of-rows.result.now in
-    let level : ℤ = int_at c.args.at.now.taken.levels.now state in
+    let level : ℤ = int_at c.args.at.now.event.levels.now state in
     let small_new : IsWithin 43 level = c.requires.ready.new.small_levels state (pos 0) (omega (arith, c.requires.ready.known, c.requires.ready.new.levels)) in
     let of_new : FitsSigned w64 level = omega (arith, ints, small_new) in
     let Follows : ℤ → ℤ → ℕ → ℤ → Type 0 = λ old new. IsSumAfterLevelChange Slope m state old new c.args.at.now.discretes.now c.args.slopes.now in
@@ -156,8 +156,8 @@ returns-clause-slopes g c =
 
 pub returns-clause-gathered : goal.returns-clause-gathered
 returns-clause-gathered g c =
-    let m = c.args.at.now.taken.machine.now in
-    let readers = c.args.at.now.taken.uses.now in
+    let m = c.args.at.now.event.machine.now in
+    let readers = c.args.at.now.event.uses.now in
     let state : ℕ = c.args.state in
     let rows_are : c.rows_of-rows.result.now ≡ reading_rows m state = c.rows_of-rows.ensures ∙ rows_kept m readers c.requires.ready.new.uses state (omega (arith, c.requires.ready.known)) in
     gathered_as (take_all c.loop-place.place c.rows_of-rows.result.now c.loop-place-test.false ∙ rows_are) c.loop-place.invariant.gathered

@@ -21,10 +21,10 @@ use mir.Val.{of_z}
 
 pub schedule_new_slope-requires-clause-ready : goal.schedule_new_slope-requires-clause-ready
 schedule_new_slope-requires-clause-ready g c =
-    let m = c.args.at.now.taken.machine.now in
-    let tick = c.args.at.now.taken.tick in
+    let m = c.args.at.now.event.machine.now in
+    let tick = c.args.at.now.event.tick in
     let lines = c.args.lines.now in
-    let level = int_at c.args.at.now.taken.levels.now c.args.j in
+    let level = int_at c.args.at.now.event.levels.now c.args.j in
     let old : Line = line_at lines c.args.j in
     let moved = moved_read c.requires.allowed tick c.index-lines-j-2.result c.move_to.new.self c.move_to.ensures.moved in
     subst (MaySchedule m tick c.args.j level) (sym moved)
@@ -35,15 +35,15 @@ schedule_new_slope-requires-clause-ready g c =
 
 pub returns-clause-goes_on : goal.returns-clause-goes_on
 returns-clause-goes_on g c =
-    let m = c.args.at.now.taken.machine.now in
+    let m = c.args.at.now.event.machine.now in
     let j = c.args.j in
-    let tick = c.args.at.now.taken.tick in
+    let tick = c.args.at.now.event.tick in
     let lines = c.args.lines.now in
     let old : Line = line_at lines j in
     let on = c.schedule_new_slope.ensures.goes_on in
     let moved = moved_read c.requires.allowed tick c.index-lines-j-2.result c.move_to.new.self c.move_to.ensures.moved in
     record {
-      own = subst (λ x. IsRestartedFrom m tick x (int_at c.args.at.now.taken.levels.now j) (int_at c.args.at.now.slopes.now j) j (line_at c.schedule_new_slope.new.lines j) (due_at c.schedule_new_slope.new.agenda j))
+      own = subst (λ x. IsRestartedFrom m tick x (int_at c.args.at.now.event.levels.now j) (int_at c.args.at.now.slopes.now j) j (line_at c.schedule_new_slope.new.lines j) (due_at c.schedule_new_slope.new.agenda j))
           (ap (λ (l : Line). state_at l tick) moved ∙ line_here tick (state_at old tick) old.slope old.level) on.own;
       others = record { lines = λ k other. on.others.lines k other ∙ get_or-set_other lines j k c.move_to.new.self no_line other; dues = on.others.dues };
     }
@@ -52,7 +52,7 @@ pub returns-clause-counted : goal.returns-clause-counted
 returns-clause-counted g c =
     let j = c.args.j in
     let lines = c.args.lines.now in
-    let level = int_at c.args.at.now.taken.levels.now j in
+    let level = int_at c.args.at.now.event.levels.now j in
     let slope = int_at c.args.at.now.slopes.now j in
     let on = returns-clause-goes_on g c in
     let read = c.line.view_is ∙ line_read c.requires.allowed c.index-lines-j.result in
@@ -60,6 +60,6 @@ returns-clause-counted g c =
       | else-line-slope-via-then-line-slope+else-line-level w ↦ w.if-line-level.false (ap (of_z w64) (ap (λ (l : Line). l.level) read ∙ own_level))
       | else-line-slope-via-else-line-slope w ↦ w.if-line-slope.false (ap (of_z w128) (ap (λ (l : Line). l.slope) read ∙ own_slope))
     ]) in
-    one_renewed (state_count c.args.at.now.taken.machine.now) j (λ k. has_level_and_slope (int_at c.args.at.now.taken.levels.now k) (int_at c.args.at.now.slopes.now k)) lines c.schedule_new_slope.new.lines
+    one_renewed (state_count c.args.at.now.event.machine.now) j (λ k. has_level_and_slope (int_at c.args.at.now.event.levels.now k) (int_at c.args.at.now.slopes.now k)) lines c.schedule_new_slope.new.lines
     c.args.steps.now c.move_to.new.steps c.requires.allowed.known (goes_so level slope (line_at c.schedule_new_slope.new.lines j) on.own.own_level on.own.own_slope) on.others.lines
     (omega (arith, c.move_to.ensures.counted, ap (λ (b : Bool). one_if (not b)) other))

@@ -20,13 +20,13 @@ update_slope-requires-clause-allowed g c = record {
 pub update_slope-requires-clause-ready : goal.update_slope-requires-clause-ready
 update_slope-requires-clause-ready g c =
     let k : ℕ = get_or c.args.states.now c.loop-j.j-index 0 in
-    let known : k < state_count c.args.at.now.taken.machine.now = c.requires.states c.loop-j.j-index 0 c.loop-j-test.true in
-    may_reslope_again c.args.at.now.taken.machine.now c.args.at.now.taken.tick (int_at c.args.at.now.taken.levels.now k) (int_at c.args.at.now.slopes.now k) k (line_at c.args.lines.now k) (line_at c.loop-j.lines k)
+    let known : k < state_count c.args.at.now.event.machine.now = c.requires.states c.loop-j.j-index 0 c.loop-j-test.true in
+    may_reslope_again c.args.at.now.event.machine.now c.args.at.now.event.tick (int_at c.args.at.now.event.levels.now k) (int_at c.args.at.now.slopes.now k) k (line_at c.args.lines.now k) (line_at c.loop-j.lines k)
     (due_at c.args.agenda.now k) (due_at c.loop-j.agenda k) (c.requires.allowed.each k known) (c.loop-j.invariant.resloped.each k known)
 
 pub loop-j-preserved : goal.loop-j-preserved
 loop-j-preserved g c =
-    let m = c.args.at.now.taken.machine.now in
+    let m = c.args.at.now.event.machine.now in
     let i = c.loop-j.j-index in
     let inv = c.loop-j.invariant in
     let state : ℕ = get_or c.args.states.now i 0 in
@@ -34,11 +34,11 @@ loop-j-preserved g c =
     let first : Schedules = record { lines = c.args.lines.now; dues = c.args.agenda.now } in
     let before : Schedules = record { lines = c.loop-j.lines; dues = c.loop-j.agenda } in
     let after : Schedules = record { lines = c.update_slope.new.lines; dues = c.update_slope.new.agenda } in
-    let one : HaveSlopesUpdated m c.args.at.now.taken.tick c.args.at.now.taken.levels.now c.args.at.now.slopes.now (state ∷ []) before after =
-    one_resloped m c.args.at.now.taken.tick c.args.at.now.taken.levels.now c.args.at.now.slopes.now state before after known c.update_slope.ensures.goes_on c.update_slope.ensures.kept in
+    let one : HaveSlopesUpdated m c.args.at.now.event.tick c.args.at.now.event.levels.now c.args.at.now.slopes.now (state ∷ []) before after =
+    one_resloped m c.args.at.now.event.tick c.args.at.now.event.levels.now c.args.at.now.slopes.now state before after known c.update_slope.ensures.goes_on c.update_slope.ensures.kept in
     record {
-      resloped = subst (λ (states : List ℕ). HaveSlopesUpdated m c.args.at.now.taken.tick c.args.at.now.taken.levels.now c.args.at.now.slopes.now states first after) (sym (take_more c.args.states.now i 0 c.loop-j-test.true))
-          (resloped_then m c.args.at.now.taken.tick c.args.at.now.taken.levels.now c.args.at.now.slopes.now (take i c.args.states.now) (state ∷ []) first before after inv.resloped one);
+      resloped = subst (λ (states : List ℕ). HaveSlopesUpdated m c.args.at.now.event.tick c.args.at.now.event.levels.now c.args.at.now.slopes.now states first after) (sym (take_more c.args.states.now i 0 c.loop-j-test.true))
+          (resloped_then m c.args.at.now.event.tick c.args.at.now.event.levels.now c.args.at.now.slopes.now (take i c.args.states.now) (state ∷ []) first before after inv.resloped one);
       line_count = omega (arith, inv.line_count, c.update_slope.auto.lines);
       counted = omega (arith, inv.counted, c.update_slope.ensures.counted);
     }

@@ -23,7 +23,7 @@ use Rattle.qss_states.proofs.slope_updates.update_slopes_for_levels.Goals as goa
 
 pub loop-state-init : goal.loop-state-init
 loop-state-init g c =
-    let m = c.args.at.now.taken.machine.now in
+    let m = c.args.at.now.event.machine.now in
     let d : List ℤ = c.args.at.now.discretes.now in
     let before = c.requires.ready.before.1 in
     let small = sums_small Slope m c.requires.ready.before.0 d c.args.slopes.now before.levels.of_lines.light before.own_sums in
@@ -31,12 +31,12 @@ loop-state-init g c =
       own = λ old is j h. ap (λ xs. int_at xs j) is.own_sums ∙ get_or-map-range_with_len (λ k. sum_at Slope m k old d) 0 (state_count m) j j (pos 0) h (omega arith);
       as_many = ap length before.own_sums ∙ length-map-range_with_len (λ j. sum_at Slope m j c.requires.ready.before.0 d) 0 (state_count m);
       near = λ j h. let here : IsWithin 88 (int_at c.args.slopes.now j) = small j h in omega (arith, here);
-      gathered = none_gathered c.args.at.now.taken.tick (advancing_of c.args.lines.now c.args.touched.now c.args.steps.now) c.requires.allowed;
+      gathered = none_gathered c.args.at.now.event.tick (advancing_of c.args.lines.now c.args.touched.now c.args.steps.now) c.requires.allowed;
     }
 
 pub update_slopes_for_level-requires : goal.update_slopes_for_level-requires
 update_slopes_for_level-requires g c =
-    let m = c.args.at.now.taken.machine.now in
+    let m = c.args.at.now.event.machine.now in
     let new = c.requires.ready.new in
     let inv = c.loop-state.invariant in
     record {
@@ -48,20 +48,20 @@ update_slopes_for_level-requires g c =
       };
       known = new.new.moved.below c.loop-state.state-index 0 c.loop-state-test.true;
       many_slopes = inv.as_many;
-      small_slopes = λ j h. omega (arith, inv.near j h, few_numbers (state_count m) c.args.at.now.taken.moved.now new.new.moved, m.has_variables.few, c.loop-state-test.true);
+      small_slopes = λ j h. omega (arith, inv.near j h, few_numbers (state_count m) c.args.at.now.event.moved.now new.new.moved, m.has_variables.few, c.loop-state-test.true);
       many_lines = inv.gathered.joined.as_many ∙ c.requires.ready.many_lines;
       can = inv.gathered.can;
     }
 
 pub loop-state-preserved : goal.loop-state-preserved
 loop-state-preserved g c =
-    let m = c.args.at.now.taken.machine.now in
-    let tick = c.args.at.now.taken.tick in
+    let m = c.args.at.now.event.machine.now in
+    let tick = c.args.at.now.event.tick in
     let d : List ℤ = c.args.at.now.discretes.now in
     let i = c.loop-state.state-index in
     let inv = c.loop-state.invariant in
-    let moved : List ℕ = c.args.at.now.taken.moved.now in
-    let levels : List ℤ = c.args.at.now.taken.levels.now in
+    let moved : List ℕ = c.args.at.now.event.moved.now in
+    let levels : List ℤ = c.args.at.now.event.levels.now in
     let state : ℕ = get_or moved i 0 in
     let known : state < state_count m = c.requires.ready.new.new.moved.below i 0 c.loop-state-test.true in
     let inside : state < length c.args.lines.now = omega (arith, known, c.requires.ready.many_lines) in
@@ -90,10 +90,10 @@ loop-state-preserved g c =
 
 pub returns-clause-slopes : goal.returns-clause-slopes
 returns-clause-slopes g c =
-    let m = c.args.at.now.taken.machine.now in
+    let m = c.args.at.now.event.machine.now in
     let d : List ℤ = c.args.at.now.discretes.now in
-    let moved : List ℕ = c.args.at.now.taken.moved.now in
-    let levels : List ℤ = c.args.at.now.taken.levels.now in
+    let moved : List ℕ = c.args.at.now.event.moved.now in
+    let levels : List ℤ = c.args.at.now.event.levels.now in
     let old : List ℤ = c.requires.ready.before.0 in
     let whole : levels_along (take c.loop-state.state-index moved) levels old ≡ levels =
     ap (λ (js : List ℕ). levels_along js levels old) (take_all c.loop-state.state-index moved c.loop-state-test.false) ∙ along_all moved levels old c.requires.ready.before.1.levels.off in
@@ -102,4 +102,4 @@ returns-clause-slopes g c =
 
 pub returns-clause-gathered : goal.returns-clause-gathered
 returns-clause-gathered g c =
-    gathered_as (ap (reached c.args.at.now.taken.machine.now) (take_all c.loop-state.state-index c.args.at.now.taken.moved.now c.loop-state-test.false)) c.loop-state.invariant.gathered
+    gathered_as (ap (reached c.args.at.now.event.machine.now) (take_all c.loop-state.state-index c.args.at.now.event.moved.now c.loop-state-test.false)) c.loop-state.invariant.gathered

@@ -23,7 +23,7 @@ update_slopes_from_readers-requires-clause-allowed c = record {
   of = record {
     values = levels_after c.requires.allowed;
     one_each = ap length c.update_sums_of_slopes.ensures
-        ∙ length-map-range_with_len (λ j. slope_at c.args.at.now.machine.now j c.args.at.now.levels.now c.args.left.now.before.now) 0 (state_count c.args.at.now.machine.now);
+        ∙ length-map-range_with_len (λ j. slope_at c.args.at.now.machine.now j c.args.at.now.levels.now c.args.handled.now.before.now) 0 (state_count c.args.at.now.machine.now);
   };
   light = c.requires.light;
 }
@@ -33,14 +33,14 @@ returns c =
     let m = c.args.at.now.machine.now in
     let n : ℕ = state_count m in
     let levels = c.args.at.now.levels.now in
-    let many : length c.update_sums_of_slopes.new.slopes ≡ n = ap length c.update_sums_of_slopes.ensures ∙ length-map-range_with_len (λ j. slope_at m j levels c.args.left.now.before.now) 0 n in
-    fill_by_all (λ j. slope_at m j levels c.args.left.now.discretes.now) c.update_slopes_from_readers.new.slopes n (pos 0) (c.update_slopes_from_readers.ensures.as_many ∙ many)
-    (λ j h. elim (cases_Bool (is_listed (flat_map (reading_rows m) c.args.left.now.assigned.now) j)) [
+    let many : length c.update_sums_of_slopes.new.slopes ≡ n = ap length c.update_sums_of_slopes.ensures ∙ length-map-range_with_len (λ j. slope_at m j levels c.args.handled.now.before.now) 0 n in
+    fill_by_all (λ j. slope_at m j levels c.args.handled.now.discretes.now) c.update_slopes_from_readers.new.slopes n (pos 0) (c.update_slopes_from_readers.ensures.as_many ∙ many)
+    (λ j h. elim (cases_Bool (is_listed (flat_map (reading_rows m) c.args.handled.now.assigned.now) j)) [
       | inl reads ↦ c.update_slopes_from_readers.ensures.each j reads
       | inr none ↦
           c.update_slopes_from_readers.ensures.others j none
           ∙ ap (λ xs. int_at xs j) c.update_sums_of_slopes.ensures
-          ∙ int_at-tabulate n (λ k. slope_at m k levels c.args.left.now.before.now) j h
-          ∙ sym (slope_stays m levels c.args.left.now.before.now c.args.left.now.discretes.now c.args.left.now.assigned.now c.requires.allowed.new.levels c.requires.allowed.handled.many_before c.requires.allowed.handled.values.discretes c.requires.allowed.handled.assigned.others j h
-          (sym (among_readers m j h c.args.left.now.assigned.now) ∙ none))
+          ∙ int_at-tabulate n (λ k. slope_at m k levels c.args.handled.now.before.now) j h
+          ∙ sym (slope_stays m levels c.args.handled.now.before.now c.args.handled.now.discretes.now c.args.handled.now.assigned.now c.requires.allowed.new.levels c.requires.allowed.handled.many_before c.requires.allowed.handled.values.discretes c.requires.allowed.handled.assigned.others j h
+          (sym (among_readers m j h c.args.handled.now.assigned.now) ∙ none))
     ])

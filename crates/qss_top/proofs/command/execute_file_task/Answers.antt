@@ -5,7 +5,7 @@ use Rattle.qss_top.proofs.command.execute_file_task.Goals as goal
 pub returns-in-Ok : goal.returns-in-Ok
 returns-in-Ok g c = rw (file_of_task c.args.task c.args.model.now) (file_step c.in-Ok.ensures
     (answer_step (of_source c.args.task c.args.model.now c.in-Ok.bytes.items)
-    (rw c.deref.ensures.value at c.answer_machine_task.ensures)))
+    (rw c.deref.ensures.value at c.answer_task.ensures)))
 
 pub returns-in-Err : goal.returns-in-Err
 returns-in-Err g c = rw (file_of_task c.args.task c.args.model.now)

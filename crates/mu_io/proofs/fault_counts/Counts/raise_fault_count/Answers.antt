@@ -2,10 +2,10 @@ use Rattle.std.proofs.Math.ListN.{set}
 use Rattle.mu_io.proofs.Entries.{Raises, raises, is_found}
 use Rattle.mu_io.proofs.fault_counts.Counts.raise_fault_count.Goals as goal
 
-at_some : (c : goal.After-self-1) → Raises c.self.inside.entries.items c.args.name.now (set c.self.inside.entries.items c.in-Some.i (c.index_mut.result.now.0, c.next_fault_count.result))
+at_some : (c : goal.After-self-1) → Raises c.self.inside.entries.items c.args.name.now (set c.self.inside.entries.items c.in-Some.i (c.index_mut.result.now.0, c.count_further_fault.result))
 at_some c =
-    raises c.self.inside.entries.items c.args.name.now c.in-Some.i c.next_fault_count.result c.index.result.now c.index_mut.result.now c.find_name_index.result
-    (rw c.deref.ensures.value at c.find_name_index.ensures) c.in-Some.is c.index.ensures c.index_mut.ensures.value c.next_fault_count.ensures.counts_never_fall c.next_fault_count.ensures.rose
+    raises c.self.inside.entries.items c.args.name.now c.in-Some.i c.count_further_fault.result c.index.result.now c.index_mut.result.now c.find_name_index.result
+    (rw c.deref.ensures.value at c.find_name_index.ensures) c.in-Some.is c.index.ensures c.index_mut.ensures.value c.count_further_fault.ensures.counts_never_fall c.count_further_fault.ensures.rose
 
 pub returns-in-Some-clause-raised : goal.returns-in-Some-clause-raised
 returns-in-Some-clause-raised c = rw (← c.self.view_is) ((at_some c).raised)

@@ -7,5 +7,5 @@ use Rattle.qss_components.proofs.crossing_model.CrossingModelAtomic.advance.Goal
 
 pub returns-clause-only : goal.returns-clause-only
 returns-clause-only c next is =
-    let w = c.args.self.now.watch in
+    let w = c.args.self.now.detector in
     first_one (λ tick. holds_at w tick ≢ compares w.rel w.value) w.tick next c.next_change.result is c.next_change.ensures

@@ -23,7 +23,7 @@ use mir.Syntax.{w64, w128}
 pub update_crossing_inputs-requires-clause-lines : goal.update_crossing_inputs-requires-clause-lines
 update_crossing_inputs-requires-clause-lines c =
     let x = c.args.self.now in
-    subst (All (IsInput c.args.tick)) (sym c.as_mut_slice.ensures.value) (lines_later x.watch.tick c.args.tick x.inputs.items c.requires.timely.not_before x.lines)
+    subst (All (IsInput c.args.tick)) (sym c.as_mut_slice.ensures.value) (lines_later x.detector.tick c.args.tick x.inputs.items c.requires.timely.not_before x.lines)
 
 pub update_crossing_inputs-requires-clause-tick_limit : goal.update_crossing_inputs-requires-clause-tick_limit
 update_crossing_inputs-requires-clause-tick_limit c = c.requires.timely.in_time
@@ -53,7 +53,7 @@ crossing_detector_of-self-requires-clause-lines c =
     c.as_slice.ensures.value ∙ with_items_is x.inputs c.update_crossing_inputs.new.inputs (c.update_crossing_inputs.auto.inputs ∙ c.as_mut_slice.ensures.len) ∙ c.update_crossing_inputs.ensures
     ∙ ap (λ (s : Machine). map (input_after_message s c.args.tick c.args.msg) c.as_mut_slice.result.now) c.deref.ensures
     ∙ ap (map (input_after_message m c.args.tick c.args.msg)) c.as_mut_slice.ensures.value in
-    let lines = lines_later x.watch.tick c.args.tick x.inputs.items c.requires.timely.not_before x.lines in
+    let lines = lines_later x.detector.tick c.args.tick x.inputs.items c.requires.timely.not_before x.lines in
     let given = given_inputs m c.args.tick c.args.msg c.requires.message x.inputs.items lines x.stays c.requires.size_limit in
     subst (All (IsInput c.args.tick)) (sym same) (λ k d inside. (given k d inside).line)
 
@@ -65,7 +65,7 @@ crossing_detector_of-self-requires-clause-size_limit c =
     c.as_slice.ensures.value ∙ with_items_is x.inputs c.update_crossing_inputs.new.inputs (c.update_crossing_inputs.auto.inputs ∙ c.as_mut_slice.ensures.len) ∙ c.update_crossing_inputs.ensures
     ∙ ap (λ (s : Machine). map (input_after_message s c.args.tick c.args.msg) c.as_mut_slice.result.now) c.deref.ensures
     ∙ ap (map (input_after_message m c.args.tick c.args.msg)) c.as_mut_slice.ensures.value in
-    let lines = lines_later x.watch.tick c.args.tick x.inputs.items c.requires.timely.not_before x.lines in
+    let lines = lines_later x.detector.tick c.args.tick x.inputs.items c.requires.timely.not_before x.lines in
     let given = given_inputs m c.args.tick c.args.msg c.requires.message x.inputs.items lines x.stays c.requires.size_limit in
     subst (All (λ i. IsWithin 88 (input_at c.args.tick i))) (sym same) (λ k d inside. (given k d inside).small)
 
@@ -80,7 +80,7 @@ invariant_of-self c =
     with_items_is x.inputs c.update_crossing_inputs.new.inputs (c.update_crossing_inputs.auto.inputs ∙ c.as_mut_slice.ensures.len) ∙ c.update_crossing_inputs.ensures
     ∙ ap (λ (s : Machine). map (input_after_message s c.args.tick c.args.msg) c.as_mut_slice.result.now) c.deref.ensures
     ∙ ap (map (input_after_message m c.args.tick c.args.msg)) c.as_mut_slice.ensures.value in
-    let lines = lines_later x.watch.tick c.args.tick x.inputs.items c.requires.timely.not_before x.lines in
+    let lines = lines_later x.detector.tick c.args.tick x.inputs.items c.requires.timely.not_before x.lines in
     let given = given_inputs m c.args.tick c.args.msg c.requires.message x.inputs.items lines x.stays c.requires.size_limit in
     let own : c.crossing_detector_of-self.result.tick ≡ c.args.tick = ap (λ (w : DetectorView). w.tick) c.crossing_detector_of-self.ensures in
     record {
@@ -93,7 +93,7 @@ pub returns : goal.returns
 returns c =
     let x = c.args.self.now in
     let m = x.machine.value in
-    let old : Crossing = record { place = x.place; watch = x.watch; inputs = x.inputs.items; time = x.time; gamma = x.gamma } in
+    let old : Crossing = record { place = x.place; detector = x.detector; inputs = x.inputs.items; time = x.time; gamma = x.gamma } in
     let items = (with_items x.inputs c.update_crossing_inputs.new.inputs).items in
     let same : items ≡ map (input_after_message m c.args.tick c.args.msg) x.inputs.items =
     with_items_is x.inputs c.update_crossing_inputs.new.inputs (c.update_crossing_inputs.auto.inputs ∙ c.as_mut_slice.ensures.len) ∙ c.update_crossing_inputs.ensures
@@ -103,8 +103,8 @@ returns c =
     let constant : IsWithin 78 x.gamma = x.parts.constant in
     let of_time : FitsSigned w64 x.time = omega (arith, ints, sizes) in
     let of_gamma : FitsSigned w128 x.gamma = omega (arith, ints, constant) in
-    let watch : c.crossing_detector_of-self.result ≡ record { rel = x.watch.rel; tick = c.args.tick; value = form_at m items x.time x.gamma c.args.tick; speed = speed_by m items x.time } =
+    let detector : c.crossing_detector_of-self.result ≡ record { rel = x.detector.rel; tick = c.args.tick; value = form_at m items x.time x.gamma c.args.tick; speed = speed_by m items x.time } =
     (simp to_z-of_z at c.crossing_detector_of-self.ensures)
-    ∙ ap (λ (s : Machine). record { rel = x.watch.rel; tick = c.args.tick; value = form_at s c.as_slice.result.now x.time x.gamma c.args.tick; speed = speed_by s c.as_slice.result.now x.time }) c.deref-2.ensures
-    ∙ ap (λ (xs : List Input). record { rel = x.watch.rel; tick = c.args.tick; value = form_at m xs x.time x.gamma c.args.tick; speed = speed_by m xs x.time }) c.as_slice.ensures.value in
-    (refl, given_so m old c.args.tick c.args.msg items c.crossing_detector_of-self.result same watch)
+    ∙ ap (λ (s : Machine). record { rel = x.detector.rel; tick = c.args.tick; value = form_at s c.as_slice.result.now x.time x.gamma c.args.tick; speed = speed_by s c.as_slice.result.now x.time }) c.deref-2.ensures
+    ∙ ap (λ (xs : List Input). record { rel = x.detector.rel; tick = c.args.tick; value = form_at m xs x.time x.gamma c.args.tick; speed = speed_by m xs x.time }) c.as_slice.ensures.value in
+    (refl, given_so m old c.args.tick c.args.msg items c.crossing_detector_of-self.result same detector)

@@ -13,7 +13,7 @@ returns-clause-when c next is = rw (c.advance.ensures.only next is ∙ c.in_ok-a
 
 pub returns-clause-what : goal.returns-clause-what
 returns-clause-what c tick is =
-    let w = c.args.self.now.watch in
+    let w = c.args.self.now.detector in
     ap (λ (now : Bool). Truth c.args.self.now.place now) (ap not c.truth.ensures ∙ other_truth (compares w.rel w.value) (holds_at w tick) is.holds)
 
 pub returns-in_err-advance-clause-what : goal.returns-in_err-advance-clause-what

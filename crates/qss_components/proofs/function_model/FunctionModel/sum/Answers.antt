@@ -10,11 +10,11 @@ use Rattle.qss_components.specs.Functions.{sum_at}
 use Rattle.qss_components.proofs.function_model.FunctionModel.sum.Goals as goal
 use mir.Syntax.{w128}
 
-pub function_sum_at-requires-clause-row : goal.function_sum_at-requires-clause-row
-function_sum_at-requires-clause-row c = subst (λ (m : Machine). c.args.self.now.row < state_count m) (sym c.deref.ensures) c.args.self.now.known
+pub slope_at_inputs-requires-clause-row : goal.slope_at_inputs-requires-clause-row
+slope_at_inputs-requires-clause-row c = subst (λ (m : Machine). c.args.self.now.row < state_count m) (sym c.deref.ensures) c.args.self.now.known
 
-pub function_sum_at-requires-clause-inputs : goal.function_sum_at-requires-clause-inputs
-function_sum_at-requires-clause-inputs c =
+pub slope_at_inputs-requires-clause-inputs : goal.slope_at_inputs-requires-clause-inputs
+slope_at_inputs-requires-clause-inputs c =
     let s = c.args.self.now in
     subst (λ (m : Machine). AreInputs m s.row c.as_slice.result.now) (sym c.deref.ensures)
     (subst (AreInputs s.machine.value s.row) (sym c.as_slice.ensures.value) s.are_inputs)
@@ -22,9 +22,9 @@ function_sum_at-requires-clause-inputs c =
 pub returns : goal.returns
 returns c =
     let s = c.args.self.now in
-    let sum : FitsSigned w128 c.function_sum_at.result = record { sfits = c.function_sum_at.type_inv } in
-    to_z-of_z w128 c.function_sum_at.result sum
-    ∙ c.function_sum_at.ensures
+    let sum : FitsSigned w128 c.slope_at_inputs.result = record { sfits = c.slope_at_inputs.type_inv } in
+    to_z-of_z w128 c.slope_at_inputs.result sum
+    ∙ c.slope_at_inputs.ensures
     ∙ ap (λ (m : Machine). sum_at m s.row (input_levels m c.as_slice.result.now)
     (input_discretes m c.as_slice.result.now)) c.deref.ensures
     ∙ ap (λ (items : List FunctionInput). sum_at s.machine.value s.row

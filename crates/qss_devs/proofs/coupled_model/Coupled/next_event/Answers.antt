@@ -19,13 +19,13 @@ returns-clause-rows g c rule named going =
     let m : Machine = c.args.self.now.machine.value in
     let from : ℕ = c.args.self.now.tick in
     let s : Store _ _ = c.args.self.now.store in
-    let outcome : Outcome = c.go_next_coupled_event-outcome.result in
-    let after : Store _ _ = c.go_next_coupled_event-outcome.new.s in
+    let outcome : Outcome = c.go_to_next_rows-outcome.result in
+    let after : Store _ _ = c.go_to_next_rows-outcome.new.s in
     let to : ℕ = tick_of m.last outcome in
     let of_machine : c.deref.result.now ≡ m = c.deref.ensures in
     let next : IsNext (IsAllowedLevel (Some rule)) (view_of m from s None) (view_of m to after (end_of outcome)) outcome =
     subst (λ name. IsNext (IsAllowedLevel name) (view_of m from s None) (view_of m to after (end_of outcome)) outcome) (ap (λ (q : Quantizer _ _). q.name) c.deref-2.ensures ∙ named)
-    (subst (λ (n : Machine). IsNext (IsAllowedLevel c.deref-2.result.now.name) (view_of n from s None) (view_of n (tick_of n.last outcome) after (end_of outcome)) outcome) of_machine c.go_next_coupled_event-outcome.ensures.next) in
+    (subst (λ (n : Machine). IsNext (IsAllowedLevel c.deref-2.result.now.name) (view_of n from s None) (view_of n (tick_of n.last outcome) after (end_of outcome)) outcome) of_machine c.go_to_next_rows-outcome.ensures.next) in
     ap (λ (e : Option Outcome). rows_left (level_by rule) (view_of m from s e)) going
     ∙ named_rows rule m from (snapshot_of from s) s.rows.items outcome to (snapshot_of to after) after.rows.items (end_of outcome) next
     ∙ ap (λ (t : ℕ). after.rows.items ++ rows_left (level_by rule) (view_of m t after (end_of outcome))) (sym (c.tick-self.ensures ∙ ap (λ (n : Machine). tick_of n.last outcome) c.deref-3.ensures))

@@ -12,28 +12,28 @@ invariant_of-self g c =
     let kept : c.next_event.new.self.rule.nearest ≡ run.sim.rule.nearest = rw call.same.1 refl in
     record {
       nearest = kept ∙ run.nearest;
-      known = known_on run.sim.course c.next_event.new.self.course call.same.0
+      known = known_on run.sim.run c.next_event.new.self.run call.same.0
           (call.rows run.nearest c.requires) run.known;
     }
 
 pub returns-in-Events-clause-same_end : goal.returns-in-Events-clause-same_end
 returns-in-Events-clause-same_end g c end e h =
     let run = c.args.self.now in
-    let new = c.next_event.new.self.course in
-    ends_on run.sim.course new c.in-Events.tick c.next_event.ensures.same.0
-    (call_of run.sim.rule.nearest run.sim.course new c.next_event.result (Events c.in-Events.tick)
+    let new = c.next_event.new.self.run in
+    ends_on run.sim.run new c.in-Events.tick c.next_event.ensures.same.0
+    (call_of run.sim.rule.nearest run.sim.run new c.next_event.result (Events c.in-Events.tick)
     run.nearest c.in-Events.is (c.next_event.ensures.next c.requires)) end h
 
 pub returns-in-Done-clause-ended : goal.returns-in-Done-clause-ended
 returns-in-Done-clause-ended g c =
     let run = c.args.self.now in
-    let new = c.next_event.new.self.course in
-    let n = call_of run.sim.rule.nearest run.sim.course new c.next_event.result Done run.nearest
+    let new = c.next_event.new.self.run in
+    let n = call_of run.sim.rule.nearest run.sim.run new c.next_event.result Done run.nearest
     c.in-Done.is (c.next_event.ensures.next c.requires) in (
       ap (row2_lines new.machine) (none_left new Done n.2),
       (
-        able_before run.sim.course new Done n,
-        done_end run.sim.course new n,
+        able_before run.sim.run new Done n,
+        done_end run.sim.run new n,
       ),
       tt,
     )
@@ -41,18 +41,18 @@ returns-in-Done-clause-ended g c =
 pub returns-in-Over-clause-ended : goal.returns-in-Over-clause-ended
 returns-in-Over-clause-ended g c =
     let run = c.args.self.now in
-    let new = c.next_event.new.self.course in
+    let new = c.next_event.new.self.run in
     let ensures = c.next_event.ensures in
     let over = Over c.in-Over.tick c.in-Over.var in
-    let n = call_of run.sim.rule.nearest run.sim.course new c.next_event.result over run.nearest
+    let n = call_of run.sim.rule.nearest run.sim.run new c.next_event.result over run.nearest
     c.in-Over.is (ensures.next c.requires) in (
       ap (row2_lines new.machine) (none_left new over n.1),
       (
-        able_before run.sim.course new over n,
-        over_end run.sim.course new c.in-Over.tick
+        able_before run.sim.run new over n,
+        over_end run.sim.run new c.in-Over.tick
             c.in-Over.var n,
       ),
-      over_in run.sim.course new c.in-Over.tick c.in-Over.var ensures.same.0 n
-          (known_on run.sim.course new ensures.same.0 (ensures.rows run.nearest c.requires)
+      over_in run.sim.run new c.in-Over.tick c.in-Over.var ensures.same.0 n
+          (known_on run.sim.run new ensures.same.0 (ensures.rows run.nearest c.requires)
           run.known),
     )

@@ -25,8 +25,8 @@ returns-clause-sized c =
     record {
       states = many;
       levels = ap length c.in_ok-levels.ensures ∙ length-map c.as_slice.result.now (λ (x : ℤ). floor_of x (level_unit m)) ∙ ap length c.as_slice.ensures.value ∙ many;
-      changes = ap length c.in_ok-equal_list.ensures ∙ length-replicate _ _ ∙ count;
-      left = ap length c.in_ok-equal_list-2.ensures ∙ length-replicate _ _ ∙ count;
+      changes = ap length c.in_ok-repeat_value.ensures ∙ length-replicate _ _ ∙ count;
+      left = ap length c.in_ok-repeat_value-2.ensures ∙ length-replicate _ _ ∙ count;
     }
 
 pub returns-clause-levels : goal.returns-clause-levels
@@ -38,11 +38,11 @@ returns-clause-changes c =
     let m = c.args.m.now in
     let many : length c.in_ok-states.states.items ≡ state_count m = ap length c.in_ok-states.ensures ∙ fine_count m in
     let count : c.len-count.result ≡ state_count m = omega (arith, c.len-count.ensures, c.in_ok-states.states.ok.0, many) in
-    c.in_ok-equal_list.ensures ∙ ap (λ (k : ℕ). replicate k (pos 0)) count
+    c.in_ok-repeat_value.ensures ∙ ap (λ (k : ℕ). replicate k (pos 0)) count
 
 pub returns-clause-left : goal.returns-clause-left
 returns-clause-left c =
     let m = c.args.m.now in
     let many : length c.in_ok-states.states.items ≡ state_count m = ap length c.in_ok-states.ensures ∙ fine_count m in
     let count : c.len-count.result ≡ state_count m = omega (arith, c.len-count.ensures, c.in_ok-states.states.ok.0, many) in
-    c.in_ok-equal_list-2.ensures ∙ ap (λ (k : ℕ). replicate k true) count
+    c.in_ok-repeat_value-2.ensures ∙ ap (λ (k : ℕ). replicate k true) count

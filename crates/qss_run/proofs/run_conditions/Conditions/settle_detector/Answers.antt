@@ -28,25 +28,25 @@ returns-clause-after_handlers c =
     let place = c.args.place in
     let all : Conditions = c.args.self.now in
     let fits = c.requires.allowed.fits in
-    let watch : DetectorView = c.condition_detector_of-watch.result in
+    let detector : DetectorView = c.detector_at_values-detector.result in
     let own : c.condition-condition.result.now ≡ condition_at m place = c.condition-condition.ensures.value in
     let dues : c.set.new.self ≡ set c.args.agenda.now (state_count m + place) c.next_change.result =
     c.set.ensures ∙ ap (λ n. set c.args.agenda.now (n + place) c.next_change.result) c.requires.allowed.point.slopes.as_many in
-    let detectors = with_items_is all.detectors (set c.as_mut_slice-detectors.result.now place watch) (length-set c.as_mut_slice-detectors.result.now place watch ∙ c.as_mut_slice-detectors.ensures.len)
-    ∙ ap (λ ws. set ws place watch) c.as_mut_slice-detectors.ensures.value in
+    let detectors = with_items_is all.detectors (set c.as_mut_slice-detectors.result.now place detector) (length-set c.as_mut_slice-detectors.result.now place detector ∙ c.as_mut_slice-detectors.ensures.len)
+    ∙ ap (λ ws. set ws place detector) c.as_mut_slice-detectors.ensures.value in
     let after_handlers = with_items_is all.after_handlers (set c.as_mut_slice-after_handlers.result.now place c.truth-holds.result)
     (length-set c.as_mut_slice-after_handlers.result.now place c.truth-holds.result ∙ c.as_mut_slice-after_handlers.ensures.len)
     ∙ ap (λ flags. set flags place c.truth-holds.result) c.as_mut_slice-after_handlers.ensures.value in
     one_settled m at.tick at.states.now at.discretes.now at.slopes.now place (detector_states_of all c.args.agenda.now)
     (record {
-      detectors = (with_items all.detectors (set c.as_mut_slice-detectors.result.now place watch)).items;
+      detectors = (with_items all.detectors (set c.as_mut_slice-detectors.result.now place detector)).items;
       after_handlers = (with_items all.after_handlers (set c.as_mut_slice-after_handlers.result.now place c.truth-holds.result)).items;
       dues = c.set.new.self;
     })
-    watch c.truth-holds.result c.next_change.result (omega (arith, c.requires.place, fits.detectors)) (omega (arith, c.requires.place, fits.after_handlers)) (omega (arith, c.requires.place, c.requires.allowed.places))
+    detector c.truth-holds.result c.next_change.result (omega (arith, c.requires.place, fits.detectors)) (omega (arith, c.requires.place, fits.after_handlers)) (omega (arith, c.requires.place, c.requires.allowed.places))
     detectors after_handlers dues
-    (watch_is m at.tick at.states.now at.discretes.now at.slopes.now place c.condition-condition.result.now watch c.next_change.result c.condition_detector_of-watch.ensures own c.next_change.ensures)
-    (c.truth-holds.ensures ∙ ap (λ (w : DetectorView). compares w.rel w.value) c.condition_detector_of-watch.ensures ∙ ap (λ (condition : Condition). truth m condition at.states.now at.discretes.now at.tick) own)
+    (watch_is m at.tick at.states.now at.discretes.now at.slopes.now place c.condition-condition.result.now detector c.next_change.result c.detector_at_values-detector.ensures own c.next_change.ensures)
+    (c.truth-holds.ensures ∙ ap (λ (w : DetectorView). compares w.rel w.value) c.detector_at_values-detector.ensures ∙ ap (λ (condition : Condition). truth m condition at.states.now at.discretes.now at.tick) own)
 
 pub mark_changed_detector-requires-clause-place : goal.mark_changed_detector-requires-clause-place
 mark_changed_detector-requires-clause-place c = omega (arith, c.requires.place, c.requires.allowed.fits.at_arrival, ap length c.as_slice-at_arrival.ensures.value)
@@ -72,7 +72,7 @@ returns-clause-flipped c other =
     let all : Conditions = c.args.self.now in
     let own : c.condition-condition.result.now ≡ condition_at m place = c.condition-condition.ensures.value in
     let holds : c.truth-holds.result ≡ truth m (condition_at m place) at.states.now at.discretes.now at.tick =
-    c.truth-holds.ensures ∙ ap (λ (w : DetectorView). compares w.rel w.value) c.condition_detector_of-watch.ensures ∙ ap (λ (condition : Condition). truth m condition at.states.now at.discretes.now at.tick) own in
+    c.truth-holds.ensures ∙ ap (λ (w : DetectorView). compares w.rel w.value) c.detector_at_values-detector.ensures ∙ ap (λ (condition : Condition). truth m condition at.states.now at.discretes.now at.tick) own in
     c.mark_changed_detector.ensures.places other
     ∙ ap (λ flags. is_listed all.flipped.places other || (place == other && differ c.truth-holds.result (flag_at flags place))) c.as_slice-at_arrival.ensures.value
     ∙ ap (λ (b : Bool). is_listed all.flipped.places other || (place == other && differ b (flag_at all.at_arrival.items place))) holds

@@ -5,8 +5,8 @@ use Rattle.qss_states.specs.SafeBounds.{AreSmall}
 use Rattle.qss_states.proofs.Kept.{levels_still, light_up_to, not_kept, kept_anew}
 use Rattle.qss_states.proofs.kept_weights.Weights.update_weights.Goals as goal
 
-pub update_kept_weights-requires : goal.update_kept_weights-requires
-update_kept_weights-requires c =
+pub refresh_row_sums-requires : goal.refresh_row_sums-requires
+refresh_row_sums-requires c =
     let before = c.requires.before.1 in
     record {
       new = c.requires.ready;
@@ -14,11 +14,11 @@ update_kept_weights-requires c =
       before = (c.requires.before.0, record { levels = before.levels; own_sums = c.as_mut_slice.ensures.value ∙ before.own.own c.if-self.true });
     }
 
-pub is_safe_bound_kept-requires-clause-from : goal.is_safe_bound_kept-requires-clause-from
-is_safe_bound_kept-requires-clause-from c k none h = omega arith
+pub are_places_within-requires-clause-from : goal.are_places_within-requires-clause-from
+are_places_within-requires-clause-from c k none h = omega arith
 
-pub is_safe_bound_kept-requires-clause-known : goal.is_safe_bound_kept-requires-clause-known
-is_safe_bound_kept-requires-clause-known c k none h = omega (arith, c.requires.ready.new.moved.below k none h, c.requires.ready.new.levels)
+pub are_places_within-requires-clause-known : goal.are_places_within-requires-clause-known
+are_places_within-requires-clause-known c k none h = omega (arith, c.requires.ready.new.moved.below k none h, c.requires.ready.new.levels)
 
 pub weigh_kept_within_limit-requires : goal.weigh_kept_within_limit-requires
 weigh_kept_within_limit-requires c = record {
@@ -35,16 +35,16 @@ pub returns-then-self : goal.returns-then-self
 returns-then-self c =
     let self : Weights = c.args.self.now in
     record {
-      overflow = c.update_kept_weights.ensures.overflow;
+      overflow = c.refresh_row_sums.ensures.overflow;
       weights = λ none.
-          kept_anew c.args.at.now.machine.now c.args.at.now.levels.now c.args.d.now self c.update_kept_weights.new.weights c.if-self.true c.requires.before.1.own.as_many
-          (c.update_kept_weights.auto.weights ∙ c.as_mut_slice.ensures.len) c.update_kept_weights.ensures.weights;
+          kept_anew c.args.at.now.machine.now c.args.at.now.levels.now c.args.d.now self c.refresh_row_sums.new.weights c.if-self.true c.requires.before.1.own.as_many
+          (c.refresh_row_sums.auto.weights ∙ c.as_mut_slice.ensures.len) c.refresh_row_sums.ensures.weights;
       stay = record { bound = refl; on = λ was. was };
       off = λ was up_to. was;
     }
 
-pub returns-then-is_safe_bound_kept : goal.returns-then-is_safe_bound_kept
-returns-then-is_safe_bound_kept c =
+pub returns-then-are_places_within : goal.returns-then-are_places_within
+returns-then-are_places_within c =
     let m = c.args.at.now.machine.now in
     let self : Weights = c.args.self.now in
     let levels : List ℤ = c.args.at.now.levels.now in
@@ -55,7 +55,7 @@ returns-then-is_safe_bound_kept c =
     let were = before.own.small off in
     let are : AreSmall m self.bound levels d = record {
       safe = were.safe;
-      small_levels = levels_still self.bound c.args.at.now.moved.now old levels before.levels.off were.small_levels (c.is_safe_bound_kept.ensures.0 c.if-is_safe_bound_kept.true);
+      small_levels = levels_still self.bound c.args.at.now.moved.now old levels before.levels.off were.small_levels (c.are_places_within.ensures.0 c.if-are_places_within.true);
       small_discretes = were.small_discretes;
     } in
     record {
@@ -74,5 +74,5 @@ returns c =
           kept_anew c.args.at.now.machine.now c.args.at.now.levels.now c.args.d.now on c.weigh_kept_within_limit.new.weights refl c.requires.before.1.own.as_many
           (c.weigh_kept_within_limit.auto.weights ∙ c.as_mut_slice-2.ensures.len) (c.weigh_kept_within_limit.ensures.weights none);
       stay = record { bound = refl; on = λ was. refl };
-      off = λ was up_to. absurd (let yes = c.is_safe_bound_kept.ensures.1 up_to in let no = c.if-is_safe_bound_kept.false in cc);
+      off = λ was up_to. absurd (let yes = c.are_places_within.ensures.1 up_to in let no = c.if-are_places_within.false in cc);
     }

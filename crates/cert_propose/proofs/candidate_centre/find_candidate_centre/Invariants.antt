@@ -1,8 +1,0 @@
-use Rattle.std.proofs.Common.{◌≡◌, ◌-◌}
-use Rattle.cert_check.specs.CertificateData.{system}
-use Rattle.cert_propose.specs.RangedSums.{repeated}
-use Rattle.cert_propose.specs.Candidate as Step
-use Rattle.cert_propose.proofs.candidate_centre.find_candidate_centre.Given as goal
-
-abbrev pub invariant-loop-round : goal.invariant-loop-round
-invariant-loop-round l = Step.centre (system l.m) l.q ≡ repeated (4096 - l._round) (Step.centre_round (system l.m) l.q) l.c

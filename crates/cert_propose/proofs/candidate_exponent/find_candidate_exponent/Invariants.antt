@@ -1,7 +1,0 @@
-use Rattle.std.proofs.Common.{◌≡◌, ℕ, ◌<◌, false, length}
-use Rattle.cert_matrix.specs.Matrix.{table}
-use Rattle.cert_propose.specs.Candidate.{is_exponent}
-use Rattle.cert_propose.proofs.candidate_exponent.find_candidate_exponent.Given as goal
-
-abbrev pub invariant-loop-q : goal.invariant-loop-q
-invariant-loop-q l = (k : ℕ) → k < l.q → is_exponent (length l.a) (table l.a) k ≡ false

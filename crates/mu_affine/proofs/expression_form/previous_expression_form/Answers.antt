@@ -1,8 +1,0 @@
-use Rattle.std.proofs.Common.{◌∙◌, sym, ap, arith}
-use Rattle.std.specs.Prelude.{Ok}
-use Rattle.std.proofs.lemmas.Bool.{false≢true}
-use Rattle.mu_affine.proofs.expression_form.previous_expression_form.Goals as goal
-
-pub returns : goal.returns
-returns c =
-    (ap Ok (sym c.in_ok-form.ensures.meaning), c.in_ok-form.ensures.finished c.args.place (omega arith, λ e. absurd (false≢true (sym c.requires.outside ∙ e))))

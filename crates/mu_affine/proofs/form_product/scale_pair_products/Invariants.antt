@@ -1,0 +1,7 @@
+use Rattle.std.proofs.Common.{take, map}
+use Rattle.mu_affine.specs.FormRows.{paired}
+use Rattle.mu_affine.specs.Scaling.{Scales}
+use Rattle.mu_affine.proofs.form_product.scale_pair_products.Given as goal
+
+abbrev pub invariant-loop-product : goal.invariant-loop-product
+invariant-loop-product l = Scales l.divide l.by (map paired (take l.product-index l.products)) (map paired l.all.items)

@@ -1,8 +1,0 @@
-use Rattle.std.proofs.Common.{take, map}
-use Rattle.std.specs.Ordering.{nat_cmp}
-use Rattle.mu_affine.specs.FormRows.{named}
-use Rattle.mu_affine.specs.ProductRows.{SetsAll}
-use Rattle.mu_affine.proofs.form_product.set_form_product_names.Given as goal
-
-abbrev pub invariant-loop-entry : goal.invariant-loop-entry
-invariant-loop-entry l = SetsAll nat_cmp l.by l.initial.row.entries l.row.entries (map named (take l.entry-index l.entries))

@@ -1,7 +1,0 @@
-use Rattle.std.proofs.Common.{take, map}
-use Rattle.mu_affine.specs.FormRows.{named}
-use Rattle.mu_affine.proofs.Settings.{SetsStates}
-use Rattle.mu_affine.proofs.form_product.set_form_product_table.Given as goal
-
-abbrev pub invariant-loop-state : goal.invariant-loop-state
-invariant-loop-state l = SetsStates l.initial.row.entries l.row.entries (map named (take l.state-index l.states)) (map named l.discretes)

@@ -1,8 +1,0 @@
-use Rattle.std.proofs.Common.{◌≡◌, ◌++◌, map}
-use Rattle.std.specs.List.{filter}
-use Rattle.mu_affine.specs.AffineForm.{is_nonzero}
-use Rattle.mu_affine.specs.FormRows.{named}
-use Rattle.mu_affine.proofs.form_sum.finish_form_sum_names.Given as goal
-
-abbrev pub invariant-loop-var : goal.invariant-loop-var
-invariant-loop-var l = map named l.all.items ++ filter (λ c. is_nonzero c.1) l.var-iterator ≡ filter (λ c. is_nonzero c.1) l.row.entries

@@ -1,0 +1,16 @@
+use Rattle.std.proofs.Common.{◌∙◌, sym, ap}
+use Rattle.std.specs.Prelude.{Ok}
+use Rattle.mu_affine.specs.AffineForm.{constant_form}
+use Rattle.mu_affine.specs.FormOf.{form_of}
+use Rattle.mu_affine.specs.Solution.{equation_context}
+use Rattle.mu_affine.specs.Walks.{forms_in}
+use Rattle.mu_affine.specs.Takings.{of_equations}
+use Rattle.mu_affine.proofs.Equations.{no_side}
+use Rattle.mu_affine.proofs.normal_forms.right_side_form.Goals as goal
+
+pub returns-in-None : goal.returns-in-None
+returns-in-None c = (
+  ap (form_of (equation_context c.args.sizes (forms_in c.args.solved.now))) (no_side c.args.equations.now c.args.firsts.now c.args.var c.requires.firsts c.requires.within c.in-None.ensures.lookup.3)
+      ∙ ap (λ a. Ok (constant_form a)) (sym c.whole.ensures) ∙ ap Ok (sym c.constant.ensures.meaning),
+  c.constant.ensures.finished (of_equations c.args.sizes),
+)

@@ -1,9 +1,0 @@
-use Rattle.std.proofs.Common.{◌≡◌, None, take}
-use Rattle.mu_affine.specs.declared.machine_fault.MachineErr.TheVariants.{Start}
-use Rattle.mu_affine.specs.Rounded.{rounded_row}
-use Rattle.mu_affine.specs.MachineChecks.{checks, first_failed, row_fits_at_start}
-use Rattle.mu_affine.proofs.rounded_form.check_rounded_form_starts.Given as goal
-
--- no row so far weighs too much
-abbrev pub invariant-loop-place : goal.invariant-loop-place
-invariant-loop-place l = first_failed (checks (λ form. row_fits_at_start l.units.f l.levels l.values (rounded_row l.units.p l.units.f form)) Start 0 (take l.place l.forms)) ≡ None

@@ -1,6 +1,0 @@
-use Rattle.mu_causal.specs.Dependencies.{IsAlgebraic, DependsOn}
-use Rattle.mu_causal.proofs.Cycles.{no_cycle}
-use Rattle.mu_causal.proofs.causal_order.causal_order_excludes_cycle.Goals as goal
-
-pub returns : goal.returns
-returns c = λ m vars round. no_cycle (IsAlgebraic m) (DependsOn m) vars round (λ v w d. d.from_algebraic)

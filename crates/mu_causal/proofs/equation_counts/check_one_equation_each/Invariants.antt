@@ -1,0 +1,6 @@
+use Rattle.mu_tree.specs.FlatExpression.{flat_model}
+use Rattle.mu_causal.specs.Dependencies.{EachBelowHasOneEquation}
+use Rattle.mu_causal.proofs.equation_counts.check_one_equation_each.Given as goal
+
+abbrev pub invariant-loop-place : goal.invariant-loop-place
+invariant-loop-place l = EachBelowHasOneEquation (flat_model l.m) l.place

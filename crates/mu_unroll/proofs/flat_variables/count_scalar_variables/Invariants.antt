@@ -1,0 +1,10 @@
+use Rattle.std.proofs.Common.{◌≡◌, ◌≤◌, ◌+◌, min, drop}
+use Rattle.mu_unroll.specs.VariablePlaces.{count_of_kind}
+use Rattle.mu_unroll.proofs.flat_variables.count_scalar_variables.Given as goal
+
+-- the count so far and that of what is left are all
+abbrev pub invariant-loop-one : goal.invariant-loop-one
+invariant-loop-one l = record {
+  cut : l.count ≤ 4097;
+  all : min (l.count + count_of_kind l.kind (drop l.one-index l.known)) 4097 ≡ min (count_of_kind l.kind l.known) 4097;
+}

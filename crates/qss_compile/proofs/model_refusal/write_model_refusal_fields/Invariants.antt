@@ -1,8 +1,0 @@
-use Rattle.std.proofs.Common.{◌≡◌, ◌++◌, map, take}
-use Rattle.qss_compile.specs.Fields.{field_text}
-use Rattle.qss_compile.specs.RefusalLines.{fields_text}
-use Rattle.qss_compile.proofs.model_refusal.write_model_refusal_fields.Given as goal
-
--- the fields so far
-abbrev pub invariant-loop-field : goal.invariant-loop-field
-invariant-loop-field l = l.line.items ≡ l.initial.line.items ++ fields_text (map (field_text l.names) (take l.field-index l.fields))

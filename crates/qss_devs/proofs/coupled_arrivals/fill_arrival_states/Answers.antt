@@ -1,0 +1,29 @@
+-- One more state, and all of them.
+use Rattle.std.proofs.Common.{◌≡◌, ◌<◌, List, ℤ, length, map, pos, sym, ◌∙◌, arith}
+use Rattle.std.proofs.lemmas.Int.{to_z-of_z}
+use Rattle.std.proofs.lemmas.List.{length-map, length-set}
+use Rattle.std.specs.Int.RustNames.{FitsSigned}
+use Rattle.mu_num.specs.IndexedSums.{int_at}
+use Rattle.qss_quant.specs.IntegratorLines.{state_at}
+use Rattle.qss_events.proofs.Firsts.{one_more, same_lists}
+use Rattle.qss_components.specs.declared.integrator_model.IntegratorModel.{IntegratorModel}
+use Rattle.qss_devs.proofs.coupled_arrivals.fill_arrival_states.Goals as goal
+use mir.Syntax.{w128}
+
+pub loop-j-preserved : goal.loop-j-preserved
+loop-j-preserved g c =
+    let j = c.loop-j.j in
+    let inv = c.loop-j.invariant in
+    let states : List ℤ = map (λ (i : IntegratorModel _ _). state_at i.line c.args.tick) c.args.integrators.now in
+    let fits : FitsSigned w128 c.state_of_line_at.result = record { sfits = c.state_of_line_at.type_inv } in
+    let within : j < length c.loop-j.x = omega (arith, inv.as_many, c.loop-j-test.true) in
+    record {
+      as_many = length-set c.loop-j.x j _ ∙ inv.as_many;
+      each = one_more (pos 0) (int_at states) c.loop-j.x j _ within inv.each (to_z-of_z w128 c.state_of_line_at.result fits ∙ c.state_of_line_at.ensures);
+    }
+
+pub returns : goal.returns
+returns g c =
+    let states : List ℤ = map (λ (i : IntegratorModel _ _). state_at i.line c.args.tick) c.args.integrators.now in
+    let all : length states ≡ length c.args.integrators.now = length-map c.args.integrators.now (λ (i : IntegratorModel _ _). state_at i.line c.args.tick) in
+    same_lists (pos 0) c.loop-j.x states (c.loop-j.invariant.as_many ∙ sym all) (λ k h. c.loop-j.invariant.each k (omega (arith, h, all, c.loop-j-test.false)))

@@ -1,8 +1,0 @@
-use Rattle.std.proofs.Common.{◌≡◌, ℕ, ◌<◌, false}
-use Rattle.mu_num.specs.Sizes.{exceeds}
-use Rattle.mu_num.specs.IndexedSums.{int_at}
-use Rattle.qss_devs.proofs.coupled_arrivals.first_coupled_arrival_exceeding.Given as goal
-
--- none so far
-abbrev pub invariant-loop-place : goal.invariant-loop-place
-invariant-loop-place l = (k : ℕ) → k < l.place → exceeds l.bits (int_at l.numbers k) ≡ false

@@ -1,0 +1,18 @@
+use Rattle.std.proofs.Common.{◌≡◌, ◌+◌, ◌≤◌, length, drop}
+use Rattle.qss_machine.specs.Firing.{first_place}
+use Rattle.qss_machine.specs.Handlers.{firing_flags, run_clauses}
+use Rattle.qss_hand.specs.Works.{AreValuesOf, handling_of, row_room}
+use Rattle.qss_devs.proofs.coupled_branches.fire_all_clauses.Given as goal
+
+-- the clauses so far ran, and none overflowed
+abbrev pub invariant-loop-clause : goal.invariant-loop-clause
+invariant-loop-clause l = record {
+  so_far : run_clauses l.m l.fn.w.tick l.fn.w.pre 0 (handling_of l.fn.w) l.m.clauses (firing_flags l.now l.at_arrival l.after_handlers)
+      ≡ run_clauses l.m l.fn.w.tick l.fn.w.pre l.clause (handling_of l.w) (drop l.clause l.m.clauses) (drop l.first (firing_flags l.now l.at_arrival l.after_handlers));
+  same_tick : l.w.tick ≡ l.fn.w.tick;
+  same_before : l.w.pre ≡ l.fn.w.pre;
+  same_room : l.w.room ≡ l.fn.w.room;
+  room : length l.w.log + row_room (drop l.clause l.m.clauses) ≤ l.w.room;
+  branches : l.first ≡ first_place l.m.clauses l.clause;
+  fits : AreValuesOf l.m l.w;
+}

@@ -1,0 +1,21 @@
+-- The event-free ticks, and then the event step.
+use Rattle.std.proofs.Common.{◌+◌, sym, ◌∙◌, ap, subst}
+use Rattle.qss_machine.specs.Ticks.{snapshot_unless, IsStep}
+use Rattle.qss_machine.specs.Runs.{tick_rows}
+use Rattle.qss_events.specs.AllowedLevels.{IsAllowedLevel}
+use Rattle.qss_devs.specs.CoupledEvents.{snapshot_of}
+use Rattle.qss_devs.proofs.coupled_events.visit_next_step.Goals as goal
+
+pub returns-clause-visited : goal.returns-clause-visited
+returns-clause-visited g c =
+    let quiet = c.skip_event_free_ticks-before.ensures.silent in
+    let are = quiet.1 in
+    let t = c.skip_event_free_ticks-before.result + 1 in (
+      quiet.0,
+      record {
+        leads = are.leads;
+        is_next = ap (λ n. n + 1) are.as_many;
+        is_step = subst (λ w. IsStep (IsAllowedLevel c.args.q.now.name) c.args.m.now t w (snapshot_unless c.run_next_tick-over.result (snapshot_of t c.run_next_tick-over.new.s))) (sym are.reached) c.run_next_tick-over.ensures.stepped;
+      },
+      (λ none. c.run_next_tick-over.ensures.rows none ∙ ap (λ w. tick_rows c.args.m.now t w (snapshot_of t c.run_next_tick-over.new.s)) (sym are.reached)),
+    )

@@ -1,6 +1,0 @@
-use Rattle.qss_order2.specs.Fixed.{AreColumnsBelow}
-use Rattle.qss_order2.proofs.fixed_machine.fixed_machine_columns.Given as goal
-
--- the columns so far
-abbrev pub invariant-loop-state : goal.invariant-loop-state
-invariant-loop-state l = AreColumnsBelow l.m l.state l.columns.items

@@ -1,0 +1,177 @@
+-- Event steps without rows are silent; the first with rows is the next event.
+use Rattle.std.proofs.Common.{◌≡◌, ◌≢◌, ℕ, ◌++◌, ◌∷◌, [], List, true, false, length, refl, sym, ◌∙◌}
+use Rattle.std.proofs.Common.{ap, subst, arith, Vec, Global}
+use Rattle.std.specs.Prelude.{Option, None, vec_len, ◌==◌}
+use Rattle.mu_num.proofs.Tests.{eqb-true, eqb-false}
+use Rattle.qss_order2.specs.declared.order2_rows.Row2.{Row2}
+use Rattle.qss_order2.specs.Calls.{view_of}
+use Rattle.qss_order2.specs.Events.{IsVisit2}
+use Rattle.qss_order2.specs.SlopeRules.{IsRuled2}
+use Rattle.qss_order2.specs.SecondRuns.{end_rows}
+use Rattle.qss_order2.specs.Stores.{snapshot_of, motion_at}
+use Rattle.qss_order2.specs.SecondSteps.{SecondSnapshot, second_snapshot_unless}
+use Rattle.qss_machine.specs.Machines.{state_count}
+use Rattle.qss_order2.proofs.Motions.{can_move}
+use Rattle.qss_order2.proofs.Advances.{visit_on, rows_on, silent_visit, overflows_at_start}
+use Rattle.qss_order2.proofs.Advances.{overflows_later}
+use Rattle.qss_order2.proofs.order2_events.advance_to_event.Goals as goal
+
+some_rows : (v : Vec Row2 Global) → (vec_len v == 0) ≡ false → v.items ≢ []
+some_rows v e none =
+    let zero : v.len ≡ 0 = v.ok.0 ∙ ap length none in
+    eqb-false v.len 0 e zero
+
+empty_list : {X : Type 0} (xs : List X) → length xs ≡ 0 → xs ≡ []
+empty_list [] e = refl
+empty_list (x ∷ xs) e = absurd (omega (arith, e))
+
+no_rows : (v : Vec Row2 Global) → (vec_len v == 0) ≡ true → v.items ≡ []
+no_rows v e = empty_list v.items (sym v.ok.0 ∙ eqb-true v.len 0 e)
+
+pub loop-tick-init : goal.loop-tick-init
+loop-tick-init g c = record {
+  stands = c.requires.stands;
+  within = c.in_default.is;
+  began = c.in_default.is;
+  in_time = c.requires.tick_limit;
+  are_silent = ([], record { leads = tt; as_many = omega arith; reached = refl });
+}
+
+pub returns-in-Some-clause-next : goal.returns-in-Some-clause-next
+returns-in-Some-clause-next g c = (
+  record {
+    overflows = overflows_at_start (IsRuled2 c.args.rule.now.nearest)
+        (view_of c.args.f.now.machine c.args.from c.args.s.now None) c.args.from c.in-Some.var refl
+        (c.requires.stands.at_start c.in-Some.var c.in-Some.is) (c.requires.stands.over
+        ∙ c.in-Some.is);
+    own_rows = c.set_overflow_row.ensures;
+    here = refl;
+  },
+  refl,
+)
+
+pub returns-in-Some-over-clause-next : goal.returns-in-Some-over-clause-next
+returns-in-Some-over-clause-next g c =
+    let Rule = IsRuled2 c.args.rule.now.nearest in
+    let m = c.args.f.now.machine in
+    let w0 : SecondSnapshot = snapshot_of (motion_at m c.args.s.now.motion c.args.from) in
+    let w : SecondSnapshot = snapshot_of (motion_at m c.loop-tick.s.motion c.loop-tick.tick) in
+    let before = c.loop-tick.invariant.are_silent in
+    let visited = c.look_for_event-tick.ensures.visited in
+    let t = c.look_for_event-tick.result in
+    let next : SecondSnapshot = snapshot_of (motion_at m c.look_for_event-tick.new.s.motion t) in
+    let all = visit_on Rule m c.args.from w0 before.0 c.loop-tick.tick w before.1 visited.0 t
+    (second_snapshot_unless c.look_for_event-tick.new.s.over next) visited.1 in (
+      record {
+        overflows = overflows_later Rule (view_of m c.args.from c.args.s.now None)
+            (before.0 ++ visited.0) t c.in-Some-over.var (c.requires.stands.over
+            ∙ c.loop-tick.invariant.began) c.look_for_event-tick.ensures.tick_limit
+            (subst (λ (o : Option ℕ). IsVisit2 Rule m c.args.from w0 (before.0 ++ visited.0) t
+            (second_snapshot_unless o next)) c.in-Some-over.is all);
+        own_rows = c.set_overflow_row-in-Some-over.ensures;
+        here = refl;
+      },
+      refl,
+    )
+
+pub returns-then-not-is_empty-clause-next : goal.returns-then-not-is_empty-clause-next
+returns-then-not-is_empty-clause-next g c =
+    let Rule = IsRuled2 c.args.rule.now.nearest in
+    let m = c.args.f.now.machine in
+    let w0 : SecondSnapshot = snapshot_of (motion_at m c.args.s.now.motion c.args.from) in
+    let w : SecondSnapshot = snapshot_of (motion_at m c.loop-tick.s.motion c.loop-tick.tick) in
+    let before = c.loop-tick.invariant.are_silent in
+    let visited = c.look_for_event-tick.ensures.visited in
+    let t = c.look_for_event-tick.result in
+    let next : SecondSnapshot = snapshot_of (motion_at m c.look_for_event-tick.new.s.motion t) in
+    let all = visit_on Rule m c.args.from w0 before.0 c.loop-tick.tick w before.1 visited.0 t
+    (second_snapshot_unless c.look_for_event-tick.new.s.over next) visited.1 in
+    let stepped = subst (λ (o : Option ℕ). IsVisit2 Rule m c.args.from w0 (before.0 ++ visited.0) t
+    (second_snapshot_unless o next)) c.in_default-over.is all in (
+      before.0 ++ visited.0,
+      record {
+        goes = record {
+          within = c.requires.stands.over ∙ c.loop-tick.invariant.began;
+          leads =
+              stepped.leads;
+        };
+        is_next = stepped.is_next;
+        in_time = c.look_for_event-tick.ensures.tick_limit;
+        is_step = stepped.is_step;
+        own_rows = visited.2 c.in_default-over.is ∙ rows_on Rule m c.args.from w0 before.0
+            c.loop-tick.tick w before.1 visited.0 t next;
+        some_rows = some_rows c.look_for_event-tick.new.s.rows (sym c.is_empty.ensures
+            ∙ c.if-not-is_empty.true);
+        here = refl;
+      },
+      refl,
+    )
+
+pub returns-then-not-is_empty-clause-stands : goal.returns-then-not-is_empty-clause-stands
+returns-then-not-is_empty-clause-stands g c e = c.look_for_event-tick.ensures.stands c.in_default-over.is
+
+pub loop-tick-preserved : goal.loop-tick-preserved
+loop-tick-preserved g c =
+    let Rule = IsRuled2 c.args.rule.now.nearest in
+    let m = c.args.f.now.machine in
+    let w0 : SecondSnapshot = snapshot_of (motion_at m c.args.s.now.motion c.args.from) in
+    let w : SecondSnapshot = snapshot_of (motion_at m c.loop-tick.s.motion c.loop-tick.tick) in
+    let before = c.loop-tick.invariant.are_silent in
+    let visited = c.look_for_event-tick.ensures.visited in
+    let t = c.look_for_event-tick.result in
+    let next : SecondSnapshot = snapshot_of (motion_at m c.look_for_event-tick.new.s.motion t) in
+    let all = visit_on Rule m c.args.from w0 before.0 c.loop-tick.tick w before.1 visited.0 t
+    (second_snapshot_unless c.look_for_event-tick.new.s.over next) visited.1 in
+    let stepped = subst (λ (o : Option ℕ). IsVisit2 Rule m c.args.from w0 (before.0 ++ visited.0) t
+    (second_snapshot_unless o next)) c.in_default-over.is all in
+    let none = sym (visited.2 c.in_default-over.is ∙ rows_on Rule m c.args.from w0 before.0
+    c.loop-tick.tick w before.1 visited.0 t next)
+    ∙ no_rows c.look_for_event-tick.new.s.rows (sym c.is_empty.ensures ∙ c.if-not-is_empty.false) in
+    record {
+      stands = c.look_for_event-tick.ensures.stands c.in_default-over.is;
+      within = c.in_default-over.is;
+      began = c.loop-tick.invariant.began;
+      in_time = c.look_for_event-tick.ensures.tick_limit;
+      are_silent = (
+        (before.0 ++ visited.0) ++ next ∷ [],
+        silent_visit Rule m c.args.from w0
+            (before.0 ++ visited.0) t next stepped none,
+      );
+    }
+
+pub returns-clause-next : goal.returns-clause-next
+returns-clause-next g c =
+    let m = c.args.f.now.machine in
+    let before = c.loop-tick.invariant.are_silent in
+    let end : c.loop-tick.tick ≡ m.last = omega (
+      arith,
+      c.loop-tick.invariant.in_time,
+      c.loop-tick-test.false,
+    ) in (
+      before.0,
+      record {
+        goes = record {
+          within = c.requires.stands.over ∙ c.loop-tick.invariant.began;
+          leads =
+              before.1.leads;
+        };
+        at_last = before.1.as_many ∙ end;
+        snapshot = ap (λ (t : ℕ). snapshot_of (motion_at m c.loop-tick.s.motion t)) (sym end)
+            ∙ sym before.1.reached;
+        own_rows = c.set_end_rows.ensures ∙ ap (λ (t : ℕ).
+            end_rows m t (snapshot_of (motion_at m c.loop-tick.s.motion t))) end;
+        here = refl;
+      },
+      refl,
+    )
+
+pub set_end_rows-requires-clause-moves : goal.set_end_rows-requires-clause-moves
+set_end_rows-requires-clause-moves g c =
+    let m = c.args.f.now.machine in
+    let s = c.loop-tick.s in
+    let stands = c.loop-tick.invariant.stands in
+    let goes = stands.goes c.loop-tick.invariant.within in
+    let l = stands.fits.lists in
+    can_move (state_count m) c.loop-tick.tick s.window s.motion.places.items s.motion.changes.items
+    s.motion.rises.items s.motion.bends.items l.changes l.rises l.bends goes.on_the_way
+    c.loop-tick.tick (omega arith) goes.in_window

@@ -1,0 +1,23 @@
+-- One more row.
+use Rattle.std.proofs.Common.{ℤ, ◌∙◌, ap, arith, to_z, of_z}
+use Rattle.std.proofs.lemmas.Int.{ints, to_z-of_z}
+use Rattle.std.specs.Int.RustNames.{FitsSigned}
+use Rattle.qss_machine.specs.declared.machine_parts.Row.{Row}
+use Rattle.mu_num.specs.IndexedSums.{int_at}
+use Rattle.qss_events.proofs.EndRows.{state_row, row_more}
+use Rattle.qss_run.proofs.event_steps.add_state_rows.Goals as goal
+use mir.Syntax.{w64, w128}
+
+pub loop-j-preserved : goal.loop-j-preserved
+loop-j-preserved c =
+    let j = c.loop-j.j in
+    let inv = c.loop-j.invariant in
+    let x : FitsSigned w128 (int_at c.args.x.now j) = omega (arith, ints) in
+    let level : FitsSigned w64 (int_at c.args.levels.now j) = omega (arith, ints) in
+    let row_at : ℤ → ℤ → Row = λ l z. record { tick = c.args.tick; kind = c.args.kind; var = j; level = l; state = z } in
+    record {
+      rows = row_more (state_row c.args.kind c.args.tick c.args.levels.now c.args.x.now) c.args.rows.now.items c.loop-j.rows.items c.push_reserved.new.self.items j _ inv.rows c.push_reserved.ensures.items
+          (ap (λ l. row_at l (to_z w128 (of_z w128 (int_at c.args.x.now j)))) (to_z-of_z w64 (int_at c.args.levels.now j) level) ∙ ap (row_at (int_at c.args.levels.now j)) (to_z-of_z w128 (int_at c.args.x.now j) x));
+      as_many = omega (arith, c.push_reserved.ensures.len, inv.as_many);
+      room = c.push_reserved.ensures.capacity ∙ inv.room;
+    }

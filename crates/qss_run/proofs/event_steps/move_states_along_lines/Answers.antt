@@ -1,0 +1,11 @@
+-- The states by number are the list.
+use Rattle.std.proofs.Common.{length, pos, arith}
+use Rattle.std.proofs.lemmas.List.FromFn.{fill_by_all}
+use Rattle.qss_quant.specs.IntegratorLines.{state_at}
+use Rattle.qss_states.specs.StateLines.{line_at}
+use Rattle.qss_run.proofs.event_steps.move_states_along_lines.Goals as goal
+
+pub returns : goal.returns
+returns c =
+    fill_by_all (λ j. state_at (line_at c.args.lines.now j) c.args.tick) c.loop-j.x (length c.args.lines.now) (pos 0) c.loop-j.invariant.as_many
+    (λ k h. c.loop-j.invariant.each k (omega (arith, h, c.loop-j-test.false)))

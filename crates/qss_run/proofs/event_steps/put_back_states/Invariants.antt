@@ -1,0 +1,8 @@
+use Rattle.std.proofs.Common.{◌≡◌, take}
+use Rattle.std.specs.Prelude.{Some, None}
+use Rattle.mu_num.specs.Writes.{IsWritten}
+use Rattle.qss_run.proofs.event_steps.put_back_states.Given as goal
+
+-- the states put back so far
+abbrev pub invariant-loop-place : goal.invariant-loop-place
+invariant-loop-place l = IsWritten None (λ place due. due ≡ Some l.tick) (take l.place-index l.moved) l.fn.agenda l.agenda

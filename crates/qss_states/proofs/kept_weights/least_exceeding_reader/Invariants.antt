@@ -1,0 +1,9 @@
+use Rattle.std.proofs.Common.{ℕ, List, [], ◌++◌, take}
+use Rattle.std.specs.Prelude.{flat_map, slice_index_or}
+use Rattle.qss_states.specs.RowLimits.{IsLeastPast}
+use Rattle.qss_states.proofs.kept_weights.least_exceeding_reader.Given as goal
+
+-- the least one so far
+abbrev pub invariant-loop-var : goal.invariant-loop-var
+invariant-loop-var l =
+    (before : List ℕ) → IsLeastPast l.weights before l.fn.found → IsLeastPast l.weights (before ++ flat_map (λ var. slice_index_or l.uses.0 var []) (take l.var-index l.variables)) l.least

@@ -1,7 +1,0 @@
-use Rattle.std.proofs.Common.{ℕ, List, ◌++◌, take}
-use Rattle.qss_states.specs.RowLimits.{IsLeastPast}
-use Rattle.qss_states.proofs.kept_weights.least_kept_weight_exceeding.Given as goal
-
--- the least one so far
-abbrev pub invariant-loop-row : goal.invariant-loop-row
-invariant-loop-row l = (before : List ℕ) → IsLeastPast l.weights before l.fn.found → IsLeastPast l.weights (before ++ take l.row-index l.rows) l.least

@@ -1,0 +1,10 @@
+use Rattle.std.proofs.Common.{◌≡◌, ◌^◌, ◌≤◌, take, sum_by}
+use Rattle.qss_states.specs.SafeBounds.{excess}
+use Rattle.qss_states.proofs.safe_bounds.greatest_excess_sum.Given as goal
+
+-- the sum so far, at most 2 ^ 44
+abbrev pub invariant-loop-product : goal.invariant-loop-product
+invariant-loop-product l = record {
+  so_far : l.sum ≡ sum_by (excess l.level_bits l.bound) (take l.product-index l.products);
+  few : l.sum ≤ 2 ^ 44;
+}

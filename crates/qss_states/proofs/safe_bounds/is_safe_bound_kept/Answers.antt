@@ -1,9 +1,0 @@
--- The value at one more place is at most the bound, or greater.
-use Rattle.std.proofs.Common.{refl, arith}
-use Rattle.qss_states.proofs.safe_bounds.is_safe_bound_kept.Goals as goal
-
-pub returns : goal.returns
-returns c = (
-  λ e k none h. c.loop-place.invariant k none (omega (arith, h, c.loop-place-test.false)),
-  λ all. refl,
-)

@@ -1,8 +1,0 @@
-use Rattle.std.proofs.Common.{ℕ, ◌-◌, ◌<◌, get_or}
-use Rattle.mu_num.specs.IndexedSums.{int_at}
-use Rattle.qss_states.specs.SafeBounds.{IsUpTo}
-use Rattle.qss_states.proofs.safe_bounds.is_safe_bound_kept.Given as goal
-
--- the values at the places so far
-abbrev pub invariant-loop-place : goal.invariant-loop-place
-invariant-loop-place l = (k none : ℕ) → k < l.place-index → IsUpTo l.bound (int_at l.values (get_or l.places k none - l.first))
