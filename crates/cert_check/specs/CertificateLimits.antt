@@ -1,5 +1,6 @@
 -- The limits of a certificate's numbers.
-use Rattle.std.specs.Prelude.{◌≡◌, ℕ, ◌^◌, ◌≤◌, List, length, ℤ, unsigned_abs, All}
+use Rattle.std.specs.Prelude.{◌≡◌, ℕ, ◌≤◌, List, length, ℤ, unsigned_abs, All}
+use Rattle.mu_num.specs.Limits.{sum_limit}
 
 -- from 1 to 16 states
 pub record IsSize (n : ℕ) : Type 0 where
@@ -8,7 +9,7 @@ pub record IsSize (n : ℕ) : Type 0 where
 
 -- at most 2^126 in absolute value
 abbrev pub IsNumber : ℤ → Type 0
-IsNumber z = unsigned_abs z ≤ 2 ^ 126
+IsNumber z = unsigned_abs z ≤ sum_limit
 
 -- one number for each state
 pub record IsVector (n : ℕ) (numbers : List ℤ) : Type 0 where

@@ -1,6 +1,7 @@
 -- The conditions on the numbers of a certificate, in thirteen groups, which imply its bounds.
 use Rattle.std.specs.Prelude.{ℕ, ◌<◌, ℤ, pos, ◌+ℤ◌, ◌-ℤ◌, ◌*ℤ◌, neg_ℤ, ◌≤ℤ◌}
 use Rattle.mu_num.specs.IndexedSums.{sum_below, abs_of}
+use Rattle.mu_num.specs.Limits.{relative_unit}
 use Rattle.cert_matrix.specs.Form.{Vector, Table, times, product, form, diagonal, minus_gram, IsSymmetric, IsDominant}
 
 -- an affine system of n states: in a tick a state moves by coef times the levels, plus constant
@@ -139,4 +140,4 @@ pub record Holds (m : System) (x : CertificateData) : Type 0 where
   pub distances : (k : ℕ) → k < m.n → x.cc ≤ℤ (x.p k *ℤ (x.e k *ℤ x.e k))
   -- 13
   pub quanta : (j : ℕ) → j < m.n → m.quantum j ≤ℤ x.q j
-  pub shares : (j : ℕ) → j < m.n → (m.share *ℤ level_range x j) ≤ℤ (pos 4096 *ℤ x.q j)
+  pub shares : (j : ℕ) → j < m.n → (m.share *ℤ level_range x j) ≤ℤ (pos relative_unit *ℤ x.q j)

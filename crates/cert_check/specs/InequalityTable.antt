@@ -2,6 +2,7 @@
 use Rattle.std.specs.Prelude.{◌≡◌, ℕ, zero, suc, Bool, true, false, ◌+◌, ◌*◌, ◌<◌, ◌≤◌, List, [], ◌∷◌, Option, Some, None, IsSome, ℤ, pos, ◌*ℤ◌, ◌⊎◌, if◌then◌else◌, length}
 use Rattle.std.specs.Ordering.{int_eq}
 use Rattle.mu_num.specs.IndexedSums.{sum_below}
+use Rattle.mu_num.specs.Limits.{relative_unit}
 use Rattle.cert_check.specs.declared.inequality_checker.Fault.{Fault}
 use Rattle.cert_check.specs.declared.inequality_checker.Relation.{Relation}
 use Rattle.cert_check.specs.declared.inequality_checker.Relation.TheVariants.{AtLeast, AtMost, Equal}
@@ -174,7 +175,7 @@ left_of m x PairGain k = x.mu k *ℤ x.sigma_c k
 left_of m x PairSum k = x.lambda *ℤ x.cc
 left_of m x Distance k = x.p k *ℤ (x.e k *ℤ x.e k)
 left_of m x Quantum k = x.q k
-left_of m x Share k = if int_eq m.share (pos 0) then pos 0 else pos 4096 *ℤ x.q k
+left_of m x Share k = if int_eq m.share (pos 0) then pos 0 else pos relative_unit *ℤ x.q k
 
 -- the right side of an inequality at a place
 abbrev pub right_of : System → CertificateData → Inequality → ℕ → ℤ

@@ -20,9 +20,11 @@ ghost use Rattle.std.specs.Str.Parse.{digits_value};
 ghost use Rattle.cert_check.specs.FieldNumbers.{magnitude_in, number_in};
 ghost use Rattle.std.specs.Option.{option_map};
 ghost use Rattle.std.specs.List.{position_from};
+ghost use Rattle.mu_num.specs.Limits.{sum_limit, certificate_length_limit};
 ghost use Rattle.cert_check.specs.Layout.{expected, keyword_of, is_no_number, record_fault};
 ghost use Rattle.cert_check.specs.Layout.{first_fault, first_number, form_in, layout, text_fault};
 
+use mu_num::SUM_LIMIT;
 use crate::certificate::Certificate;
 use crate::certificate_assembly::{assemble_certificate, complete_certificate_rows};
 use crate::text_err::TextErr;
@@ -30,9 +32,6 @@ use csv::{ByteRecord, Error, ReaderBuilder};
 use mu_io::Items;
 use qss_machine::Machine;
 use std::alloc::{AllocError, Global};
-
-/// The greatest absolute value of a number.
-const LIMIT: u128 = 1 << 126;
 
 /// An expected record: a keyword and the count of numbers after it.
 #[derive(Clone, Copy)]
@@ -46,7 +45,7 @@ pub struct Due {
 #[inline(never)]
 pub fn read_certificate(alloc: Global, bytes: &[u8], m: &Machine) -> Result<Certificate, TextErr>
     requires scope { IsInScope m.now }
-    requires short { length bytes.now ≤ 2 ^ 18 }
+    requires short { length bytes.now ≤ certificate_length_limit }
     ensures read { IfOk result (λ c. IsTextOf m.now bytes.now c) }
     ensures refused { IfErr result (λ why. IsRefusedFor m.now bytes.now why) }
 
@@ -60,7 +59,7 @@ pub fn read_certificate(alloc: Global, bytes: &[u8], m: &Machine) -> Result<Cert
 /// Parses a text of at most 2^18 bytes.
 fn parse_certificate_text(alloc: Global, bytes: &[u8], m: &Machine) -> Result<Certificate, TextErr>
     requires scope { IsInScope m.now }
-    requires short { length bytes.now ≤ 2 ^ 18 }
+    requires short { length bytes.now ≤ certificate_length_limit }
     ensures read { IfOk result (λ c. IsTextOf m.now bytes.now c) }
     ensures refused { IfErr result (λ why. IsRefusedFor m.now bytes.now why) }
 {
@@ -203,7 +202,7 @@ fn parse_certificate_numbers(
 fn certificate_number_at(found: &ByteRecord, place: usize) -> Option<i128>
     requires { place < length (fields_of found.now) }
     ensures value { result ≡ number_in (slice_index_or (fields_of found.now) place []) }
-    ensures bound { IfSome result (λ z. unsigned_abs z ≤ 2 ^ 126) }
+    ensures bound { IfSome result (λ z. unsigned_abs z ≤ sum_limit) }
 {
     match found.get(place) {
         Some(field) => number(field),
@@ -214,7 +213,7 @@ fn certificate_number_at(found: &ByteRecord, place: usize) -> Option<i128>
 /// Parses a field: an optional minus sign and 1 to 39 digits, at most 2^126 in absolute value.
 pub fn number(field: &[u8]) -> Option<i128>
     ensures value { result ≡ number_in field.now }
-    ensures bound { IfSome result (λ z. unsigned_abs z ≤ 2 ^ 126) }
+    ensures bound { IfSome result (λ z. unsigned_abs z ≤ sum_limit) }
 {
     if !field.is_empty() && field[0] == b'-' {
         let size = parse_field_magnitude(&field[1..])?;
@@ -227,7 +226,7 @@ pub fn number(field: &[u8]) -> Option<i128>
 /// The value of 1 to 39 digits, or `None` if the bytes are invalid or the value exceeds 2^126.
 fn parse_field_magnitude(digits: &[u8]) -> Option<u128>
     ensures value { result ≡ magnitude_in digits.now }
-    ensures bound { IfSome result (λ n. n ≤ 2 ^ 126) }
+    ensures bound { IfSome result (λ n. n ≤ sum_limit) }
 {
     if digits.is_empty() || digits.len() > 39 || !are_field_digits(digits) {
         return None;
@@ -251,17 +250,17 @@ fn are_field_digits(bytes: &[u8]) -> bool
 fn parse_field_digits(digits: &[u8]) -> Option<u128>
     requires { all_ascii_digits digits.now ≡ true }
     ensures { result
-        ≡ (if nat_le (digits_value 10 digits.now) (2 ^ 126)
+        ≡ (if nat_le (digits_value 10 digits.now) sum_limit
         then Some (digits_value 10 digits.now)
         else None) }
 {
     let mut value = 0;
     for byte in digits {
-        if value > LIMIT / 10 {
+        if value > SUM_LIMIT / 10 {
             return None;
         }
         value = value * 10 + u128::from(*byte - b'0');
-        if value > LIMIT {
+        if value > SUM_LIMIT {
             return None;
         }
     }

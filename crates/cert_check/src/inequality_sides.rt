@@ -2,8 +2,9 @@
 //! inequalities share. A result is `None` if one of its sums is out of range.
 
 ghost use Rattle.std.specs.Prelude.{◌≡◌, ◌*ℤ◌, ◌↔◌, ◌<◌, pos, length, IsSome, IfSome, ◌≤◌, ◌+◌};
-ghost use Rattle.std.specs.Prelude.{◌*◌, ◌^◌, ℕ, unsigned_abs, ◌+ℤ◌};
+ghost use Rattle.std.specs.Prelude.{◌*◌, ℕ, unsigned_abs, ◌+ℤ◌};
 ghost use Rattle.mu_num.specs.IndexedSums.{sum_below};
+ghost use Rattle.mu_num.specs.Limits.{relative_unit, sum_limit};
 ghost use Rattle.cert_matrix.specs.Matrix.{vector, IsInRange, table, weight};
 ghost use Rattle.cert_check.specs.CertificateData.{certificate_data, system};
 ghost use Rattle.cert_check.specs.Ranges.{IsSquareInRange, IsSumBoundInRange, IsShareInRange};
@@ -252,7 +253,7 @@ fn surplus_at(x: &Certificate, i: u8, j: u8) -> Option<i128>
     requires column { j < length x.now.pm }
     ensures in_range { IsSome result
         ↔ (unsigned_abs ((certificate_data x.now).pm i j) + unsigned_abs (diagonal (certificate_data x.now).p i j)
-        ≤ 2 ^ 126) }
+        ≤ sum_limit) }
     ensures value { IfSome result (λ value. value ≡ diagonal_surplus (certificate_data x.now) i j) }
 {
     let entry = RangedSum::new().plus(x.pm.get(i, j), 1)?;
@@ -393,7 +394,7 @@ fn side_gaps(n: u8, start: &Items<i128>, factor: &i128, base: &Items<i128>) -> O
         ↔ ((k : ℕ) → k < n
         → unsigned_abs (vector start.now k)
         + unsigned_abs factor.now * unsigned_abs (vector base.now k)
-        ≤ 2 ^ 126) }
+        ≤ sum_limit) }
     ensures value { IfSome result
         (λ gaps. (k : ℕ)
         → k < n
@@ -411,7 +412,7 @@ fn side_gap_at(start: &Items<i128>, factor: &i128, base: &Items<i128>, k: u8) ->
     ensures in_range { IsSome result
         ↔ (unsigned_abs (vector start.now k)
         + unsigned_abs factor.now * unsigned_abs (vector base.now k)
-        ≤ 2 ^ 126) }
+        ≤ sum_limit) }
     ensures value { IfSome result
         (λ value. value ≡ scaled_offset (vector start.now) factor.now (vector base.now) k) }
 {
@@ -663,7 +664,7 @@ fn share_sides(m: &AffineSystem, x: &Certificate, j: u8) -> Option<Sides>
 /// Sides: 4096 times the quantum of state `j`, and the relative quantum times its largest level.
 fn some_share_sides(m: &AffineSystem, x: &Certificate, j: u8) -> Option<Sides>
     ensures in_range { IsSome result ↔ IsShareInRange (system m.now) (certificate_data x.now) j }
-    ensures left { IfSome result (λ sides. sides.left ≡ pos 4096 *ℤ (certificate_data x.now).q j) }
+    ensures left { IfSome result (λ sides. sides.left ≡ pos relative_unit *ℤ (certificate_data x.now).q j) }
     ensures right { IfSome result
         (λ sides. sides.right ≡ m.now.share *ℤ level_range (certificate_data x.now) j) }
 {

@@ -1,7 +1,8 @@
 //! The Gram test: a sufficient condition for a positive semidefinite matrix, in whole numbers. It
 //! tests row by row whether h m - g^T g is diagonally dominant.
 
-ghost use Rattle.std.specs.Prelude.{◌≡◌, ℕ, ℤ, ◌+◌, ◌*◌, ◌^◌, ◌<◌, ◌≤◌, ◌≤ℤ◌, ◌↔◌, pos, length, unsigned_abs, IsSome, IfSome};
+ghost use Rattle.std.specs.Prelude.{◌≡◌, ℕ, ℤ, ◌+◌, ◌*◌, ◌<◌, ◌≤◌, ◌≤ℤ◌, ◌↔◌, pos, length, unsigned_abs, IsSome, IfSome};
+ghost use Rattle.mu_num.specs.Limits.{sum_limit};
 ghost use Rattle.cert_matrix.specs.Form.{off_diagonal_sum, off_diagonal_abs, minus_gram, IsSymmetric, IsNeverNegative};
 ghost use Rattle.cert_matrix.specs.Matrix.{table};
 ghost use Rattle.cert_matrix.specs.Gram.{entry_weight, IsRowInRange, IsVerdict};
@@ -93,10 +94,10 @@ fn gram_entry(h: i128, m: &Matrix, g: &Matrix, i: u8, j: u8) -> Option<i128>
     requires row { i < length m.now }
     requires column { j < length m.now }
     ensures in_range { IsSome result
-        ↔ (entry_weight (length m.now) h (table m.now) (table g.now) i j ≤ 2 ^ 126) }
+        ↔ (entry_weight (length m.now) h (table m.now) (table g.now) i j ≤ sum_limit) }
     ensures value { IfSome result
         (λ entry. entry ≡ minus_gram (length m.now) h (table m.now) (table g.now) i j) }
-    ensures bound { IfSome result (λ entry. unsigned_abs entry ≤ 2 ^ 126) }
+    ensures bound { IfSome result (λ entry. unsigned_abs entry ≤ sum_limit) }
 {
     let mut sum = RangedSum::new().plus(h, m.get(i, j))?;
     for k in 0..m.size() {
@@ -112,7 +113,7 @@ fn gram_size(h: &i128, m: &Matrix, g: &Matrix, i: u8, j: u8) -> Option<i128>
     requires row { i < length m.now }
     requires column { j < length m.now }
     ensures in_range { IsSome result
-        ↔ (entry_weight (length m.now) h.now (table m.now) (table g.now) i j ≤ 2 ^ 126) }
+        ↔ (entry_weight (length m.now) h.now (table m.now) (table g.now) i j ≤ sum_limit) }
     ensures value { IfSome result
         (λ value. value
         ≡ off_diagonal_abs (minus_gram (length m.now) h.now (table m.now) (table g.now)) i j) }

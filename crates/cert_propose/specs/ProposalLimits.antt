@@ -1,6 +1,7 @@
 -- The ranges of the numbers that the steps of a proposal require and guarantee.
-use Rattle.std.specs.Prelude.{◌≡◌, ℕ, ◌<◌, ◌≤◌, ◌^◌, length, ℤ, pos, ◌≤ℤ◌}
+use Rattle.std.specs.Prelude.{◌≡◌, ℕ, ◌<◌, ◌≤◌, length, ℤ, pos, ◌≤ℤ◌}
 use Rattle.mu_num.specs.Sizes.{IsWithin}
+use Rattle.mu_num.specs.Limits.{sum_limit}
 use Rattle.cert_matrix.specs.Form.{Vector}
 use Rattle.cert_matrix.specs.Matrix.{vector}
 use Rattle.cert_check.specs.Inequalities.{System}
@@ -25,7 +26,7 @@ AreSmall m = (i j : ℕ) → i < m.n → j < m.n → IsWithin 44 (m.coef i j)
 -- from 0 to 2^126
 pub record IsBound (z : ℤ) : Type 0 where
   pub from_zero : pos 0 ≤ℤ z
-  pub at_most : z ≤ℤ pos (2 ^ 126)
+  pub at_most : z ≤ℤ pos sum_limit
 
 -- the first n numbers are at least 1
 abbrev pub ArePositive : ℕ → Vector → Type 0

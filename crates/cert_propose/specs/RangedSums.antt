@@ -3,12 +3,13 @@ use Rattle.std.specs.Prelude.{ℕ, zero, suc, ◌+◌, ◌*◌, ◌^◌, nat_le,
 use Rattle.std.specs.Prelude.{◌+ℤ◌, ◌-ℤ◌, ◌*ℤ◌, unsigned_abs, Option, Some, None, if◌then◌else◌}
 use Rattle.std.specs.Option.{option_map, option_and_then}
 use Rattle.mu_num.specs.IndexedSums.{tabulate, sum_below, abs_of}
+use Rattle.mu_num.specs.Limits.{sum_limit}
 use Rattle.cert_matrix.specs.Form.{Vector, Table}
 use Rattle.cert_matrix.specs.Matrix.{weight}
 
 -- the number, if the absolute values of its products add up to at most 2^126
 abbrev pub where_in_range : ℕ → ℤ → Option ℤ
-where_in_range weight z = if nat_le weight (2 ^ 126) then Some z else None
+where_in_range weight z = if nat_le weight sum_limit then Some z else None
 
 -- base plus the sum of f k * g k for k below n
 abbrev pub ranged : ℤ → ℕ → Vector → Vector → Option ℤ

@@ -20,7 +20,7 @@ use Rattle.qss_machine.specs.declared.machine_parts.DiscreteInfo.{DiscreteInfo}
 use Rattle.qss_machine.specs.declared.machine_parts.BranchInfo.{BranchInfo}
 use Rattle.qss_machine.specs.declared.machine_parts.ClauseInfo.{ClauseInfo}
 use Rattle.qss_machine.specs.MachineLimits.{IsRow, IsForm, IsAction, IsBranch, IsClause, AreClauses}
-use Rattle.qss_machine.specs.MachineLimits.{AreRows, AreVariables, IsState}
+use Rattle.qss_machine.specs.MachineLimits.{AreRows, AreVariables, IsStateInfo}
 use Rattle.mu_num.specs.Levels.{level_below}
 use Rattle.qss_machine.specs.Slopes.{mode_fits, weight_of}
 use Rattle.mu_affine.specs.Rounded.{rounded, rounded_down, rounded_row, rounded_form, rounded_state}
@@ -37,7 +37,7 @@ use Rattle.mu_affine.proofs.ChecksInOrder.{state_place, discrete_place}
 
 -- ---- variables
 
-state_is : (p k f : ℕ) (v : FlatVariable) → is_start p k f v.start ≡ true → is_quantum f v.quantum ≡ true → IsState (pos (2 ^ (p + k))) (rounded_state p k f v)
+state_is : (p k f : ℕ) (v : FlatVariable) → is_start p k f v.start ≡ true → is_quantum f v.quantum ≡ true → IsStateInfo (pos (2 ^ (p + k))) (rounded_state p k f v)
 state_is p k f v starts quantum =
     let start = and_parts (not (exceeds 88 (rounded (f + p + k) v.start))) (not (exceeds 43 (start_level p k f v.start))) starts in
     let own = and_parts (int_le (pos 1) (rounded_down f v.quantum)) (int_le (rounded_down f v.quantum) (pos (2 ^ 32))) quantum in
@@ -56,7 +56,7 @@ pub variables_are : (p k f : ℕ) (states discretes : List FlatVariable) → len
     AreVariables (pos (2 ^ (p + k))) (map (rounded_state p k f) states) (map (rounded_discrete f) discretes)
 variables_are p k f states discretes few starts quanta values = record {
   few = omega (arith, few, length-map states (rounded_state p k f), length-map discretes (rounded_discrete f));
-  each_state = All-map (IsState (pos (2 ^ (p + k)))) (rounded_state p k f) states (λ i d h. state_is p k f (get_or states i d) (starts i d h) (quanta i d h));
+  each_state = All-map (IsStateInfo (pos (2 ^ (p + k)))) (rounded_state p k f) states (λ i d h. state_is p k f (get_or states i d) (starts i d h) (quanta i d h));
   each_discrete = All-map (λ (d : DiscreteInfo). IsWithin 43 d.d0) (rounded_discrete f) discretes (λ i d h. within 43 (rounded f (get_or discretes i d).start) (values i d h));
 }
 

@@ -14,6 +14,7 @@ use Rattle.mu_tree.specs.FlatExpression.{FlatVariable, FlatModelTree}
 use Rattle.qss_machine.specs.declared.machine_parts.SlopeRow.{SlopeRow}
 use Rattle.qss_machine.specs.declared.machine_parts.Form.{Form}
 use Rattle.mu_num.specs.Levels.{level_below}
+use Rattle.mu_num.specs.Limits.{tick_limit, quantum_limit, bits_of_level, bits_of_state, bits_of_weight}
 use Rattle.qss_machine.specs.Slopes.{mode_fits, weight_of}
 use Rattle.mu_affine.specs.declared.machine_fault.MachineErr.{MachineErr}
 use Rattle.mu_affine.specs.declared.machine_fault.MachineErr.TheVariants.{Setting, Start, Quantum}
@@ -64,7 +65,7 @@ setting_checks s =
     ∷ record { holds = is_bits 32 s.coef_bits; fault = Setting CoefBits s.coef_bits }
     ∷ record { holds = is_bits 20 s.tick_bits && nat_le (p + k) 44; fault = Setting TickBits s.tick_bits }
     ∷ record { holds = is_bits 24 s.level_bits && nat_le (p + k + f) 62; fault = Setting LevelBits s.level_bits }
-    ∷ record { holds = int_lt (last_of s) (pos (2 ^ 32)); fault = Setting StopTime s.stop }
+    ∷ record { holds = int_lt (last_of s) (pos tick_limit); fault = Setting StopTime s.stop }
     ∷ []
 
 -- the initial level of a state with this start value
@@ -73,15 +74,15 @@ start_level p k f start = level_below (pos (2 ^ (p + k))) (rounded (f + p + k) s
 
 -- whether a state's start value and its level are within their limits
 abbrev pub is_start : (p k f : ℕ) → Fraction → Bool
-is_start p k f start = not (exceeds 88 (rounded (f + p + k) start)) && not (exceeds 43 (start_level p k f start))
+is_start p k f start = not (exceeds bits_of_state (rounded (f + p + k) start)) && not (exceeds bits_of_level (start_level p k f start))
 
 -- whether a discrete variable's start value is within its limit
 abbrev pub is_value : (f : ℕ) → Fraction → Bool
-is_value f start = not (exceeds 43 (rounded f start))
+is_value f start = not (exceeds bits_of_level (rounded f start))
 
 -- whether a quantum, rounded down, is from 1 to 2 ^ 32
 abbrev pub is_quantum : (f : ℕ) → Fraction → Bool
-is_quantum f quantum = int_le (pos 1) (rounded_down f quantum) && int_le (rounded_down f quantum) (pos (2 ^ 32))
+is_quantum f quantum = int_le (pos 1) (rounded_down f quantum) && int_le (rounded_down f quantum) (pos quantum_limit)
 
 -- whether the coefficients and the constant of a right-hand side are within their limits
 abbrev pub row_fits : SlopeRow → Bool
@@ -92,7 +93,7 @@ row_fits row =
 -- if row_fits fails
 abbrev pub row_fits_at_start : (f : ℕ) → (levels values : List ℤ) → SlopeRow → Bool
 row_fits_at_start f levels values row =
-    not (row_fits row) || (mode_fits f (length levels) row values && not (exceeds 88 (weight_of f row levels values)))
+    not (row_fits row) || (mode_fits f (length levels) row values && not (exceeds bits_of_weight (weight_of f row levels values)))
 
 -- whether the coefficients, including that of time, and the constant of a form are within their
 -- limits

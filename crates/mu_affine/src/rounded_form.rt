@@ -5,7 +5,8 @@ ghost use Rattle.std.specs.Prelude.{◌≡◌, ◌+◌, ◌^◌, ◌<◌, ◌≤
 ghost use Rattle.std.specs.Prelude.{length, if◌then◌else◌, None, map, IfOk, IfErr, IfNone, IfSome};
 ghost use Rattle.std.specs.Prelude.{OnOk, sum_by, unsigned_abs, All};
 ghost use Rattle.std.specs.List.{list_all};
-ghost use Rattle.mu_num.specs.Sizes.{IsWithin, exceeds};
+ghost use Rattle.mu_num.specs.Sizes.{exceeds};
+ghost use Rattle.mu_num.specs.Limits.{variable_limit, AreLevels};
 ghost use Rattle.mu_affine.specs.Rounded.{is_some_number, rounded_entries, rounded_products};
 ghost use Rattle.mu_affine.specs.Rounded.{rounded_row, rounded_form, rounded, rounded_down};
 ghost use Rattle.mu_affine.specs.Rounded.{rounded_up};
@@ -31,11 +32,11 @@ pub(crate) fn check_start_row_sums(
     values: &[i64],
     units: Units,
 ) -> Result<(), MachineErr>
-    requires count_limit { length levels.now + length values.now ≤ 4096 }
+    requires count_limit { length levels.now + length values.now ≤ variable_limit }
     requires one_each { length forms.now ≤ length levels.now }
     requires forms { All (IsRightSide (length levels.now) (length values.now)) forms.now }
-    requires levels { All (IsWithin 43) levels.now }
-    requires values { All (IsWithin 43) values.now }
+    requires levels { AreLevels levels.now }
+    requires values { AreLevels values.now }
     ensures ok { IfOk result
         (λ _. first_failed
         (checks
@@ -91,7 +92,7 @@ pub(crate) fn round_form_rows(
     forms: &[ExactForm],
     units: Units,
 ) -> Result<Vec<SlopeRow>, MachineErr>
-    requires count_limit { length forms.now ≤ 4096 }
+    requires count_limit { length forms.now ≤ variable_limit }
     ensures rows { IfOk result (λ rows. rows.items ≡ map (rounded_row units.p units.f) forms.now) }
     ensures ok { IfOk result
         (λ _. first_failed
@@ -140,10 +141,10 @@ fn is_rounded_start_valid(
     values: &[i64],
     units: Units,
 ) -> Result<bool, AllocError>
-    requires count_limit { length levels.now + length values.now ≤ 4096 }
+    requires count_limit { length levels.now + length values.now ≤ variable_limit }
     requires form { IsRightSide (length levels.now) (length values.now) form.now }
-    requires levels { All (IsWithin 43) levels.now }
-    requires values { All (IsWithin 43) values.now }
+    requires levels { AreLevels levels.now }
+    requires values { AreLevels values.now }
     ensures { IfOk result
         (λ holds. holds
         ≡ row_fits_at_start units.f levels.now values.now (rounded_row units.p units.f form.now)) }

@@ -3,7 +3,7 @@
 
 ghost use Rattle.std.specs.Prelude.{◌≡◌, ◌+◌, ◌^◌, ◌<◌, ◌≤◌, None, length, map, sum_by, IfOk};
 ghost use Rattle.std.specs.Prelude.{IfErr, ◌&&◌, true, false, Some, IfNone, IfSome, pos, ◌≤ℤ◌};
-ghost use Rattle.std.specs.Prelude.{int_lt, nat_le, All};
+ghost use Rattle.std.specs.Prelude.{int_lt, nat_le};
 ghost use Rattle.mu_tree.specs.FlatExpression.{flat_action, flat_branch, flat_clause};
 ghost use Rattle.mu_tree.specs.FlatExpression.{flat_variable, flat_model};
 ghost use Rattle.mu_affine.specs.Rounded.{rounded_form, rounded_up, rounded, rounded_down};
@@ -17,19 +17,16 @@ ghost use Rattle.mu_affine.specs.MachineChecks.{is_bits, last_of, setting_checks
 ghost use Rattle.mu_affine.specs.MachineChecks.{is_quantum, is_start, is_value, start_level};
 ghost use Rattle.mu_affine.specs.MachineChecks.{machine_checks};
 ghost use Rattle.qss_machine.specs.MachineLimits.{HasUnits, AreVariables, AreRows, AreClauses};
-ghost use Rattle.mu_num.specs.Sizes.{IsWithin};
+ghost use Rattle.mu_num.specs.Limits.{variable_limit, tick_limit, IsLevel, AreLevels};
 ghost use Rattle.mu_affine.specs.declared.machine_fault.MachineErr.TheVariants.{Start, Quantum};
 ghost use Rattle.mu_tree.specs.FlatModels.{IsFlatModel};
 ghost use Rattle.mu_affine.specs.RoundedMachines.{AreFormsFor, IsMachineOf};
 
 use crate::exact_form::{ExactForm, Forms};
 use crate::machine_fault::MachineErr;
-use crate::rounded_form::{
-    check_start_row_sums, round_form, round_form_number, round_form_number_down,
-    round_form_number_up, round_form_rows,
-};
+use crate::rounded_form::{check_start_row_sums, round_form, round_form_number, round_form_number_down, round_form_number_up, round_form_rows};
 use mu_io::Items;
-use mu_num::{Ratio, exceeds_power_of_two, floor_div, unit};
+use mu_num::{LEVEL_BITS, STATE_BITS, Ratio, exceeds_power_of_two, floor_div, unit};
 use mu_tree::tree::{Rel as ReadRel, SettingName};
 use mu_tree::{FlatBranch, FlatClause, FlatModel, FlatRole, FlatStatement, FlatVar, Settings};
 use qss_machine::{
@@ -177,11 +174,11 @@ fn bits_within_sum(value: Ratio, limit: u8, others: u8, most: u8) -> Option<u8>
 fn last_tick_before(stop: Ratio, tick_bits: u8) -> Option<u64>
     requires bits { tick_bits ≤ 20 }
     requires stop { pos 0 ≤ℤ stop.num }
-    ensures none { IfNone result (int_lt (rounded_up tick_bits stop) (pos (2 ^ 32)) ≡ false) }
+    ensures none { IfNone result (int_lt (rounded_up tick_bits stop) (pos tick_limit) ≡ false) }
     ensures some { IfSome result
-        (λ last. (int_lt (rounded_up tick_bits stop) (pos (2 ^ 32)) ≡ true)
+        (λ last. (int_lt (rounded_up tick_bits stop) (pos tick_limit) ≡ true)
         × (pos last ≡ rounded_up tick_bits stop)
-        × (last < 2 ^ 32)) }
+        × (last < tick_limit)) }
 {
     let last = round_form_number_up(stop, tick_bits);
     if last < 1 << 32 {
@@ -248,11 +245,11 @@ pub(crate) fn round_machine_levels(
     states: &[FlatVar],
     units: Units,
 ) -> Result<Vec<i64>, MachineErr>
-    requires count_limit { length states.now ≤ 4096 }
+    requires count_limit { length states.now ≤ variable_limit }
     ensures levels { IfOk result
         (λ levels. levels.items
         ≡ map (λ v. start_level units.p units.k units.f v.start) states.now) }
-    ensures size_limit { IfOk result (λ levels. All (IsWithin 43) levels.items) }
+    ensures size_limit { IfOk result (λ levels. AreLevels levels.items) }
     ensures ok { IfOk result
         (λ _. first_failed
         (checks (λ v. is_start units.p units.k units.f v.start) Start 0 states.now)
@@ -276,11 +273,11 @@ fn round_machine_start_level(start: Ratio, units: Units) -> Option<i64>
     ensures some { IfSome result
         (λ level. (is_start units.p units.k units.f start ≡ true)
         × (level ≡ start_level units.p units.k units.f start)
-        × IsWithin 43 level) }
+        × IsLevel level) }
 {
     let state = round_form_number(start, units.f + units.p + units.k);
     let level = floor_div(state, unit(units.p + units.k));
-    if exceeds_power_of_two(state, 88) || exceeds_power_of_two(level, 43) {
+    if exceeds_power_of_two(state, STATE_BITS) || exceeds_power_of_two(level, LEVEL_BITS) {
         return None;
     }
     Some(level as i64)
@@ -294,10 +291,10 @@ pub(crate) fn round_machine_values(
     first: usize,
     units: Units,
 ) -> Result<Vec<i64>, MachineErr>
-    requires count_limit { first + length discretes.now ≤ 4096 }
+    requires count_limit { first + length discretes.now ≤ variable_limit }
     ensures values { IfOk result
         (λ values. values.items ≡ map (λ v. rounded units.f v.start) discretes.now) }
-    ensures size_limit { IfOk result (λ values. All (IsWithin 43) values.items) }
+    ensures size_limit { IfOk result (λ values. AreLevels values.items) }
     ensures ok { IfOk result
         (λ _. first_failed (checks (λ v. is_value units.f v.start) Start first discretes.now)
         ≡ None) }
@@ -323,10 +320,10 @@ fn round_machine_start_value(start: Ratio, level_bits: u8) -> Option<i64>
     ensures some { IfSome result
         (λ value. (is_value level_bits start ≡ true)
         × (value ≡ rounded level_bits start)
-        × IsWithin 43 value) }
+        × IsLevel value) }
 {
     let value = round_form_number(start, level_bits);
-    if exceeds_power_of_two(value, 43) {
+    if exceeds_power_of_two(value, LEVEL_BITS) {
         return None;
     }
     Some(value as i64)
@@ -338,7 +335,7 @@ pub(crate) fn round_machine_states(
     states: &[FlatVar],
     units: Units,
 ) -> Result<Vec<StateInfo>, MachineErr>
-    requires count_limit { length states.now ≤ 4096 }
+    requires count_limit { length states.now ≤ variable_limit }
     ensures states { IfOk result
         (λ all. all.items
         ≡ map (λ v. rounded_state units.p units.k units.f (flat_variable v)) states.now) }

@@ -2,7 +2,8 @@
 use Rattle.std.proofs.Common.{◌≡◌, ℕ, ◌+◌, ◌-◌, ◌<◌, Bool, true, false, refl, sym, subst, arith, Option, Some, None, nat_le}
 use Rattle.std.specs.Prelude.{if◌then◌else◌}
 use Rattle.std.proofs.lemmas.Bool.Decides.{nat_tests}
-use Rattle.mu_num.specs.Ticks.{FirstAfter, tick_limit, later_tick}
+use Rattle.mu_num.specs.Ticks.{FirstAfter, later_tick}
+use Rattle.mu_num.specs.Limits.{tick_limit}
 
 -- a first tick of P is one of Q, where both hold at the same ticks
 pub first_after-same : (P Q : ℕ → Type 0) (from : ℕ) (found : Option ℕ) →

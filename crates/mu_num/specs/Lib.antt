@@ -2,6 +2,7 @@ pub mod Rounding
 pub mod Ticks
 pub mod Roots
 pub mod Sizes
+pub mod Limits
 pub mod Levels
 pub mod Fraction
 pub mod Decimal

@@ -1,9 +1,6 @@
 -- The first tick at which a predicate holds.
-use Rattle.std.specs.Prelude.{ℕ, ◌+◌, ◌^◌, ◌<◌, ◌≤◌, nat_le, Option, Some, None, MatchOption, if◌then◌else◌}
-
--- the last tick that is searched
-abbrev pub tick_limit : ℕ
-tick_limit = 2 ^ 32
+use Rattle.std.specs.Prelude.{ℕ, ◌+◌, ◌<◌, ◌≤◌, nat_le, Option, Some, None, MatchOption, if◌then◌else◌}
+use Rattle.mu_num.specs.Limits.{tick_limit}
 
 -- n is the first tick after `from` at which P holds
 pub record IsFirstAfter (P : ℕ → Type 0) (from n : ℕ) : Type 0 where

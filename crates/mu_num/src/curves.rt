@@ -4,6 +4,7 @@
 ghost use Rattle.std.specs.Prelude.{◌≡◌, ℕ, pos, ◌^◌, ◌<◌, ◌≤◌, ◌+ℤ◌, ◌*ℤ◌, ◌<ℤ◌, ◌≤ℤ◌, neg_ℤ, unsigned_abs};
 ghost use Rattle.mu_num.specs.Sizes.{IsWithin};
 ghost use Rattle.mu_num.specs.Curves.{sum_to, curve_at, FirstUpTo, FirstReaching};
+ghost use Rattle.mu_num.specs.Limits.{look_span, IsSecondState};
 
 use crate::ticks::first_tick_beyond;
 
@@ -14,9 +15,9 @@ pub fn first_curve(c: i128, b: i128, a: i128, bound: i128, reach: u64) -> Option
     requires inside { pos (unsigned_abs c) <ℤ bound }
     requires bound { bound ≤ℤ pos (2 ^ 82) }
     requires slope { IsWithin 96 b }
-    requires bend { IsWithin 94 a }
+    requires bend { IsSecondState a }
     requires some { 1 ≤ reach }
-    requires reach { reach ≤ 65536 }
+    requires reach { reach ≤ look_span }
     ensures { FirstUpTo (λ n. bound ≤ℤ pos (unsigned_abs (curve_at c b a n))) reach result }
 {
     if b < 0 {
@@ -39,8 +40,8 @@ fn find_curve_leaving_step(c: i128, b: i128, a: i128, bound: i128, reach: u64) -
     requires bound { bound ≤ℤ pos (2 ^ 82) }
     requires slope { IsWithin 96 b }
     requires rises { pos 0 ≤ℤ b }
-    requires bend { IsWithin 94 a }
-    requires steps { reach ≤ 65536 }
+    requires bend { IsSecondState a }
+    requires steps { reach ≤ look_span }
     ensures { FirstUpTo (λ n. bound ≤ℤ pos (unsigned_abs (curve_at c b a n))) reach result }
 {
     let back = negate_curve_term(a);
@@ -71,7 +72,7 @@ fn negate_curve_term(z: i128) -> i128
 // increase. `back` is -a.
 fn find_curve_turn(b: i128, back: i128, reach: u64) -> u64
     requires rises { pos 0 ≤ℤ b }
-    requires steps { reach ≤ 65536 }
+    requires steps { reach ≤ look_span }
     ensures in_reach { result ≤ reach }
     ensures rises { (m : ℕ) → m < result → (pos m *ℤ back) ≤ℤ b }
     ensures falls { (m : ℕ) → result ≤ m → m < reach → b ≤ℤ (pos m *ℤ back) }
@@ -94,9 +95,9 @@ fn find_rising_curve_step(
 ) -> Option<u64>
     requires start { IsWithin 82 c }
     requires slope { IsWithin 96 b }
-    requires bend { IsWithin 94 a }
+    requires bend { IsSecondState a }
     requires order { low ≤ high }
-    requires steps { high ≤ 65536 }
+    requires steps { high ≤ look_span }
     requires below { curve_at c b a low <ℤ bound }
     requires rises { (m : ℕ) → low ≤ m → m < high → pos 0 ≤ℤ (b +ℤ pos m *ℤ a) }
     ensures { FirstReaching c b a bound low high result }
@@ -114,8 +115,8 @@ fn find_rising_curve_step(
 fn curve_at(c: i128, b: i128, a: i128, n: u64) -> i128
     requires start { IsWithin 82 c }
     requires slope { IsWithin 96 b }
-    requires bend { IsWithin 94 a }
-    requires steps { n ≤ 65536 }
+    requires bend { IsSecondState a }
+    requires steps { n ≤ look_span }
     ensures { result ≡ curve_at c b a n }
 {
     c + curve_linear_part(n, b) + curve_quadratic_part(n, a)
@@ -123,7 +124,7 @@ fn curve_at(c: i128, b: i128, a: i128, n: u64) -> i128
 
 // Returns the linear part of the increase after n steps, with b per step.
 fn curve_linear_part(n: u64, b: i128) -> i128
-    requires steps { n ≤ 65536 }
+    requires steps { n ≤ look_span }
     requires slope { IsWithin 96 b }
     ensures value { result ≡ pos n *ℤ b }
     ensures bound { IsWithin 112 result }
@@ -134,8 +135,8 @@ fn curve_linear_part(n: u64, b: i128) -> i128
 // Returns the quadratic part of the increase after n steps: each step adds a more than the last
 // one.
 fn curve_quadratic_part(n: u64, a: i128) -> i128
-    requires steps { n ≤ 65536 }
-    requires bend { IsWithin 94 a }
+    requires steps { n ≤ look_span }
+    requires bend { IsSecondState a }
     ensures value { result ≡ pos (sum_to n) *ℤ a }
     ensures bound { IsWithin 125 result }
 {
@@ -144,7 +145,7 @@ fn curve_quadratic_part(n: u64, a: i128) -> i128
 
 // Returns 0 + 1 + .. + (n - 1).
 fn sum_curve_steps(n: u64) -> i128
-    requires { n ≤ 65536 }
+    requires { n ≤ look_span }
     ensures value { result ≡ pos (sum_to n) }
     ensures bound { IsWithin 31 result }
 {
@@ -159,9 +160,9 @@ fn sum_curve_steps(n: u64) -> i128
 fn search_rising_curve(c: i128, b: i128, a: i128, bound: i128, low: u64, high: u64) -> u64
     requires start { IsWithin 82 c }
     requires slope { IsWithin 96 b }
-    requires bend { IsWithin 94 a }
+    requires bend { IsSecondState a }
     requires order { low < high }
-    requires steps { high ≤ 65536 }
+    requires steps { high ≤ look_span }
     requires below { curve_at c b a low <ℤ bound }
     requires above { bound ≤ℤ curve_at c b a high }
     requires rises { (m : ℕ) → low ≤ m → m < high → pos 0 ≤ℤ (b +ℤ pos m *ℤ a) }

@@ -2,13 +2,14 @@
 
 ghost use Rattle.std.specs.Prelude.{◌≡◌, ◌^◌, ◌≤◌, pos, ◌*ℤ◌, ◌<ℤ◌, ◌≤ℤ◌, unsigned_abs, IsTrue, ◌↔◌};
 ghost use Rattle.mu_num.specs.Sizes.{exceeds};
+ghost use Rattle.mu_num.specs.Limits.{sum_limit};
 
 /// Returns a number of absolute value at most 2^62 in units of 2^-bits: num * 2^bits.
 pub fn times_power_of_two(num: i128, bits: u8) -> i128
     requires num { unsigned_abs num ≤ 2 ^ 62 }
     requires bits { bits ≤ 64 }
     ensures value { result ≡ num *ℤ pos (2 ^ bits) }
-    ensures size { unsigned_abs result ≤ 2 ^ 126 }
+    ensures size { unsigned_abs result ≤ sum_limit }
 {
     multiply_by_power(num, unit(bits))
 }
@@ -34,7 +35,7 @@ fn multiply_by_power(num: i128, unit: i128) -> i128
     requires num { unsigned_abs num ≤ 2 ^ 62 }
     requires unit { unsigned_abs unit ≤ 2 ^ 64 }
     ensures value { result ≡ num *ℤ unit }
-    ensures size { unsigned_abs result ≤ 2 ^ 126 }
+    ensures size { unsigned_abs result ≤ sum_limit }
 {
     num * unit
 }

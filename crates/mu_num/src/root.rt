@@ -2,12 +2,13 @@
 
 ghost use Rattle.std.specs.Prelude.{◌≤◌, ◌^◌, pos, ◌≤ℤ◌, unsigned_abs};
 ghost use Rattle.mu_num.specs.Roots.{IsRootUp};
+ghost use Rattle.mu_num.specs.Limits.{sum_limit};
 
 /// Returns the square root rounded up: the least natural number whose square is at least v. v is
 /// from 0 to 2^126.
 pub fn root_up(v: i128) -> i128
     requires from_zero { pos 0 ≤ℤ v }
-    requires at_most { v ≤ℤ pos (2 ^ 126) }
+    requires at_most { v ≤ℤ pos sum_limit }
     ensures from_zero { pos 0 ≤ℤ result }
     ensures root { IsRootUp (unsigned_abs v) (unsigned_abs result) }
 {
@@ -16,7 +17,7 @@ pub fn root_up(v: i128) -> i128
 
 // Returns the least integer whose square is at least v.
 fn find_root_up(v: u128) -> u128
-    requires { v ≤ 2 ^ 126 }
+    requires { v ≤ sum_limit }
     ensures root { IsRootUp v result }
     ensures size { result ≤ 2 ^ 63 }
 {

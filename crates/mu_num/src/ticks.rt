@@ -1,7 +1,8 @@
 //! The first tick at which a distance is covered at a constant speed.
 
-ghost use Rattle.std.specs.Prelude.{◌≡◌, ℕ, pos, ◌+◌, ◌*◌, ◌/◌, ◌^◌, ◌<◌, ◌≤◌, ◌*ℤ◌, ◌<ℤ◌, ◌≤ℤ◌};
+ghost use Rattle.std.specs.Prelude.{◌≡◌, ℕ, pos, ◌+◌, ◌*◌, ◌/◌, ◌<◌, ◌≤◌, ◌*ℤ◌, ◌<ℤ◌, ◌≤ℤ◌};
 ghost use Rattle.mu_num.specs.Ticks.{FirstAfter, later_tick};
+ghost use Rattle.mu_num.specs.Limits.{tick_limit};
 
 use crate::powers_of_two::is_below_u64_power;
 
@@ -31,7 +32,7 @@ pub fn first_tick_beyond(dist: i128, speed: i128) -> Option<u64>
 
 /// Returns from + ticks, or `None` if that exceeds 2^32.
 pub fn ticks_after(from: u64, ticks: Option<u64>) -> Option<u64>
-    requires { from ≤ 2 ^ 32 }
+    requires { from ≤ tick_limit }
     ensures { result ≡ later_tick from ticks }
 {
     match ticks {

@@ -1,5 +1,6 @@
 -- Numbering of variables: for each role, the number of the next variable.
 use Rattle.std.specs.Prelude.{ℕ, ◌≡◌, ◌+◌, ◌≤◌, Option, Some, None}
+use Rattle.mu_num.specs.Limits.{variable_limit}
 use Rattle.mu_tree.specs.declared.flat.FlatRole.{FlatRole}
 use Rattle.mu_tree.specs.declared.flat.FlatRole.TheVariants.{State, Discrete, Algebraic}
 use Rattle.mu_names.specs.declared.declared_scope.Known.{Known}
@@ -37,4 +38,4 @@ after_known n k = by_kind (kind_of k.role)
 
 -- the variables of a declared name get numbers below 4,096
 abbrev pub HasRoom : Next → Known → Type 0
-HasRoom n k = (kind : FlatRole) → kind_of k.role ≡ Some kind → next_number n kind + width k.size ≤ 4096
+HasRoom n k = (kind : FlatRole) → kind_of k.role ≡ Some kind → next_number n kind + width k.size ≤ variable_limit

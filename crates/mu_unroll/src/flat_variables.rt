@@ -2,6 +2,7 @@
 //! denote.
 
 ghost use Rattle.std.specs.Prelude.{◌≡◌, ◌+◌, ◌^◌, ◌++◌, ◌≤◌, map, min, nat_lt, OnOk, IfOk};
+ghost use Rattle.mu_num.specs.Limits.{variable_limit};
 ghost use Rattle.mu_tree.specs.FlatExpression.{flat_variable};
 ghost use Rattle.mu_unroll.specs.VariablePlaces.{ArePlaced, count_of_kind, elements_from, element_name, has_kind, is_kind, kind_of, scalar, scalar_count, scalars_in, scalars_of, scalars_of_kind, width};
 ghost use Rattle.mu_unroll.specs.Nexts.{HasRoom, after_known, meant_at_next, next_after, next_number};
@@ -43,7 +44,7 @@ impl Next {
 
     // Returns the next numbers after `count` more variables with this role.
     fn after(self, kind: FlatRole, count: u32) -> Next
-        requires { next_number self kind + count ≤ 4096 }
+        requires { next_number self kind + count ≤ variable_limit }
         ensures { result ≡ next_after self kind count }
     {
         match kind {
@@ -83,9 +84,9 @@ pub fn list_denotations<'a>(
     alloc: Global,
     known: &'a [Known],
 ) -> Result<BTreeMap<&'a [u8], NameDenotation>, AllocError>
-    requires { scalar_count known.now ≤ 4096 }
+    requires { scalar_count known.now ≤ variable_limit }
     ensures names { IfOk result (λ table. meant_at table ≡ declared_in known.now) }
-    ensures placed { IfOk result (λ table. ArePlaced 4096 (meant_at table)) }
+    ensures placed { IfOk result (λ table. ArePlaced variable_limit (meant_at table)) }
 {
     let discrete = count_scalar_variables(FlatRole::State, known);
     let algebraic = discrete + count_scalar_variables(FlatRole::Discrete, known);

@@ -2,6 +2,7 @@
 //! replaced by their values.
 
 ghost use Rattle.std.specs.Prelude.{◌≡◌, map, Ok, IfOk, IfErr};
+ghost use Rattle.mu_num.specs.Limits.{variable_limit};
 ghost use Rattle.mu_tree.specs.Expression.{expression, reference, signed, scaled, terms_of, factors_of};
 ghost use Rattle.mu_tree.specs.FlatExpression.{flat_expression, flat_signed, flat_scaled};
 ghost use Rattle.mu_unroll.specs.UnrollFaults.{IsFault};
@@ -21,7 +22,7 @@ use std::alloc::Global;
 
 /// Resolves a reference. Errors: an invalid index.
 pub fn found(env: &Environment, target: &Ref) -> Result<ResolvedReference, UnrollErr>
-    requires { ArePlaced 4096 (meant_at env.now.declared) }
+    requires { ArePlaced variable_limit (meant_at env.now.declared) }
     ensures { result ≡ found (denoted env.now) (reference target.now) }
 {
     let meant = env.meaning_of(target.name.bytes());
@@ -52,7 +53,7 @@ fn flatten_element_reference(
     index: &Expr,
     meant: NameDenotation,
 ) -> Result<ResolvedReference, UnrollErr>
-    requires { IsPlaced 4096 meant }
+    requires { IsPlaced variable_limit meant }
     ensures { result
         ≡ element_found (denoted env.now) at (expression index.now)
         meant }
@@ -114,7 +115,7 @@ pub fn flatten(
     in_clause: bool,
     e: &Expr,
 ) -> Result<FlatExpr, UnrollErr>
-    requires { ArePlaced 4096 (meant_at env.now.declared) }
+    requires { ArePlaced variable_limit (meant_at env.now.declared) }
     ensures ok { IfOk result
         (λ flat. flattened in_clause (denoted env.now) (expression e.now)
         ≡ Ok (flat_expression flat)) }
@@ -199,7 +200,7 @@ fn flatten_terms(
     in_clause: bool,
     terms: &[Term],
 ) -> Result<Vec<FlatTerm>, UnrollErr>
-    requires { ArePlaced 4096 (meant_at env.now.declared) }
+    requires { ArePlaced variable_limit (meant_at env.now.declared) }
     ensures ok { IfOk result
         (λ flat. flattened_terms in_clause (denoted env.now)
         (terms_of (map signed terms.now))
@@ -229,7 +230,7 @@ fn flatten_factors(
     in_clause: bool,
     factors: &[Factor],
 ) -> Result<Vec<FlatFactor>, UnrollErr>
-    requires { ArePlaced 4096 (meant_at env.now.declared) }
+    requires { ArePlaced variable_limit (meant_at env.now.declared) }
     ensures ok { IfOk result
         (λ flat. flattened_factors in_clause (denoted env.now)
         (factors_of (map scaled factors.now))

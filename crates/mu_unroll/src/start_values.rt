@@ -2,6 +2,7 @@
 //! variables.
 
 ghost use Rattle.std.specs.Prelude.{◌≡◌, map, Ok, IfOk, IfErr, OnOk};
+ghost use Rattle.mu_num.specs.Limits.{variable_limit};
 ghost use Rattle.mu_tree.specs.Expression.{expression, reference};
 ghost use Rattle.mu_tree.specs.FlatExpression.{flat_variable};
 ghost use Rattle.mu_tree.specs.ModelTree.{statement};
@@ -33,7 +34,7 @@ pub fn unroll_starts(
     statements: &[Statement],
     output: &mut Output<FlatVar>,
 ) -> Result<(), UnrollErr>
-    requires placed { ArePlaced 4096 (meant_at env.old.declared) }
+    requires placed { ArePlaced variable_limit (meant_at env.old.declared) }
     ensures ok { IfOk result
         (λ _. UnrollsStarts env.old statements.now output.old output.new) }
     ensures err { IfErr result
@@ -54,7 +55,7 @@ fn unroll_start(
     one: &Statement,
     output: &mut Output<FlatVar>,
 ) -> Result<(), UnrollErr>
-    requires placed { ArePlaced 4096 (meant_at env.old.declared) }
+    requires placed { ArePlaced variable_limit (meant_at env.old.declared) }
     ensures ok { IfOk result
         (λ _. unrolled_start (meant_at env.old.declared) env.old.loops.items (statement one.now)
         (progress_of flat_variable output.old)
@@ -96,7 +97,7 @@ fn unroll_one_start(
     value: &Expr,
     output: &mut Output<FlatVar>,
 ) -> Result<(), UnrollErr>
-    requires { ArePlaced 4096 (meant_at env.now.declared) }
+    requires { ArePlaced variable_limit (meant_at env.now.declared) }
     ensures ok { IfOk result
         (λ _. one_start (denoted env.now) (reference target.now) (expression value.now)
         (progress_of flat_variable output.old)

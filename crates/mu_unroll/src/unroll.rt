@@ -2,6 +2,7 @@
 //! equations, clauses and statements.
 
 ghost use Rattle.std.specs.Prelude.{◌≡◌, [], map, Ok, IfOk, IfErr, OnOk};
+ghost use Rattle.mu_num.specs.Limits.{variable_limit};
 ghost use Rattle.mu_tree.specs.Expression.{expression, reference};
 ghost use Rattle.mu_tree.specs.FlatExpression.{flat_action, flat_branch, flat_clause, flat_equation, flat_model, flat_variable};
 ghost use Rattle.mu_tree.specs.FlatModels.{IsFlatModel, target_role};
@@ -68,7 +69,7 @@ fn unroll_with(
     m: &Model,
     vars: Vec<FlatVar>,
 ) -> Result<FlatModel, UnrollErr>
-    requires { ArePlaced 4096 (meant_at declared) }
+    requires { ArePlaced variable_limit (meant_at declared) }
     ensures ok { IfOk result
         (λ flat. unrolled_with (meant_at declared.entry) (model m.now) (map flat_variable vars.items)
         ≡ Ok (flat_model flat)) }
@@ -109,7 +110,7 @@ fn unroll_all_starts(
     statements: &[Statement],
     output: &mut Output<FlatVar>,
 ) -> Result<(), UnrollErr>
-    requires placed { ArePlaced 4096 (meant_at env.old.declared) }
+    requires placed { ArePlaced variable_limit (meant_at env.old.declared) }
     requires outside { env.old.loops.items ≡ [] }
     ensures ok { IfOk result
         (λ _. UnrollsStarts env.old statements.now output.old output.new) }
@@ -132,7 +133,7 @@ fn unroll_all_equations(
     equations: &[Equation],
     output: &mut Output<FlatEquation>,
 ) -> Result<(), UnrollErr>
-    requires placed { ArePlaced 4096 (meant_at env.old.declared) }
+    requires placed { ArePlaced variable_limit (meant_at env.old.declared) }
     requires outside { env.old.loops.items ≡ [] }
     ensures ok { IfOk result
         (λ _. UnrollsEquations env.old equations.now output.old output.new) }
@@ -156,7 +157,7 @@ fn unroll_equations(
     equations: &[Equation],
     output: &mut Output<FlatEquation>,
 ) -> Result<(), UnrollErr>
-    requires placed { ArePlaced 4096 (meant_at env.old.declared) }
+    requires placed { ArePlaced variable_limit (meant_at env.old.declared) }
     ensures ok { IfOk result
         (λ _. UnrollsEquations env.old equations.now output.old output.new) }
     ensures err { IfErr result
@@ -177,7 +178,7 @@ fn unroll_equation(
     one: &Equation,
     output: &mut Output<FlatEquation>,
 ) -> Result<(), UnrollErr>
-    requires placed { ArePlaced 4096 (meant_at env.old.declared) }
+    requires placed { ArePlaced variable_limit (meant_at env.old.declared) }
     ensures ok { IfOk result
         (λ _. unrolled_equation (meant_at env.old.declared) env.old.loops.items (equation one.now)
         (progress_of flat_equation output.old)
@@ -225,7 +226,7 @@ fn unroll_one_equation(
     value: &Expr,
     output: &mut Output<FlatEquation>,
 ) -> Result<(), UnrollErr>
-    requires { ArePlaced 4096 (meant_at env.now.declared) }
+    requires { ArePlaced variable_limit (meant_at env.now.declared) }
     ensures ok { IfOk result
         (λ _. one_equation der (denoted env.now) (reference target.now) (expression value.now)
         (progress_of flat_equation output.old)
@@ -263,7 +264,7 @@ fn unroll_all_clauses(
     clauses: &[Clause],
     output: &mut Output<FlatClause>,
 ) -> Result<(), UnrollErr>
-    requires placed { ArePlaced 4096 (meant_at env.old.declared) }
+    requires placed { ArePlaced variable_limit (meant_at env.old.declared) }
     requires outside { env.old.loops.items ≡ [] }
     ensures ok { IfOk result
         (λ _. UnrollsClauses env.old clauses.now output.old output.new) }
@@ -287,7 +288,7 @@ fn unroll_clauses(
     clauses: &[Clause],
     output: &mut Output<FlatClause>,
 ) -> Result<(), UnrollErr>
-    requires placed { ArePlaced 4096 (meant_at env.old.declared) }
+    requires placed { ArePlaced variable_limit (meant_at env.old.declared) }
     ensures ok { IfOk result
         (λ _. UnrollsClauses env.old clauses.now output.old output.new) }
     ensures err { IfErr result
@@ -308,7 +309,7 @@ fn unroll_clause(
     one: &Clause,
     output: &mut Output<FlatClause>,
 ) -> Result<(), UnrollErr>
-    requires placed { ArePlaced 4096 (meant_at env.old.declared) }
+    requires placed { ArePlaced variable_limit (meant_at env.old.declared) }
     ensures ok { IfOk result
         (λ _. unrolled_clause (meant_at env.old.declared) env.old.loops.items (clause one.now)
         (progress_of flat_clause output.old)
@@ -349,7 +350,7 @@ fn unroll_one_clause(
     branches: &[Branch],
     output: &mut Output<FlatClause>,
 ) -> Result<(), UnrollErr>
-    requires placed { ArePlaced 4096 (meant_at env.old.declared) }
+    requires placed { ArePlaced variable_limit (meant_at env.old.declared) }
     ensures ok { IfOk result
         (λ _. one_clause (meant_at env.old.declared) env.old.loops.items (map branch branches.now)
         (progress_of flat_clause output.old)
@@ -377,7 +378,7 @@ fn unroll_branches(
     branches: &[Branch],
     output: &mut Output<FlatBranch>,
 ) -> Result<(), UnrollErr>
-    requires placed { ArePlaced 4096 (meant_at env.old.declared) }
+    requires placed { ArePlaced variable_limit (meant_at env.old.declared) }
     ensures ok { IfOk result
         (λ _. unrolled_branches (meant_at env.old.declared) env.old.loops.items (map branch branches.now)
         (progress_of flat_branch output.old)
@@ -401,7 +402,7 @@ fn unroll_branch(
     one: &Branch,
     output: &mut Output<FlatBranch>,
 ) -> Result<(), UnrollErr>
-    requires placed { ArePlaced 4096 (meant_at env.old.declared) }
+    requires placed { ArePlaced variable_limit (meant_at env.old.declared) }
     ensures ok { IfOk result
         (λ _. unrolled_branch (meant_at env.old.declared) env.old.loops.items (branch one.now)
         (progress_of flat_branch output.old)
@@ -439,7 +440,7 @@ fn unroll_statements(
     statements: &[Statement],
     output: &mut Output<FlatStatement>,
 ) -> Result<(), UnrollErr>
-    requires placed { ArePlaced 4096 (meant_at env.old.declared) }
+    requires placed { ArePlaced variable_limit (meant_at env.old.declared) }
     ensures ok { IfOk result
         (λ _. unrolled_statements (meant_at env.old.declared) env.old.loops.items
         (statements_of (map statement statements.now))
@@ -466,7 +467,7 @@ fn unroll_statement(
     one: &Statement,
     output: &mut Output<FlatStatement>,
 ) -> Result<(), UnrollErr>
-    requires placed { ArePlaced 4096 (meant_at env.old.declared) }
+    requires placed { ArePlaced variable_limit (meant_at env.old.declared) }
     ensures ok { IfOk result
         (λ _. unrolled_statement (meant_at env.old.declared) env.old.loops.items (statement one.now)
         (progress_of flat_action output.old)
@@ -509,7 +510,7 @@ fn unroll_assignment(
     value: &Expr,
     output: &mut Output<FlatStatement>,
 ) -> Result<(), UnrollErr>
-    requires { ArePlaced 4096 (meant_at env.now.declared) }
+    requires { ArePlaced variable_limit (meant_at env.now.declared) }
     ensures ok { IfOk result
         (λ _. one_action assign_to FlatRole.Discrete (denoted env.now) (reference target.now)
         (expression value.now)
@@ -539,7 +540,7 @@ fn unroll_restart(
     value: &Expr,
     output: &mut Output<FlatStatement>,
 ) -> Result<(), UnrollErr>
-    requires { ArePlaced 4096 (meant_at env.now.declared) }
+    requires { ArePlaced variable_limit (meant_at env.now.declared) }
     ensures ok { IfOk result
         (λ _. one_action restart_of FlatRole.State (denoted env.now) (reference target.now)
         (expression value.now)

@@ -1,5 +1,6 @@
 -- The results of `certify` and `upgrade` for a machine and the bytes of a certificate.
-use Rattle.std.specs.Prelude.{◌≡◌, ℕ, ◌^◌, ◌<◌, ◌≤◌, ◌⊎◌, List, length, pos}
+use Rattle.std.specs.Prelude.{◌≡◌, ℕ, ◌<◌, ◌≤◌, ◌⊎◌, List, length, pos}
+use Rattle.mu_num.specs.Limits.{certificate_length_limit}
 use Rattle.qss_machine.specs.declared.compiled_machine.Machine.{Machine}
 use Rattle.cert_check.specs.CertificateData.{certificate_data}
 use Rattle.cert_check.specs.Scope.{IsInScope, IsOutsideBy}
@@ -23,7 +24,7 @@ use Rattle.qss_answers.specs.declared.refusal.Refusal.TheVariants as refusal
 
 -- the greatest length of a certificate, in bytes
 abbrev pub limit : ℕ
-limit = 2 ^ 18
+limit = certificate_length_limit
 
 -- the bytes are rejected as a certificate of the machine for this reason
 abbrev pub IsRefusal : Machine → List ℕ → Refusal → Type 0

@@ -1,7 +1,8 @@
 -- The result of `check` for a machine and the bytes of a trace.
-use Rattle.std.specs.Prelude.{◌≡◌, ℕ, ℤ, ◌^◌, ◌<◌, ◌≤◌, ◌⊎◌, List, [], ◌∷◌, length, codes}
+use Rattle.std.specs.Prelude.{◌≡◌, ℕ, ℤ, ◌<◌, ◌≤◌, ◌⊎◌, List, [], ◌∷◌, length, codes}
 use Rattle.std.specs.Prelude.{decimal}
 use Rattle.std.specs.List.{concat}
+use Rattle.mu_num.specs.Limits.{trace_length_limit}
 use Rattle.qss_machine.specs.declared.compiled_machine.Machine.{Machine}
 use Rattle.qss_machine.specs.Machines.{state_count}
 use Rattle.cert_check.specs.Scope.{IsInScope, IsOutsideBy}
@@ -19,7 +20,7 @@ use Rattle.qss_answers.specs.declared.refusal.Refusal.TheVariants as refusal
 
 -- the greatest length of a trace, in bytes
 abbrev pub limit : ℕ
-limit = 2 ^ 24
+limit = trace_length_limit
 
 -- the bytes parse as this trace of the machine
 pub record IsRead (m : Machine) (bytes : List ℕ) (t : Trace) : Type 0 where

@@ -10,6 +10,7 @@ ghost use Rattle.qss_cli.specs.Verbs as VerbSpec;
 ghost use Rattle.std.specs.Char.{is_ascii_digit};
 ghost use Rattle.std.specs.List.{list_all};
 ghost use Rattle.std.specs.Str.Parse.{digits_value};
+ghost use Rattle.mu_num.specs.Limits.{variable_limit, relative_limit};
 ghost use Rattle.qss_cli.specs.NumberWords as NumberSpec;
 
 use clap::error::ErrorKind;
@@ -60,7 +61,7 @@ pub(crate) fn has_no_arguments(matches: &ArgMatches<'_>) -> bool
 /// Returns a relative quantum in 4096ths: 1 to 4 digits, at most 2048.
 pub(crate) fn parse_share_argument(text: &[u8]) -> Option<u16>
     ensures value { result ≡ NumberSpec.share_in text.now }
-    ensures within { IfSome result (λ share. share ≤ 2048) }
+    ensures within { IfSome result (λ share. share ≤ relative_limit) }
 {
     let share = parse_number_argument(text, 4, 0, 2048)?;
     Some(share as u16)
@@ -78,7 +79,7 @@ pub(crate) fn parse_seed_argument(text: &[u8]) -> Option<u64>
 pub(crate) fn parse_cells_argument(text: &[u8]) -> Option<u32>
     ensures value { result ≡ NumberSpec.cells_in text.now }
     ensures least { IfSome result (λ cells. 1 ≤ cells) }
-    ensures most { IfSome result (λ cells. cells ≤ 4096) }
+    ensures most { IfSome result (λ cells. cells ≤ variable_limit) }
 {
     let cells = parse_number_argument(text, 4, 1, 4096)?;
     Some(cells as u32)

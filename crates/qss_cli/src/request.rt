@@ -1,6 +1,7 @@
 //! Requests: the valid commands of the command line.
 
 ghost use Rattle.std.specs.Prelude.{◌≤◌};
+ghost use Rattle.mu_num.specs.Limits.{variable_limit, relative_limit};
 ghost use Rattle.qss_cli.specs.RelativeQuanta.{share_of_task};
 
 use qss_quant::Rule;
@@ -12,7 +13,7 @@ pub struct Options<'a> {
     pub rule: Rule,
     pub only: Option<&'a str>,
     pub share: u16,
-    pub ghost within: { share ≤ 2048 },
+    pub ghost within: { share ≤ relative_limit },
 }
 
 /// The parameters of a generated model: a seed, and 1 to 4,096 cells.
@@ -21,7 +22,7 @@ pub struct Generation {
     pub seed: u64,
     pub cells: u32,
     pub ghost least: { 1 ≤ cells },
-    pub ghost most: { cells ≤ 4096 },
+    pub ghost most: { cells ≤ variable_limit },
 }
 
 /// A task with the machine of a model: write its run, propose a certificate, write its second-order
@@ -67,7 +68,7 @@ pub struct TwoFiles<'a> {
     pub task: TwoFileTask<'a>,
     pub model: &'a str,
     pub second: &'a str,
-    pub ghost within: { share_of_task task ≤ 2048 },
+    pub ghost within: { share_of_task task ≤ relative_limit },
 }
 
 /// A request: a task with a model, its canonical text, a task with a model and a certificate or

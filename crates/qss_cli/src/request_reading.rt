@@ -1,6 +1,7 @@
 //! Converts the parsed arguments to a request. Each verb has its own operands and its own options.
 
 ghost use Rattle.std.specs.Prelude.{◌≡◌, ◌≤◌, Some, map, option_map, IfOk, IfSome};
+ghost use Rattle.mu_num.specs.Limits.{relative_limit};
 ghost use Rattle.clap.specs.Words.{found_of, rows_of};
 ghost use Rattle.qss_cli.specs.Commands as Spec;
 ghost use Rattle.qss_cli.specs.Requests.{command_in, command_on, command_with, options_in, side_in};
@@ -111,7 +112,7 @@ fn requested_rule(name: &str) -> Option<Rule>
 // Returns the relative quantum, or 0 if none is given.
 fn requested_share(matches: &ArgMatches<'_>) -> Option<u16>
     ensures given { result ≡ Spec.share_given (rows_of (found_of matches.now)) }
-    ensures within { IfSome result (λ share. share ≤ 2048) }
+    ensures within { IfSome result (λ share. share ≤ relative_limit) }
 {
     match argument_value(matches, "relative") {
         Some(digits) => parse_share_argument(digits.as_bytes()),
@@ -132,7 +133,7 @@ fn print_request<'a>(words: &[&'a str]) -> Option<Request<'a>>
 
 // Returns a task with two files: the operands are the model, and a certificate or a trace.
 fn two_files<'a>(words: &[&'a str], task: TwoFileTask<'a>) -> Option<Request<'a>>
-    requires { share_of_task task ≤ 2048 }
+    requires { share_of_task task ≤ relative_limit }
     ensures { option_map command_in result
         ≡ Spec.of_two (λ model second. Some (command_on task.entry model second))
         (map (λ word. word.now) words.now) }

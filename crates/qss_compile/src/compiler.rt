@@ -1,7 +1,8 @@
 //! The phases of the compiler, from the bytes of a source to its machine. The error is that of the
 //! first phase that rejects the source.
 
-ghost use Rattle.std.specs.Prelude.{◌≡◌, ◌≤◌, ◌^◌, length, map, IfOk, IfErr};
+ghost use Rattle.std.specs.Prelude.{◌≡◌, ◌≤◌, length, map, IfOk, IfErr};
+ghost use Rattle.mu_num.specs.Limits.{model_length_limit};
 ghost use Rattle.mu_causal.specs.Dependencies.{IsNumbered};
 ghost use Rattle.mu_tree.specs.FlatExpression.{flat_model};
 ghost use Rattle.mu_tree.specs.FlatModels.{IsFlatModel};
@@ -35,7 +36,7 @@ pub struct Flat {
 /// source has at most 2^20 bytes.
 #[tactic(none)]
 pub fn compile(alloc: Global, source: &[u8]) -> Result<Machine, Refused>
-    requires { length source.now ≤ 2 ^ 20 }
+    requires { length source.now ≤ model_length_limit }
     ensures means { IfOk result (Spec.CompilesTo source.now) }
     ensures refused { IfErr result (Spec.IsErr (Spec.IsRefused source.now)) }
 {
@@ -48,7 +49,7 @@ pub fn compile(alloc: Global, source: &[u8]) -> Result<Machine, Refused>
 
 /// Parses a source as a model. The error is that of the lexer or the parser.
 pub fn compile_source_to_tree(alloc: Global, source: &[u8]) -> Result<Model, ModelErr>
-    requires { length source.now ≤ 2 ^ 20 }
+    requires { length source.now ≤ model_length_limit }
     ensures spelled { IfOk result (λ tree. Spec.SourceParsesAs source.now (model tree)) }
     ensures refused { IfErr result
         (λ e. Spec.IsErr (Spec.IsParseRefusal source.now) (without_names e)) }

@@ -6,8 +6,9 @@ use Rattle.std.proofs.lemmas.Int.{ints}
 use Rattle.std.specs.Prelude.{Option, Some, None, MatchBool}
 use Rattle.mu_num.specs.Levels.{IsWithinOneLevel}
 use Rattle.mu_num.specs.Sizes.{IsWithin}
-use Rattle.mu_num.specs.Ticks.{FirstAfter, IsFirstAfter, tick_limit}
+use Rattle.mu_num.specs.Ticks.{FirstAfter, IsFirstAfter}
 use Rattle.mu_num.proofs.Tests.{int_lt-true, int_lt-false, int_lt-yes, int_lt-no}
+use Rattle.mu_num.specs.Limits.{tick_limit}
 use Rattle.qss_machine.specs.declared.compiled_machine.Machine.{Machine}
 use Rattle.qss_machine.specs.Machines.{state_count, level_unit, quantum_of}
 use Rattle.qss_machine.specs.Ticks.{is_within_quantum, IsNextLevel}

@@ -10,7 +10,7 @@ use Rattle.std.proofs.lemmas.List.{length-map}
 use Rattle.std.proofs.lemmas.List.FromFn.{length-map-range_with_len}
 use Rattle.std.proofs.Math.IntN.{zero-*ℤ}
 use Rattle.std.specs.Prelude.{Option, Some, None, MatchBool, nat_lt, if◌then◌else◌}
-use Rattle.mu_num.specs.Ticks.{FirstAfter, tick_limit}
+use Rattle.mu_num.specs.Ticks.{FirstAfter}
 use Rattle.mu_num.proofs.Tests.{if-true, if-false}
 use Rattle.qss_machine.specs.declared.machine_parts.Entry.{Entry}
 use Rattle.qss_machine.specs.declared.machine_parts.Condition.{Condition}
@@ -30,6 +30,7 @@ use Rattle.qss_events.specs.EventFreeTicks.{snapshot_after}
 use Rattle.qss_events.specs.Schedules.{slopes_of, condition_at, IsLineOf, IsDue, IsDetectorOf}
 use Rattle.qss_events.specs.Schedules.{IsChange, LeavesAt}
 use Rattle.mu_num.proofs.Tables.{int_at-tabulate, tabulate-same}
+use Rattle.mu_num.specs.Limits.{tick_limit}
 use Rattle.qss_events.proofs.Silence.{from_later, same_flag}
 use Rattle.qss_components.specs.declared.crossing_model.Input.{Input}
 use Rattle.qss_components.specs.Integrators.{IsLineNext}

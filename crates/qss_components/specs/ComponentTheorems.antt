@@ -2,14 +2,13 @@
 use Rattle.std.specs.Prelude.{◌≡◌, ◌≢◌, ℕ, ◌+◌, ◌-◌, ◌<◌, ◌≤◌, Bool, false, ◌||◌, ◌==◌, slice_set}
 use Rattle.std.specs.Prelude.{List, [], fold, length, ℤ, pos, ◌+ℤ◌, ◌*ℤ◌, Option, Some, None}
 use Rattle.std.specs.Prelude.{position, if◌then◌else◌}
-use Rattle.mu_num.specs.Sizes.{IsWithin}
-use Rattle.mu_num.specs.Ticks.{tick_limit}
 use Rattle.qss_machine.specs.declared.machine_parts.Condition.{Condition}
 use Rattle.qss_machine.specs.declared.machine_parts.Row.{Row}
 use Rattle.qss_machine.specs.declared.machine_parts.RowKind.{RowKind}
 use Rattle.qss_machine.specs.declared.machine_parts.RowKind.TheVariants as kind
 use Rattle.qss_machine.specs.declared.compiled_machine.Machine.{Machine}
 use Rattle.mu_num.specs.IndexedSums.{int_at, tabulate}
+use Rattle.mu_num.specs.Limits.{tick_limit, IsSlope}
 use Rattle.qss_machine.specs.Machines.{state_count, discrete_count, row_at, truth}
 use Rattle.qss_machine.specs.Handlers.{conditions, truths, run_clauses}
 use Rattle.qss_machine.specs.Ticks.{Snapshot, exceeds_row_limits}
@@ -129,7 +128,7 @@ SettledStand =
     (m : Machine) (tick : ℕ) (w : Snapshot) (slopes : List ℤ) (line : ℕ → Line) (s : ℕ → FunctionState) (c : ℕ → Crossing) →
     HasEach m (record { states = w.states; slopes = slopes; levels = w.levels; discretes = w.discretes }) →
     Agree m tick (record { states = w.states; slopes = slopes; levels = w.levels; discretes = w.discretes }) line s c →
-    ((j : ℕ) → j < state_count m → (s j).changed ≡ None) → ((j : ℕ) → j < state_count m → IsWithin 88 (int_at slopes j)) →
+    ((j : ℕ) → j < state_count m → (s j).changed ≡ None) → ((j : ℕ) → j < state_count m → IsSlope (int_at slopes j)) →
     ComponentsRepresent m tick w line s c × (position (exceeds_row_limits m w.levels w.discretes) m.rows ≡ None)
 
 -- components that represent a snapshot represent the moved snapshot some ticks later

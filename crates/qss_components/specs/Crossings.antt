@@ -1,12 +1,12 @@
 -- A crossing: the form of a condition along the lines of its variables, and its transitions.
 use Rattle.std.specs.Prelude.{◌≡◌, ℕ, ◌+◌, ◌-◌, ◌*◌, ◌^◌, ◌<◌, ◌≤◌, ◌||◌, ◌==◌, ◌⊎◌, List, map, ℤ}
 use Rattle.std.specs.Prelude.{pos, ◌+ℤ◌, ◌*ℤ◌, All, Option, if◌then◌else◌}
-use Rattle.mu_num.specs.Sizes.{IsWithin}
 use Rattle.qss_machine.specs.declared.machine_parts.Entry.{Entry}
 use Rattle.qss_machine.specs.declared.compiled_machine.Machine.{Machine}
 use Rattle.qss_machine.specs.MachineLimits.{IsBounded}
 use Rattle.qss_machine.specs.Machines.{state_count, discrete_count, level_unit, compares}
 use Rattle.mu_num.specs.IndexedSums.{sum_over}
+use Rattle.mu_num.specs.Limits.{IsState, IsSlope}
 use Rattle.qss_cross.specs.Crossing.{DetectorView, value_at}
 use Rattle.qss_events.specs.Schedules.{IsChange}
 use Rattle.qss_components.specs.declared.crossing_model.Input.{Input}
@@ -76,13 +76,13 @@ crossing_after_message m c tick message =
 
 -- each state of the form is within its limit at a tick
 abbrev pub AreSmallAt : Machine → List Input → ℕ → Type 0
-AreSmallAt m inputs tick = All (λ i. i.var < state_count m → IsWithin 88 (input_at tick i)) inputs
+AreSmallAt m inputs tick = All (λ i. i.var < state_count m → IsState (input_at tick i)) inputs
 
 -- an input within its limits, whose line starts at or before a tick
 pub record IsInput (now : ℕ) (i : Input) : Type 0 where
   pub not_later : i.tick ≤ now
-  pub small : IsWithin 88 i.at
-  pub slow : IsWithin 88 i.speed
+  pub small : IsState i.at
+  pub slow : IsSlope i.speed
 
 -- the line of a discrete variable is constant; states come first
 abbrev pub StaysIfDiscrete : ℕ → Input → Type 0

@@ -1,9 +1,9 @@
 -- The inputs of a function: the variables that its row reads, with their current values.
 use Rattle.std.specs.Prelude.{◌≡◌, ℕ, ◌+◌, ◌<◌, List, map, ℤ, pos, All, ◌==◌, if◌then◌else◌}
 use Rattle.std.specs.List.Sorted.{IsStrictlyIncreasing}
-use Rattle.mu_num.specs.Sizes.{IsWithin}
 use Rattle.mu_num.specs.IndexedSums.{tabulate, sum_over}
 use Rattle.mu_num.specs.ListedPlaces.{is_listed}
+use Rattle.mu_num.specs.Limits.{IsLevel}
 use Rattle.qss_machine.specs.declared.compiled_machine.Machine.{Machine}
 use Rattle.qss_machine.specs.Machines.{state_count, discrete_count, row_at, row_coefficient}
 use Rattle.qss_machine.specs.Readers.{row_reads}
@@ -28,7 +28,7 @@ input_discretes m inputs = tabulate (discrete_count m) (λ g. input_value inputs
 -- values within the limits, one for each variable, sorted by variable
 pub record AreValued (inputs : List FunctionInput) : Type 0 where
   pub rising : IsStrictlyIncreasing (input_vars inputs)
-  pub small : All (λ input. IsWithin 43 input.value) inputs
+  pub small : All (λ input. IsLevel input.value) inputs
 
 -- the inputs of a row: exactly the variables that it reads, with their coefficients
 pub record AreInputs (m : Machine) (row : ℕ) (inputs : List FunctionInput) : Type 0 where

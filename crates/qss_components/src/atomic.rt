@@ -10,7 +10,7 @@ ghost use Rattle.qss_components.specs.declared.atomic.Transition.TheVariants.{Re
 ghost use Rattle.qss_components.specs.declared.atomic.Transition.TheVariants.{Sends};
 ghost use Rattle.qss_components.specs.ComponentPlaces.{EachAt};
 
-use mu_num::exceeds_power_of_two;
+use mu_num::{LEVEL_BITS, SLOPE_BITS, exceeds_power_of_two};
 
 /// An atomic model (Zeigler, Praehofer and Kim, Theory of Modeling and Simulation). It sends a
 /// message with each internal transition, and changes by an external transition when it receives
@@ -162,8 +162,8 @@ fn is_atomic_past_limit(msg: Message) -> bool
     ensures { result ≡ passes_limit msg }
 {
     match msg {
-        Message::Slope { slope, .. } => exceeds_power_of_two(slope, 88),
-        Message::Level { level, .. } => exceeds_power_of_two(level, 43),
+        Message::Slope { slope, .. } => exceeds_power_of_two(slope, SLOPE_BITS),
+        Message::Level { level, .. } => exceeds_power_of_two(level, LEVEL_BITS),
         Message::State { .. } | Message::Discrete { .. } | Message::Truth { .. } => false,
     }
 }

@@ -11,6 +11,7 @@ ghost use Rattle.qss_components.specs.Crossings.{IsCrossingNext, input_at, input
 ghost use Rattle.qss_components.specs.Crossings.{form_at, speed_by, IsInput, StaysIfDiscrete};
 ghost use Rattle.qss_components.specs.Crossings.{AreParts, entry_of};
 ghost use Rattle.mu_num.specs.IndexedSums.{sum_over};
+ghost use Rattle.mu_num.specs.Limits.{tick_limit, IsState, IsSlope};
 
 use crate::atomic::{Atomic, Message};
 use qss_cross::Detector;
@@ -126,7 +127,7 @@ fn crossing_detector_at_change(detector: &Detector, tick: u64) -> Detector
 // Updates all inputs by a message.
 fn update_crossing_inputs(m: &Machine, inputs: &mut [Input], tick: u64, msg: Message)
     requires lines { All (IsInput tick) inputs.old }
-    requires tick_limit { tick < 2 ^ 32 }
+    requires tick_limit { tick < tick_limit }
     requires message { IsMessage m.now msg }
     ensures { inputs.new ≡ map (input_after_message m.now tick msg) inputs.old }
 {
@@ -138,7 +139,7 @@ fn update_crossing_inputs(m: &Machine, inputs: &mut [Input], tick: u64, msg: Mes
 // An input after a message.
 fn crossing_input_after_message(m: &Machine, input: Input, tick: u64, msg: Message) -> Input
     requires line { IsInput tick input }
-    requires tick_limit { tick < 2 ^ 32 }
+    requires tick_limit { tick < tick_limit }
     requires message { IsMessage m.now msg }
     ensures { result ≡ input_after_message m.now tick msg input }
 {
@@ -183,7 +184,7 @@ fn begin_crossing_input(input: Input, tick: u64, at: i128, speed: i128) -> Input
 /// The value of an input at a tick.
 pub(crate) fn crossing_input_at(input: Input, tick: u64) -> i128
     requires line { IsInput tick input }
-    requires tick_limit { tick < 2 ^ 32 }
+    requires tick_limit { tick < tick_limit }
     ensures { result ≡ input_at tick input }
 {
     input.at + i128::from(tick - input.tick) * input.speed
@@ -209,8 +210,8 @@ pub fn crossing_detector_of(
 ) -> Detector
     requires parts { AreParts inputs.now time gamma }
     requires lines { All (IsInput tick) inputs.now }
-    requires size_limit { All (λ i. IsWithin 88 (input_at tick i)) inputs.now }
-    requires tick_limit { tick < 2 ^ 32 }
+    requires size_limit { All (λ i. IsState (input_at tick i)) inputs.now }
+    requires tick_limit { tick < tick_limit }
     ensures { result ≡ record {
       rel = detector.now.rel;
       tick = tick;
@@ -238,8 +239,8 @@ pub(crate) fn crossing_form_at(
 ) -> i128
     requires parts { AreParts inputs.now time gamma }
     requires lines { All (IsInput tick) inputs.now }
-    requires size_limit { All (λ i. IsWithin 88 (input_at tick i)) inputs.now }
-    requires tick_limit { tick < 2 ^ 32 }
+    requires size_limit { All (λ i. IsState (input_at tick i)) inputs.now }
+    requires tick_limit { tick < tick_limit }
     ensures value { result ≡ form_at m.now inputs.now time gamma tick }
     ensures bound { IsSmall result }
 {
@@ -253,8 +254,8 @@ pub(crate) fn crossing_form_at(
 fn crossing_value_sum(inputs: &[Input], tick: u64) -> i128
     requires coefficients { sum_by (λ i. unsigned_abs i.coef) inputs.now ≤ 2 ^ 38 }
     requires lines { All (IsInput tick) inputs.now }
-    requires tick_limit { tick < 2 ^ 32 }
-    requires size_limit { All (λ i. IsWithin 88 (input_at tick i)) inputs.now }
+    requires tick_limit { tick < tick_limit }
+    requires size_limit { All (λ i. IsState (input_at tick i)) inputs.now }
     ensures value { result ≡ sum_over (λ i. i.coef *ℤ input_at tick i) inputs.now }
     ensures bound { unsigned_abs result ≤ sum_by (λ i. unsigned_abs i.coef) inputs.now * 2 ^ 88 }
 {
@@ -269,8 +270,8 @@ fn crossing_value_sum(inputs: &[Input], tick: u64) -> i128
 fn crossing_value_part(input: Input, tick: u64) -> i128
     requires coef { IsWithin 38 input.coef }
     requires line { IsInput tick input }
-    requires tick_limit { tick < 2 ^ 32 }
-    requires size_limit { IsWithin 88 (input_at tick input) }
+    requires tick_limit { tick < tick_limit }
+    requires size_limit { IsState (input_at tick input) }
     ensures value { result ≡ input.coef *ℤ input_at tick input }
     ensures bound { unsigned_abs result ≤ unsigned_abs input.coef * 2 ^ 88 }
 {
@@ -281,7 +282,7 @@ fn crossing_value_part(input: Input, tick: u64) -> i128
 pub(crate) fn crossing_speed_by(m: &Machine, inputs: &[Input], time: i64) -> i128
     requires parts { sum_by (λ entry. unsigned_abs entry.coef) (map entry_of inputs.now)
         + unsigned_abs time ≤ 2 ^ 38 }
-    requires slow { All (λ i. IsWithin 88 i.speed) inputs.now }
+    requires slow { All (λ i. IsSlope i.speed) inputs.now }
     ensures value { result ≡ speed_by m.now inputs.now time }
     ensures bound { IsSmall result }
 {
@@ -293,7 +294,7 @@ pub(crate) fn crossing_speed_by(m: &Machine, inputs: &[Input], time: i64) -> i12
 // The sum of all coefficients times the increments of the inputs per tick.
 fn crossing_speed_sum(inputs: &[Input]) -> i128
     requires coefficients { sum_by (λ i. unsigned_abs i.coef) inputs.now ≤ 2 ^ 38 }
-    requires slow { All (λ i. IsWithin 88 i.speed) inputs.now }
+    requires slow { All (λ i. IsSlope i.speed) inputs.now }
     ensures value { result ≡ sum_over (λ i. i.coef *ℤ i.speed) inputs.now }
     ensures bound { unsigned_abs result ≤ sum_by (λ i. unsigned_abs i.coef) inputs.now * 2 ^ 88 }
 {
@@ -307,7 +308,7 @@ fn crossing_speed_sum(inputs: &[Input]) -> i128
 // The coefficient of an input times its increment per tick.
 fn crossing_speed_part(input: Input) -> i128
     requires coef { IsWithin 38 input.coef }
-    requires slow { IsWithin 88 input.speed }
+    requires slow { IsSlope input.speed }
     ensures value { result ≡ input.coef *ℤ input.speed }
     ensures bound { unsigned_abs result ≤ unsigned_abs input.coef * 2 ^ 88 }
 {

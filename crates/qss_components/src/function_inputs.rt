@@ -2,7 +2,7 @@
 
 ghost use Rattle.std.specs.Prelude.{◌≡◌, ◌≢◌, ◌<◌, ℕ, length, All, slice_index_or, MatchOption};
 ghost use Rattle.std.specs.Prelude.{◌&&◌, ◌==◌, if◌then◌else◌};
-ghost use Rattle.mu_num.specs.Sizes.{IsWithin};
+ghost use Rattle.mu_num.specs.Limits.{IsLevel};
 ghost use Rattle.qss_machine.specs.Machines.{row_at};
 ghost use Rattle.qss_machine.specs.Readers.{row_reads};
 ghost use Rattle.qss_components.specs.Messages.{IsMessage};
@@ -45,7 +45,7 @@ pub(crate) fn receive_input(m: &Machine, row: u32, inputs: &mut [FunctionInput],
 pub(crate) fn value_of_input(inputs: &[FunctionInput], var: u32) -> i64
     requires { AreValued inputs.now }
     ensures value { result ≡ input_value inputs.now var }
-    ensures bound { IsWithin 43 result }
+    ensures bound { IsLevel result }
 {
     match find_input_place(inputs, var) {
         Some(place) => inputs[place].value,
@@ -56,7 +56,7 @@ pub(crate) fn value_of_input(inputs: &[FunctionInput], var: u32) -> i64
 // Sets the value of a variable, if the row reads it.
 fn set_input_value(m: &Machine, row: u32, inputs: &mut [FunctionInput], var: u32, value: i64)
     requires inputs { AreInputs m.now row inputs.old }
-    requires value { IsWithin 43 value }
+    requires value { IsLevel value }
     ensures inputs { AreInputs m.now row inputs.new }
     ensures values { (i : ℕ) → input_value inputs.new i
         ≡ (if row_reads var (row_at m.now row) && i == var then value

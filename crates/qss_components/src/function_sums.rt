@@ -6,6 +6,7 @@ ghost use Rattle.std.specs.Prelude.{unsigned_abs};
 ghost use Rattle.mu_num.specs.Sizes.{IsWithin};
 ghost use Rattle.mu_num.specs.Rounding.{nearest_of};
 ghost use Rattle.mu_num.specs.IndexedSums.{int_at};
+ghost use Rattle.mu_num.specs.Limits.{IsLevel};
 ghost use Rattle.qss_machine.specs.Machines.{state_count, discrete_count};
 ghost use Rattle.qss_machine.specs.MachineLimits.{AreProducts, IsRow};
 ghost use Rattle.qss_machine.specs.Slopes.{products_of, mode_coefficient, coefficient_of};
@@ -14,7 +15,7 @@ ghost use Rattle.qss_components.specs.FunctionInputs.{input_value, input_levels,
 ghost use Rattle.qss_components.specs.FunctionInputs.{AreValued, AreInputs};
 
 use crate::function_inputs::{FunctionInput, value_of_input};
-use mu_num::{exceeds_power_of_two, near_div, unit};
+use mu_num::{WEIGHT_BITS, exceeds_power_of_two, near_div, unit};
 use qss_machine::{Machine, Product, SlopeRow, slope_term};
 
 /// One more than the greatest slope.
@@ -40,7 +41,7 @@ pub(crate) fn slope_at_inputs(m: &Machine, row: u32, inputs: &[FunctionInput]) -
         slope += term;
         weight += term.abs();
     }
-    if exceeds_power_of_two(weight + right_side.beta.abs(), 88) {
+    if exceeds_power_of_two(weight + right_side.beta.abs(), WEIGHT_BITS) {
         PAST_SLOPES
     } else {
         slope + right_side.beta
@@ -125,7 +126,7 @@ fn function_product_term(product: Product, inputs: &[FunctionInput]) -> i128
 // A mode coefficient times a level, or a coefficient times a discrete value.
 fn function_mode_term(mode: i128, value: i64) -> i128
     requires mode { IsWithin 44 mode }
-    requires value { IsWithin 43 value }
+    requires value { IsLevel value }
     ensures value { result ≡ mode *ℤ value }
     ensures bound { unsigned_abs result ≤ 2 ^ 87 }
 {

@@ -4,6 +4,7 @@
 ghost use Rattle.std.specs.Prelude.{◌≡◌, ◌<◌, ◌≤◌, ℕ, Option, Some, pos, ◌-ℤ◌, ◌*ℤ◌, unsigned_abs, int_lt};
 ghost use Rattle.mu_num.specs.Sizes.{IsWithin, IsPositiveWithin};
 ghost use Rattle.mu_num.specs.Levels.{IsWithinOneLevel};
+ghost use Rattle.mu_num.specs.Limits.{IsLevel, IsQuantum, IsState, IsSlope};
 ghost use Rattle.qss_machine.specs.Machines.{state_count, level_unit};
 ghost use Rattle.qss_machine.specs.Ticks.{is_within_quantum};
 ghost use Rattle.qss_quant.specs.IntegratorLines.{state_at};
@@ -77,7 +78,7 @@ impl IntegratorModel {
         requires next { IsLineNext self.now.machine.value self.now.var self.now.line (Some tick) }
         requires close { IsWithinOneLevel (level_unit self.now.machine.value) (state_at self.now.line tick)
             self.now.line.level level }
-        requires size_limit { IsWithin 43 level }
+        requires size_limit { IsLevel level }
         ensures taken { result ≡ record {
           tick = tick;
           x = state_at self.now.line tick;
@@ -158,7 +159,7 @@ impl Atomic for IntegratorModel {
 
 // The line with another slope.
 fn line_with_slope(line: Integrator, slope: i128) -> Integrator
-    requires { IsWithin 88 slope }
+    requires { IsSlope slope }
     ensures { result ≡ record line { slope = slope } }
 {
     Integrator { slope, ..line }
@@ -166,7 +167,7 @@ fn line_with_slope(line: Integrator, slope: i128) -> Integrator
 
 // The line with another state.
 fn line_with_state(line: Integrator, state: i128) -> Integrator
-    requires { IsWithin 88 state }
+    requires { IsState state }
     ensures { result ≡ record line { x = state } }
 {
     Integrator { x: state, ..line }
@@ -189,7 +190,7 @@ fn next_transition_tick(m: &Machine, var: u32, line: &Integrator) -> Option<u64>
 fn is_inside_own_quantum(m: &Machine, var: u32, x: i128, level: i64) -> bool
     requires known { var < state_count m.now }
     requires state { IsWithin 89 x }
-    requires level { IsWithin 43 level }
+    requires level { IsLevel level }
     ensures { result ≡ is_within_quantum m.now var x level }
 {
     is_inside_quantum(x, level, m.quantum_at(var, level), m.level_unit())
@@ -198,8 +199,8 @@ fn is_inside_own_quantum(m: &Machine, var: u32, x: i128, level: i64) -> bool
 // Whether a state is less than `quantum` levels away from a level.
 fn is_inside_quantum(x: i128, level: i64, quantum: i64, unit: i128) -> bool
     requires state { IsWithin 89 x }
-    requires level { IsWithin 43 level }
-    requires quantum { IsPositiveWithin 43 quantum }
+    requires level { IsLevel level }
+    requires quantum { IsQuantum quantum }
     requires unit { IsPositiveWithin 44 unit }
     ensures { result ≡ int_lt (pos (unsigned_abs (x -ℤ unit *ℤ level))) (unit *ℤ quantum) }
 {

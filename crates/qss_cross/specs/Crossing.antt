@@ -1,6 +1,6 @@
 -- Defines zero-crossing detectors: values that change at a constant speed and are compared with 0.
 use Rattle.std.specs.Prelude.{◌≡◌, ◌≢◌, ℕ, ◌-◌, ◌<◌, ◌≤◌, ◌^◌, Bool, ℤ, pos, ◌+ℤ◌, ◌*ℤ◌, unsigned_abs}
-use Rattle.mu_num.specs.Ticks.{tick_limit}
+use Rattle.mu_num.specs.Limits.{tick_limit}
 use Rattle.qss_machine.specs.declared.machine_parts.Rel.{Rel}
 use Rattle.qss_machine.specs.declared.machine_parts.Rel.TheVariants.{Less, LessEq, Greater, GreaterEq}
 use Rattle.qss_machine.specs.Machines.{compares}

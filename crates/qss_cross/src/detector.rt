@@ -2,7 +2,8 @@
 //! computes the next tick at which the truth of the comparison changes.
 
 ghost use Rattle.std.specs.Prelude.{◌≡◌, ◌≢◌, ◌^◌, ◌≤◌, pos, ◌+ℤ◌, ◌*ℤ◌, ◌≤ℤ◌, int_le};
-ghost use Rattle.mu_num.specs.Ticks.{FirstAfter, tick_limit};
+ghost use Rattle.mu_num.specs.Ticks.{FirstAfter};
+ghost use Rattle.mu_num.specs.Limits.{tick_limit};
 ghost use Rattle.std.specs.Int.{w128, int_wrap};
 ghost use Rattle.qss_cross.specs.Crossing.{IsSmall, bound_of, CrossesOnce};
 
@@ -34,7 +35,7 @@ impl Model for Detector {
 
 impl Detector {
     ghost use Rattle.std.specs.Prelude.{◌≡◌, ◌≢◌, ◌≤◌, ◌^◌};
-    ghost use Rattle.mu_num.specs.Ticks.{FirstAfter, tick_limit};
+    ghost use Rattle.mu_num.specs.Ticks.{FirstAfter};
     ghost use Rattle.qss_machine.specs.Machines.{compares};
     ghost use Rattle.qss_cross.specs.Crossing.{IsSmall, value_at, holds_at};
 

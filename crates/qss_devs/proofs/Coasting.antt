@@ -5,7 +5,6 @@ use Rattle.std.proofs.Common.{Vec, Global}
 use Rattle.std.proofs.lemmas.List.{length-map}
 use Rattle.std.proofs.lemmas.List.FromFn.{length-map-range_with_len}
 use Rattle.std.specs.Prelude.{Option, Some}
-use Rattle.mu_num.specs.Ticks.{tick_limit}
 use Rattle.qss_machine.specs.declared.compiled_machine.Machine.{Machine}
 use Rattle.mu_num.specs.IndexedSums.{int_at}
 use Rattle.qss_machine.specs.Machines.{state_count, slope_at}
@@ -18,6 +17,7 @@ use Rattle.qss_events.specs.Schedules.{IsScheduleOf, HasNoEventBefore, no_line}
 use Rattle.qss_events.specs.EventFreeTicks.{states_after, snapshot_after}
 use Rattle.qss_events.proofs.Firsts.{same_lists}
 use Rattle.mu_num.proofs.Tables.{int_at-tabulate}
+use Rattle.mu_num.specs.Limits.{tick_limit}
 use Rattle.qss_events.proofs.Silence.{line_more, silence, stands_still}
 use Rattle.qss_events.proofs.Silences.{quiet_worlds, quiet_leads, arrived_then}
 use Rattle.qss_components.specs.declared.integrator_model.IntegratorModel.{IntegratorModel}

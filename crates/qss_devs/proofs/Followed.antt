@@ -6,7 +6,6 @@ use Rattle.std.proofs.lemmas.List.FromFn.{length-map-range_with_len}
 use Rattle.std.specs.Option.{option_or}
 use Rattle.std.specs.Prelude.{Option, Some, None, Result, Ok, Err, position}
 use Rattle.mu_num.specs.Sizes.{IsWithin}
-use Rattle.mu_num.specs.Ticks.{tick_limit}
 use Rattle.qss_machine.specs.declared.machine_parts.Condition.{Condition}
 use Rattle.qss_machine.specs.declared.machine_parts.Rel.TheVariants.{Less}
 use Rattle.qss_machine.specs.declared.compiled_machine.Machine.{Machine}
@@ -22,6 +21,7 @@ use Rattle.qss_events.specs.Schedules.{slopes_of, no_line}
 use Rattle.qss_events.specs.EventFreeTicks.{MayFollowTick}
 use Rattle.qss_events.proofs.Firsts.{same_lists}
 use Rattle.mu_num.proofs.Tables.{int_at-tabulate}
+use Rattle.mu_num.specs.Limits.{tick_limit}
 use Rattle.qss_events.proofs.LightRows.{row_is_light}
 use Rattle.qss_components.specs.declared.crossing_model.CrossingModel.{CrossingModel}
 use Rattle.qss_components.specs.declared.integrator_model.IntegratorModel.{IntegratorModel}

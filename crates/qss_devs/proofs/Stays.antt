@@ -2,7 +2,8 @@
 use Rattle.std.proofs.Common.{◌≡◌, ◌≢◌, ℕ, zero, suc, ◌+◌, ◌-◌, ◌≤◌, ◌<◌, inl, inr, ◌∙◌, ap, arith}
 use Rattle.std.proofs.lemmas.Bool.{cases_lt}
 use Rattle.std.specs.Prelude.{Some}
-use Rattle.mu_num.specs.Ticks.{IsFirstAfter, tick_limit}
+use Rattle.mu_num.specs.Ticks.{IsFirstAfter}
+use Rattle.mu_num.specs.Limits.{tick_limit}
 use Rattle.qss_machine.specs.Machines.{compares}
 use Rattle.qss_cross.specs.Crossing.{DetectorView, holds_at}
 use Rattle.qss_events.proofs.Silence.{same_flag}

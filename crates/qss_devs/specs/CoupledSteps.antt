@@ -3,12 +3,13 @@ use Rattle.std.specs.Prelude.{◌≡◌, ℕ, zero, suc, ◌<◌, ◌++◌, true
 use Rattle.std.specs.Prelude.{slice_set, flat_map, Option, Some, None, position, if◌then◌else◌}
 use Rattle.std.specs.List.{range_with_len}
 use Rattle.std.specs.Ordering.{int_eq}
-use Rattle.mu_num.specs.Sizes.{IsWithin, exceeds}
+use Rattle.mu_num.specs.Sizes.{exceeds}
 use Rattle.qss_machine.specs.declared.machine_parts.Row.{Row}
 use Rattle.qss_machine.specs.declared.machine_parts.RowKind.{RowKind}
 use Rattle.qss_machine.specs.declared.machine_parts.RowKind.TheVariants as kind
 use Rattle.qss_machine.specs.declared.compiled_machine.Machine.{Machine}
 use Rattle.mu_num.specs.IndexedSums.{int_at, tabulate, first_exceeding}
+use Rattle.mu_num.specs.Limits.{bits_of_level, IsLevel, IsSlope}
 use Rattle.qss_machine.specs.Machines.{state_count, level_unit, row_at, slope_at}
 use Rattle.qss_machine.specs.Ticks.{AreNextLevels, is_within_quantum, exceeds_row_limits}
 use Rattle.qss_machine.specs.Runs.{level_rows}
@@ -45,8 +46,8 @@ Agrees {X} {g} m tick v parts = Agree m tick v (line_at parts) (function_state_a
 -- values of each variable, with levels and slopes within their limits
 pub record AreValues (m : Machine) (v : Values) : Type 0 where
   pub each : HasEach m v
-  pub small : (j : ℕ) → j < state_count m → IsWithin 43 (int_at v.levels j)
-  pub slow : (j : ℕ) → j < state_count m → IsWithin 88 (int_at v.slopes j)
+  pub small : (j : ℕ) → j < state_count m → IsLevel (int_at v.levels j)
+  pub slow : (j : ℕ) → j < state_count m → IsSlope (int_at v.slopes j)
 
 -- the level of a state after the tick, under a named rule
 abbrev pub level_after : Machine → Rule → Values → ℕ → ℤ
@@ -70,7 +71,7 @@ leveled m rule v n = record v { levels = levels_upto m rule v n }
 -- the first n integrators made their transitions, and no level exceeds its limit
 pub record AreTakenUpTo {X : Type 0} {g : _} (m : Machine) (rule : Rule) (tick : ℕ) (v : Values) (n : ℕ) (parts : Components X g) (old new : List Row) : Type 0 where
   pub agree : Agrees m tick (leveled m rule v n) parts
-  pub small : (i : ℕ) → i < n → IsWithin 43 (level_after m rule v i)
+  pub small : (i : ℕ) → i < n → IsLevel (level_after m rule v i)
   pub rows : new ≡ old ++ flat_map (row_after m rule tick v) (range_with_len 0 n)
 
 -- the slopes after the transitions of the first n functions, and the values with these slopes
@@ -89,7 +90,7 @@ pub record AreSentUpTo {X : Type 0} {g : _} (m : Machine) (tick : ℕ) (v : Valu
 
 -- an integrator took its level and sent it, with a row if it changed, unless it exceeds its limit
 pub record IsLevelTaken {X : Type 0} {g : _} (m : Machine) (rule : Rule) (tick : ℕ) (v : Values) (j : ℕ) (parts : Components X g) (old new : List Row) (over : Option ℕ) : Type 0 where
-  pub own_over : over ≡ (if exceeds 43 (level_after m rule v j) then Some j else None)
+  pub own_over : over ≡ (if exceeds bits_of_level (level_after m rule v j) then Some j else None)
   pub agree : over ≡ None → Agrees m tick (record v { levels = slice_set v.levels j (level_after m rule v j) }) parts
   pub rows : over ≡ None → new ≡ old ++ row_after m rule tick v j
 
@@ -108,7 +109,7 @@ AreWithinQuanta m v = (j : ℕ) → j < state_count m → is_within_quantum m j 
 pub record AreTaken {X : Type 0} {g : _} (m : Machine) (name : Option Rule) (tick : ℕ) (v : Values) (parts : Components X g) (old new : List Row) (over : Option ℕ) : Type 0 where
   pub levels : List ℤ
   pub allowed : AreNextLevels (IsAllowedLevel name) m v.states v.levels levels
-  pub own_over : over ≡ first_exceeding 43 levels
+  pub own_over : over ≡ first_exceeding bits_of_level levels
   pub agree : over ≡ None → Agrees m tick (record v { levels = levels }) parts
   pub rows : over ≡ None → new ≡ old ++ level_rows tick v.levels levels v.states
 

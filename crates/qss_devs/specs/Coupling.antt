@@ -1,6 +1,7 @@
 -- The components of a machine by their numbers, and the ticks at which all may receive a message.
-use Rattle.std.specs.Prelude.{◌≡◌, ℕ, ◌^◌, ◌<◌, ◌≤◌, [], length, map, All, pos, Option, Some, None}
+use Rattle.std.specs.Prelude.{◌≡◌, ℕ, ◌<◌, ◌≤◌, [], length, map, All, pos, Option, Some, None}
 use Rattle.std.specs.Prelude.{slice_index_or}
+use Rattle.mu_num.specs.Limits.{tick_limit}
 use Rattle.qss_machine.specs.declared.compiled_machine.Machine.{Machine}
 use Rattle.qss_machine.specs.Machines.{state_count}
 use Rattle.qss_machine.specs.Handlers.{conditions}
@@ -74,7 +75,7 @@ pub record IsCrossingReady (m : Machine) (tick : ℕ) (c : Crossing) : Type 0 wh
 -- components that may receive messages at a tick: conditions were read there, and no level or sum
 -- is overdue
 pub record AreReady (m : Machine) (tick : ℕ) (line : ℕ → Line) (s : ℕ → FunctionState) (c : ℕ → Crossing) : Type 0 where
-  pub in_time : tick < 2 ^ 32
+  pub in_time : tick < tick_limit
   pub integrators : (j : ℕ) → j < state_count m → IsTimely (line j).tick (IsLineNext m j (line j)) tick
   pub functions : (j : ℕ) → j < state_count m → IsSummingReady tick (s j)
   pub crossings : (place : ℕ) → place < length (conditions m) → IsCrossingReady m tick (c place)

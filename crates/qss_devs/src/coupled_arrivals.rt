@@ -1,12 +1,13 @@
 //! The states and the truth values of conditions on arrival at a tick, and the truth values after
 //! the handlers of the tick.
 
-ghost use Rattle.std.specs.Prelude.{◌≡◌, ℕ, ◌<◌, ◌≤◌, ◌^◌, Bool, length, map, All, Some};
+ghost use Rattle.std.specs.Prelude.{◌≡◌, ℕ, ◌<◌, ◌≤◌, Bool, length, map, All, Some};
 ghost use Rattle.std.specs.Prelude.{slice_index_or};
 ghost use Rattle.qss_machine.specs.Machines.{compares};
 ghost use Rattle.mu_num.specs.IndexedSums.{int_at, first_exceeding};
 ghost use Rattle.qss_machine.specs.Handlers.{conditions};
 ghost use Rattle.mu_num.specs.ListedPlaces.{flag_at};
+ghost use Rattle.mu_num.specs.Limits.{variable_limit, tick_limit, bits_of_state};
 ghost use Rattle.qss_quant.specs.IntegratorLines.{state_at};
 ghost use Rattle.qss_cross.specs.Crossing.{holds_at};
 ghost use Rattle.qss_components.specs.Messages.{IsTimely};
@@ -21,7 +22,7 @@ ghost use Rattle.qss_devs.specs.CoupledEvents.{CrossingsLater};
 
 use crate::coupled_messages::Components;
 use crate::coupled_start::Truths;
-use mu_num::exceeds_power_of_two;
+use mu_num::{STATE_BITS, exceeds_power_of_two};
 use qss_components::{Atomic, CrossingModel, IntegratorModel, Message, is_due};
 use qss_machine::Machine;
 
@@ -31,15 +32,15 @@ pub(crate) fn compute_arrival_states(
     tick: u64,
     x: &mut [i128],
 ) -> Option<u32>
-    requires count_limit { length integrators.now ≤ 4096 }
+    requires count_limit { length integrators.now ≤ variable_limit }
     requires same_length { length x.old ≡ length integrators.now }
     requires not_later { All (λ i. i.line.tick ≤ tick) integrators.now }
-    requires tick_limit { tick < 2 ^ 32 }
+    requires tick_limit { tick < tick_limit }
     ensures states { x.new ≡ map (λ i. state_at i.line tick) integrators.now }
-    ensures overflow { result ≡ first_exceeding 88 (map (λ i. state_at i.line tick) integrators.now) }
+    ensures overflow { result ≡ first_exceeding bits_of_state (map (λ i. state_at i.line tick) integrators.now) }
 {
     fill_arrival_states(integrators, tick, x);
-    first_number_exceeding(x, 88)
+    first_number_exceeding(x, STATE_BITS)
 }
 
 #[tactic(none)]
@@ -52,7 +53,7 @@ pub(crate) fn read_crossings_on_arrival(
 )
     requires parts { AreComponents m.now parts.old }
     requires flags { length now.old ≡ length (conditions m.now) }
-    requires tick_limit { tick < 2 ^ 32 }
+    requires tick_limit { tick < tick_limit }
     requires timely { (place : ℕ) → place < length (conditions m.now)
         → IsTimely (crossing_at parts.old place).detector.tick
         (IsCrossingNext (crossing_at parts.old place).detector) tick }
@@ -93,7 +94,7 @@ pub(crate) fn settle_arrival_truths(crossings: &[CrossingModel], truths: &mut Tr
 fn fill_arrival_states(integrators: &[IntegratorModel], tick: u64, x: &mut [i128])
     requires same_length { length x.old ≡ length integrators.now }
     requires not_later { All (λ i. i.line.tick ≤ tick) integrators.now }
-    requires tick_limit { tick < 2 ^ 32 }
+    requires tick_limit { tick < tick_limit }
     ensures { x.new ≡ map (λ i. state_at i.line tick) integrators.now }
 {
     for j in 0..integrators.len() {
@@ -105,7 +106,7 @@ fn fill_arrival_states(integrators: &[IntegratorModel], tick: u64, x: &mut [i128
 fn state_of_line_at(integrators: &[IntegratorModel], j: usize, tick: u64) -> i128
     requires known { j < length integrators.now }
     requires not_later { All (λ i. i.line.tick ≤ tick) integrators.now }
-    requires tick_limit { tick < 2 ^ 32 }
+    requires tick_limit { tick < tick_limit }
     ensures { result ≡ int_at (map (λ i. state_at i.line tick) integrators.now) j }
 {
     integrators[j].line.value_at(tick)
@@ -113,7 +114,7 @@ fn state_of_line_at(integrators: &[IntegratorModel], j: usize, tick: u64) -> i12
 
 /// The least index of a number greater than 2^bits in absolute value.
 pub(crate) fn first_number_exceeding(numbers: &[i128], bits: u8) -> Option<u32>
-    requires count_limit { length numbers.now ≤ 4096 }
+    requires count_limit { length numbers.now ≤ variable_limit }
     requires bits { bits < 100 }
     ensures { result ≡ first_exceeding bits numbers.now }
 {

@@ -2,6 +2,7 @@
 
 ghost use Rattle.std.specs.Prelude.{◌≡◌, ◌+◌, ◌<◌, ◌≤◌, [], length, All, position};
 ghost use Rattle.mu_num.specs.ListedPlaces.{flag_at};
+ghost use Rattle.mu_num.specs.Limits.{condition_limit};
 ghost use Rattle.qss_machine.specs.Handlers.{conditions, firing_flags, run_first_due, run_clauses};
 ghost use Rattle.qss_hand.specs.Rooms.{clause_room};
 ghost use Rattle.qss_hand.specs.Works.{AreValuesOf, handling_of, values_after, overflow_of};
@@ -103,7 +104,7 @@ fn fire_coupled_branch(
 ) -> Result<(), Over>
     requires clause { clause < length m.now.clauses }
     requires inside { first + length (clause_at m.now clause).branches ≤ length now.now }
-    requires count_limit { length now.now ≤ 16384 }
+    requires count_limit { length now.now ≤ condition_limit }
     requires at_arrival { length at_arrival.now ≡ length now.now }
     requires after_handlers { length after_handlers.now ≡ length now.now }
     requires fits { AreValuesOf m.now w.old }
@@ -134,7 +135,7 @@ fn first_due_coupled_branch(
     count: usize,
 ) -> Option<u32>
     requires inside { first + count ≤ length now.now }
-    requires count_limit { length now.now ≤ 16384 }
+    requires count_limit { length now.now ≤ condition_limit }
     requires at_arrival { length at_arrival.now ≡ length now.now }
     requires after_handlers { length after_handlers.now ≡ length now.now }
     ensures { result ≡ position (λ flag. flag)

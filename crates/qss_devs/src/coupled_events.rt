@@ -1,9 +1,10 @@
 //! Steps a coupled model from one event to the next: event-free ticks, and then one tick that may
 //! have an event. It also adds the rows at the start and at the end.
 
-ghost use Rattle.std.specs.Prelude.{◌≡◌, ◌+◌, ◌<◌, ◌≤◌, ◌^◌, All, None, length, map, vec_capacity};
+ghost use Rattle.std.specs.Prelude.{◌≡◌, ◌+◌, ◌<◌, ◌≤◌, All, None, length, map, vec_capacity};
 ghost use Rattle.std.specs.Prelude.{◌++◌, vec_len, ℕ, Option, Some, List, if◌then◌else◌};
 ghost use Rattle.mu_num.specs.IndexedSums.{first_exceeding};
+ghost use Rattle.mu_num.specs.Limits.{variable_limit, tick_limit, bits_of_state};
 ghost use Rattle.qss_machine.specs.Ticks.{Snapshot, snapshot_unless, handlers_at, IsStep};
 ghost use Rattle.qss_machine.specs.Runs.{tick_rows, state_rows, discrete_rows, snapshot_rows};
 ghost use Rattle.qss_machine.specs.Runs.{last_snapshot};
@@ -208,14 +209,14 @@ fn run_handlers_of_tick(m: &Machine, q: &Quantizer, tick: u64, s: &mut Store) ->
 
 // Computes the states on which the handlers work. Returns the first that exceeds its limit.
 fn arrive_at_tick(integrators: &[IntegratorModel], tick: u64, work: &mut Work) -> Option<u32>
-    requires count_limit { length integrators.now ≤ 4096 }
+    requires count_limit { length integrators.now ≤ variable_limit }
     requires same_length { length work.old.x ≡ length integrators.now }
     requires not_later { All (λ i. i.line.tick ≤ tick) integrators.now }
-    requires tick_limit { tick < 2 ^ 32 }
+    requires tick_limit { tick < tick_limit }
     ensures work { work.new ≡ record work.old {
       x = map (λ i. state_at i.line tick) integrators.now;
     } }
-    ensures overflow { result ≡ first_exceeding 88 (map (λ i. state_at i.line tick) integrators.now) }
+    ensures overflow { result ≡ first_exceeding bits_of_state (map (λ i. state_at i.line tick) integrators.now) }
 {
     compute_arrival_states(integrators, tick, work.x.as_mut_slice())
 }
@@ -283,9 +284,9 @@ pub(crate) fn set_snapshot_rows(
     d: &[i64],
     rows: &mut Vec<Row>,
 )
-    requires count_limit { length integrators.now + length d.now ≤ 4096 }
+    requires count_limit { length integrators.now + length d.now ≤ variable_limit }
     requires not_later { All (λ i. i.line.tick ≤ tick) integrators.now }
-    requires tick_limit { tick < 2 ^ 32 }
+    requires tick_limit { tick < tick_limit }
     requires room { length integrators.now + length d.now ≤ vec_capacity rows.old }
     ensures rows { rows.new.items ≡ state_rows kind tick
         (map (λ i. i.line.level) integrators.now) (map (λ i. state_at i.line tick) integrators.now)
@@ -304,9 +305,9 @@ fn add_component_rows(
     integrators: &[IntegratorModel],
     rows: &mut Vec<Row>,
 )
-    requires count_limit { length integrators.now ≤ 4096 }
+    requires count_limit { length integrators.now ≤ variable_limit }
     requires not_later { All (λ i. i.line.tick ≤ tick) integrators.now }
-    requires tick_limit { tick < 2 ^ 32 }
+    requires tick_limit { tick < tick_limit }
     requires room { vec_len rows.old + length integrators.now ≤ vec_capacity rows.old }
     ensures rows { rows.new.items ≡ rows.old.items ++ state_rows kind tick
         (map (λ i. i.line.level) integrators.now)
@@ -322,7 +323,7 @@ fn add_component_rows(
 // The row of a state at a tick.
 fn component_state_row(kind: RowKind, tick: u64, var: u32, integrator: &IntegratorModel) -> Row
     requires not_later { integrator.now.line.tick ≤ tick }
-    requires tick_limit { tick < 2 ^ 32 }
+    requires tick_limit { tick < tick_limit }
     ensures { result ≡ record {
       tick = tick;
       kind = kind;

@@ -1,11 +1,12 @@
 //! The components of a machine, and the delivery of messages between them. Integrators, functions
 //! and assignments of handlers send messages.
 
-ghost use Rattle.std.specs.Prelude.{◌≡◌, ◌<◌, ◌+◌, ◌^◌, length, map, All, slice_index_or, Option};
+ghost use Rattle.std.specs.Prelude.{◌≡◌, ◌<◌, ◌+◌, length, map, All, slice_index_or, Option};
 ghost use Rattle.std.specs.Prelude.{◌≢◌, ℕ, ◌≤◌, None, Some, vec_len, vec_capacity};
 ghost use Rattle.qss_machine.specs.Machines.{state_count, discrete_count};
 ghost use Rattle.mu_num.specs.ListedPlaces.{AreRisingBelow};
 ghost use Rattle.mu_num.specs.Writes.{IsWritten};
+ghost use Rattle.mu_num.specs.Limits.{tick_limit};
 ghost use Rattle.qss_components.specs.Messages.{IsMessage};
 ghost use Rattle.qss_components.specs.Functions.{function_after_message};
 ghost use Rattle.qss_components.specs.Crossings.{crossing_after_message};
@@ -198,7 +199,7 @@ fn send_message_to_crossings(
     requires machines { All (λ c. c.machine.value ≡ m.now) crossings.old }
     requires message { IsMessage m.now msg }
     requires ready { All (λ c. IsCrossingReady m.now tick (crossing_of c)) crossings.old }
-    requires tick_limit { tick < 2 ^ 32 }
+    requires tick_limit { tick < tick_limit }
     ensures machines { All (λ c. c.machine.value ≡ m.now) crossings.new }
     ensures told { IsWritten no_crossing (λ j c. c ≡ crossing_after_message m.now
         (slice_index_or (map crossing_of crossings.old) j no_crossing) tick msg)
@@ -235,7 +236,7 @@ fn send_message_to_functions(
     requires machines { All (λ s. s.machine.value ≡ m.now) functions.old }
     requires message { IsMessage m.now msg }
     requires ready { All (λ s. IsSummingReady tick (function_state_of s)) functions.old }
-    requires tick_limit { tick < 2 ^ 32 }
+    requires tick_limit { tick < tick_limit }
     ensures machines { All (λ s. s.machine.value ≡ m.now) functions.new }
     ensures told { IsWritten no_summing (λ j s. s ≡ function_after_message m.now
         (slice_index_or (map function_state_of functions.old) j no_summing) tick msg)

@@ -9,7 +9,7 @@ ghost use Rattle.qss_machine.specs.Machines.{state_count, level_unit, slope_at, 
 ghost use Rattle.qss_machine.specs.Machines.{start_discretes, discrete_count, compares};
 ghost use Rattle.qss_devs.specs.Starts.{values_in, start_values, first_line, first_input, entry_at};
 ghost use Rattle.qss_devs.specs.Starts.{IsFirstIntegrator, IsFirstFunction, IsFirstAt};
-ghost use Rattle.mu_num.specs.Sizes.{IsWithin};
+ghost use Rattle.mu_num.specs.Limits.{IsState};
 ghost use Rattle.qss_machine.specs.MachineLimits.{IsForm};
 ghost use Rattle.qss_machine.specs.Firing.{first_place};
 ghost use Rattle.qss_machine.specs.Handlers.{conditions};
@@ -489,7 +489,7 @@ fn start_own_place(place: usize, count: usize) -> usize
 fn start_coupled_detector(m: &Machine, condition: &Condition, inputs: &[Input]) -> Detector
     requires parts { AreParts inputs.now condition.now.form.time condition.now.form.gamma }
     requires lines { All (IsInput 0) inputs.now }
-    requires size_limit { All (λ i. IsWithin 88 (input_at 0 i)) inputs.now }
+    requires size_limit { All (λ i. IsState (input_at 0 i)) inputs.now }
     ensures { result ≡ record {
       rel = condition.now.rel;
       tick = 0;

@@ -5,7 +5,7 @@ use Rattle.std.proofs.lemmas.List.{get_or-map, length-map}
 use Rattle.std.proofs.lemmas.List.FromFn.{fill_by_all, length-map-range_with_len}
 use Rattle.std.specs.Int.RustNames.{int_lt}
 use Rattle.std.specs.Prelude.{Option, Some, None, if◌then◌else◌}
-use Rattle.mu_num.specs.Ticks.{FirstAfter, tick_limit}
+use Rattle.mu_num.specs.Ticks.{FirstAfter}
 use Rattle.mu_num.proofs.Integers.{add-mul}
 use Rattle.mu_num.proofs.Tests.{int_lt-false}
 use Rattle.qss_machine.specs.declared.machine_parts.Condition.{Condition}
@@ -21,6 +21,7 @@ use Rattle.qss_cross.specs.Crossing.{DetectorView, value_at, holds_at}
 use Rattle.qss_events.specs.EventFreeTicks.{states_after, snapshot_after, NoneRises, IsEventFree}
 use Rattle.qss_events.specs.Schedules.{condition_at, rises, IsScheduleOf, HasNoEventUpTo, NoEventBeforeDue, SchedulesHold}
 use Rattle.mu_num.proofs.Tables.{int_at-tabulate}
+use Rattle.mu_num.specs.Limits.{tick_limit}
 use Rattle.qss_events.proofs.Lines.{value_line}
 use Rattle.qss_events.proofs.Skipped.{settled_twice}
 

@@ -4,11 +4,11 @@ use Rattle.std.specs.List.{list_any}
 use Rattle.qss_machine.specs.declared.machine_parts.Row.{Row}
 use Rattle.qss_machine.specs.declared.machine_parts.RowKind.TheVariants as kind
 use Rattle.qss_machine.specs.declared.compiled_machine.Machine.{Machine}
-use Rattle.mu_num.specs.Sizes.{IsWithin}
 use Rattle.mu_num.specs.IndexedSums.{int_at, tabulate}
 use Rattle.qss_machine.specs.Machines.{state_count, slope_at}
 use Rattle.qss_machine.specs.Handlers.{truths, firing_flags}
 use Rattle.mu_num.specs.Levels.{IsWithinOneLevel}
+use Rattle.mu_num.specs.Limits.{IsLevel}
 use Rattle.qss_machine.specs.Ticks.{Snapshot, is_within_quantum, exceeds_row_limits, IsStep, step}
 use Rattle.qss_machine.specs.Runs.{run_from, rows_after, tick_rows, snapshot_rows}
 
@@ -37,7 +37,7 @@ pub record IsEventFree (m : Machine) (tick : ℕ) (w : Snapshot) (ticks : ℕ) :
 -- their limits
 pub record MayFollowTick (m : Machine) (w : Snapshot) : Type 0 where
   pub one_each : length w.levels ≡ state_count m
-  pub small_levels : (j : ℕ) → j < state_count m → IsWithin 43 (int_at w.levels j)
+  pub small_levels : (j : ℕ) → j < state_count m → IsLevel (int_at w.levels j)
   pub light : position (exceeds_row_limits m w.levels w.discretes) m.rows ≡ None
 
 -- the rows of at most `count` ticks after a snapshot, under a rule that is a function

@@ -1,16 +1,16 @@
 -- Defines the invariant of simulators: lines, detectors and due ticks for a snapshot.
 use Rattle.std.specs.Prelude.{◌≡◌, ◌≢◌, ℕ, ◌+◌, ◌-◌, ◌<◌, ◌≤◌, Bool, not, ◌&&◌, List, [], length, ℤ, pos, Option, Some, None, slice_index_or, if◌then◌else◌}
 use Rattle.std.specs.List.{list_any}
-use Rattle.mu_num.specs.Ticks.{FirstAfter, tick_limit}
+use Rattle.mu_num.specs.Ticks.{FirstAfter}
 use Rattle.qss_machine.specs.declared.machine_parts.Condition.{Condition}
 use Rattle.qss_machine.specs.declared.machine_parts.Rel.TheVariants.{Less}
 use Rattle.qss_machine.specs.declared.machine_parts.SlopeRow.{SlopeRow}
 use Rattle.qss_machine.specs.declared.compiled_machine.Machine.{Machine}
-use Rattle.mu_num.specs.Sizes.{IsWithin}
 use Rattle.mu_num.specs.IndexedSums.{int_at, tabulate}
 use Rattle.qss_machine.specs.Machines.{state_count, level_unit, slope_at, weight_at, quantum_of, value_of, speed_of}
 use Rattle.qss_machine.specs.Handlers.{conditions, truths, firing_flags}
 use Rattle.mu_num.specs.ListedPlaces.{flag_at}
+use Rattle.mu_num.specs.Limits.{tick_limit, IsState}
 use Rattle.qss_machine.specs.Ticks.{Snapshot}
 use Rattle.qss_quant.specs.IntegratorLines.{Line, state_at, IsAway}
 use Rattle.qss_cross.specs.Crossing.{DetectorView, value_at, holds_at}
@@ -129,4 +129,4 @@ abbrev pub OnlyDueStatesPass : Type 0
 OnlyDueStatesPass =
     (m : Machine) (tick : ℕ) (w : Snapshot) (line : ℕ → Line) (detector : ℕ → DetectorView) (due : ℕ → Option ℕ) (visit ticks j : ℕ) →
     IsScheduleOf m tick w line detector due → 0 < ticks → tick + ticks ≤ visit → visit ≤ m.last → HasNoEventBefore visit due → j < state_count m →
-    due j ≢ Some visit → IsWithin 88 (int_at (states_after m w ticks) j)
+    due j ≢ Some visit → IsState (int_at (states_after m w ticks) j)

@@ -8,6 +8,7 @@ ghost use Rattle.qss_quant.specs.IntegratorLines.{IsLineWithinQuantum, IsAway};
 ghost use Rattle.qss_events.specs.AllowedLevels.{IsAllowedLevel};
 ghost use Rattle.qss_events.specs.Schedules.{IsDue};
 ghost use Rattle.mu_num.specs.Levels.{level_below};
+ghost use Rattle.mu_num.specs.Limits.{IsLevel};
 
 use mu_num::floor_div;
 use qss_machine::Machine;
@@ -32,7 +33,7 @@ pub fn event_tick_leaving_level(m: &Machine, j: u32, line: &Integrator) -> Optio
 pub fn requantize_level(m: &Machine, q: &Quantizer, j: u32, x: i128, level: i64, unit: i128) -> i128
     requires state { j < state_count m.now }
     requires small_state { IsWithin 89 x }
-    requires small_level { IsWithin 43 level }
+    requires small_level { IsLevel level }
     requires unit { unit ≡ level_unit m.now }
     ensures next { IsNextLevel (IsAllowedLevel q.now.name) m.now j x level result }
     ensures ruled { IsAway unit x level (quantum_of m.now j level)
@@ -60,7 +61,7 @@ pub fn event_start_levels(alloc: Global, m: &Machine) -> Result<Vec<i64>, AllocE
 // The greatest level at most a state.
 fn event_start_level(x0: i128, unit: i128) -> i64
     requires unit { pos 0 <ℤ unit }
-    requires size_limit { IsWithin 43 (level_below unit x0) }
+    requires size_limit { IsLevel (level_below unit x0) }
     ensures { result ≡ level_below unit x0 }
 {
     floor_div(x0, unit) as i64

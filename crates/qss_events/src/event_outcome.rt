@@ -6,6 +6,7 @@ ghost use Rattle.std.specs.Prelude.{vec_capacity};
 ghost use Rattle.qss_machine.specs.declared.machine_parts.RowKind.TheVariants as kind;
 ghost use Rattle.qss_machine.specs.Runs.{discrete_rows};
 ghost use Rattle.std.specs.List.{list_any};
+ghost use Rattle.mu_num.specs.Limits.{variable_limit};
 ghost use Rattle.qss_machine.specs.Handlers.{firing_flags};
 
 use qss_machine::{Row, RowKind};
@@ -64,7 +65,7 @@ pub fn add_event_discrete_rows(
     d: &[i64],
     rows: &mut Vec<Row>,
 )
-    requires count_limit { first + length d.now ≤ 4096 }
+    requires count_limit { first + length d.now ≤ variable_limit }
     requires room { vec_len rows.old + length d.now ≤ vec_capacity rows.old }
     ensures rows { rows.new.items ≡ rows.old.items ++ discrete_rows kind tick first d.now }
     ensures room { vec_capacity rows.new ≡ vec_capacity rows.old }

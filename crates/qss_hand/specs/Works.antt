@@ -1,6 +1,6 @@
 -- Defines how the values of a machine correspond to the state of its handlers, and their limits.
-use Rattle.std.specs.Prelude.{◌≡◌, ℕ, ◌+◌, ◌^◌, ◌<◌, List, [], length, All, ℤ, pos, sum_by, Option, Some, None, Result, Ok, Err, slice_index_or}
-use Rattle.mu_num.specs.Sizes.{IsWithin}
+use Rattle.std.specs.Prelude.{◌≡◌, ℕ, ◌+◌, ◌<◌, List, [], length, ℤ, pos, sum_by, Option, Some, None, Result, Ok, Err, slice_index_or}
+use Rattle.mu_num.specs.Limits.{tick_limit, AreLevels, AreStates}
 use Rattle.qss_hand.specs.declared.handler_statements.Over.{Over}
 use Rattle.qss_machine.specs.declared.machine_parts.Action.{Action}
 use Rattle.qss_machine.specs.declared.machine_parts.BranchInfo.{BranchInfo}
@@ -29,10 +29,10 @@ pub record AreValuesOf (m : Machine) (w : Values) : Type 0 where
   pub states : length w.x ≡ state_count m
   pub discretes : length w.d ≡ discrete_count m
   pub before : length w.pre ≡ discrete_count m
-  pub small_states : All (IsWithin 88) w.x
-  pub small_discretes : All (IsWithin 43) w.d
-  pub small_before : All (IsWithin 43) w.pre
-  pub in_time : w.tick < 2 ^ 32
+  pub small_states : AreStates w.x
+  pub small_discretes : AreLevels w.d
+  pub small_before : AreLevels w.pre
+  pub in_time : w.tick < tick_limit
 
 -- a clause of a machine, and a branch of it, by index
 abbrev pub clause_at : Machine → ℕ → ClauseInfo

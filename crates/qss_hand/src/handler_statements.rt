@@ -5,6 +5,7 @@ ghost use Rattle.std.specs.Prelude.{◌≡◌, ◌+◌, ◌<◌, ◌≤◌, ◌^
 ghost use Rattle.std.specs.Prelude.{None, All, fold, slice_set, if◌then◌else◌};
 ghost use Rattle.mu_num.specs.Rounding.{nearest_of};
 ghost use Rattle.mu_num.specs.Sizes.{exceeds};
+ghost use Rattle.mu_num.specs.Limits.{bits_of_level, bits_of_state};
 ghost use Rattle.qss_machine.specs.MachineLimits.{IsBounded, IsAction};
 ghost use Rattle.qss_machine.specs.Machines.{state_count, discrete_count, value_of};
 ghost use Rattle.qss_machine.specs.Handlers.{run_action, fire_row, run_branch};
@@ -13,7 +14,7 @@ ghost use Rattle.qss_hand.specs.Works.{AreValuesOf, handling_of, values_after, o
 ghost use Rattle.qss_hand.specs.Works.{clause_at, branch_at};
 
 use crate::work::Work;
-use mu_num::{exceeds_power_of_two, near_div, unit};
+use mu_num::{LEVEL_BITS, STATE_BITS, exceeds_power_of_two, near_div, unit};
 use qss_machine::{Action, Form, Machine, Row, RowKind};
 
 /// The error of an assignment whose value exceeds its limit: 2^43 in absolute value for a discrete
@@ -129,7 +130,7 @@ fn run_set_statement(w: &mut Work, var: u32, place: u32, value: i128) -> Result<
     requires place { place < length w.old.d }
     requires room { length w.old.log < w.old.room }
     ensures values { w.new
-        ≡ (if exceeds 43 value
+        ≡ (if exceeds bits_of_level value
         then w.old
         else
         record w.old {
@@ -144,9 +145,9 @@ fn run_set_statement(w: &mut Work, var: u32, place: u32, value: i128) -> Result<
               }
               ∷ [];
         }) }
-    ensures overflow { overflow_of result ≡ (if exceeds 43 value then Some var else None) }
+    ensures overflow { overflow_of result ≡ (if exceeds bits_of_level value then Some var else None) }
 {
-    if exceeds_power_of_two(value, 43) {
+    if exceeds_power_of_two(value, LEVEL_BITS) {
         return Err(Over { var });
     }
     let level = value as i64;
@@ -166,7 +167,7 @@ fn run_reinit_statement(w: &mut Work, var: u32, value: i128) -> Result<(), Over>
     requires var { var < length w.old.x }
     requires room { length w.old.log < w.old.room }
     ensures values { w.new
-        ≡ (if exceeds 88 value
+        ≡ (if exceeds bits_of_state value
         then w.old
         else
         record w.old {
@@ -181,9 +182,9 @@ fn run_reinit_statement(w: &mut Work, var: u32, value: i128) -> Result<(), Over>
               }
               ∷ [];
         }) }
-    ensures overflow { overflow_of result ≡ (if exceeds 88 value then Some var else None) }
+    ensures overflow { overflow_of result ≡ (if exceeds bits_of_state value then Some var else None) }
 {
-    if exceeds_power_of_two(value, 88) {
+    if exceeds_power_of_two(value, STATE_BITS) {
         return Err(Over { var });
     }
     w.x[var as usize] = value;

@@ -2,6 +2,7 @@
 //! one tick.
 
 ghost use Rattle.std.specs.Prelude.{◌≡◌, ◌<◌, All, IfOk, length, ◌+◌, ◌≤◌, sum_by};
+ghost use Rattle.mu_num.specs.Limits.{condition_limit};
 ghost use Rattle.qss_machine.specs.Machines.{start_states, start_discretes};
 ghost use Rattle.qss_hand.specs.Assigned.{AreSameBut};
 ghost use Rattle.qss_hand.specs.Works.{row_room};
@@ -131,7 +132,7 @@ fn start_work_discretes(alloc: Global, m: &Machine) -> Result<Vec<i64>, AllocErr
 
 /// The maximum number of rows that these clauses append at one tick.
 pub(crate) fn work_row_room(clauses: &[ClauseInfo]) -> usize
-    requires { row_room clauses.now ≤ 16384 }
+    requires { row_room clauses.now ≤ condition_limit }
     ensures { result ≡ row_room clauses.now }
 {
     let mut room = 0;
@@ -143,7 +144,7 @@ pub(crate) fn work_row_room(clauses: &[ClauseInfo]) -> usize
 
 // The number of statements in these branches.
 fn count_work_statements(branches: &[BranchInfo]) -> usize
-    requires { sum_by (λ branch. length branch.actions) branches.now ≤ 16384 }
+    requires { sum_by (λ branch. length branch.actions) branches.now ≤ condition_limit }
     ensures { result ≡ sum_by (λ branch. length branch.actions) branches.now }
 {
     branches

@@ -13,7 +13,7 @@ use Rattle.qss_machine.specs.declared.machine_parts.ClauseInfo.{ClauseInfo}
 use Rattle.qss_machine.specs.declared.compiled_machine.Machine.{Machine}
 use Rattle.mu_num.specs.Sizes.{IsWithin, exceeds}
 use Rattle.mu_num.specs.IndexedSums.{int_at, first_exceeding}
-use Rattle.qss_machine.specs.MachineLimits.{IsState}
+use Rattle.qss_machine.specs.MachineLimits.{IsStateInfo}
 use Rattle.mu_num.specs.Levels.{level_below}
 use Rattle.qss_machine.specs.Machines.{level_unit}
 use Rattle.qss_machine.specs.Handlers.{HandlerState, firing_flags, truths, assigned_value, assign, run_action, run_first_due, run_clauses}
@@ -87,7 +87,7 @@ states_small m tick w =
 
 -- ---- levels
 
-all_small : (unit : ℤ) (states : List StateInfo) → All (IsState unit) states → (j : ℕ) → IsWithin 43 (int_at (map (level_below unit) (map (λ (s : StateInfo). s.x0) states)) j)
+all_small : (unit : ℤ) (states : List StateInfo) → All (IsStateInfo unit) states → (j : ℕ) → IsWithin 43 (int_at (map (level_below unit) (map (λ (s : StateInfo). s.x0) states)) j)
 all_small unit [] all j = zero_within 43
 all_small unit (s ∷ states) all zero = (all 0 s (omega arith)).level
 all_small unit (s ∷ states) all (suc j) = all_small unit states (λ k d h. all (suc k) d (omega arith)) j

@@ -19,7 +19,7 @@ use Rattle.qss_machine.specs.declared.machine_parts.ClauseInfo.{ClauseInfo}
 use Rattle.qss_machine.specs.declared.machine_parts.Row.{Row}
 use Rattle.qss_machine.specs.declared.machine_parts.RowKind.{RowKind}
 use Rattle.qss_machine.specs.declared.machine_parts.RowKind.TheVariants as kind
-use Rattle.qss_machine.specs.MachineLimits.{IsState, IsRow, IsClause}
+use Rattle.qss_machine.specs.MachineLimits.{IsStateInfo, IsRow, IsClause}
 use Rattle.mu_num.specs.Levels.{floor_level, near_level, inward_level}
 use Rattle.qss_machine.specs.Runs.{run_by, run_rows}
 use Rattle.qss_machine.proofs.Fields.{Parts, IsSound, machine_of}
@@ -301,7 +301,7 @@ decay_sound = record {
   };
   variables = record {
     few = lit≤ tt;
-    each_state = All-from_recursion (IsState (pos (2 ^ (8 + 4)))) (state (pos 262144) (pos 4) ∷ [])
+    each_state = All-from_recursion (IsStateInfo (pos (2 ^ (8 + 4)))) (state (pos 262144) (pos 4) ∷ [])
         (record { start = lit≤ tt; level = lit≤ tt; quantum_low = record { le = tt }; quantum_high = record { le = tt } }, tt);
     each_discrete = All-nil (λ (d : DiscreteInfo). IsWithin 43 d.d0);
   };

@@ -10,6 +10,7 @@ use Rattle.qss_machine.specs.declared.machine_parts.Row.{Row}
 use Rattle.qss_machine.specs.declared.machine_parts.RowKind.TheVariants as kind
 use Rattle.qss_machine.specs.declared.compiled_machine.Machine.{Machine}
 use Rattle.mu_num.specs.Sizes.{exceeds}
+use Rattle.mu_num.specs.Limits.{bits_of_level, bits_of_state}
 use Rattle.qss_machine.specs.Machines.{state_count, value_of, truth}
 
 -- all conditions in source order
@@ -43,13 +44,13 @@ assigned_value m tick before h (Reinit var form) = nearest_of (value_of m form h
 -- variable's limit
 abbrev pub assign : Machine → ℕ → HandlerState → Action → ℤ → HandlerState
 assign m tick h (Set var form) z =
-    if exceeds 43 z then record h { overflow = Some var }
+    if exceeds bits_of_level z then record h { overflow = Some var }
     else record h {
       discretes = set h.discretes (var - state_count m) z;
       rows = h.rows ++ record { tick = tick; kind = kind.Set; var = var; level = z; state = pos 0 } ∷ [];
     }
 assign m tick h (Reinit var form) z =
-    if exceeds 88 z then record h { overflow = Some var }
+    if exceeds bits_of_state z then record h { overflow = Some var }
     else record h {
       states = set h.states var z;
       rows = h.rows ++ record { tick = tick; kind = kind.Reinit; var = var; level = pos 0; state = z } ∷ [];

@@ -14,6 +14,7 @@ use Rattle.qss_machine.specs.declared.machine_parts.ClauseInfo.{ClauseInfo}
 use Rattle.mu_num.specs.Sizes.{IsWithin}
 use Rattle.qss_machine.specs.Slopes.{mode_fits, weight_of}
 use Rattle.mu_num.specs.Levels.{level_below}
+use Rattle.mu_num.specs.Limits.{variable_limit, condition_limit, tick_limit, quantum_limit, relative_limit, IsLevel, IsState, IsWeight}
 
 -- the units of coefficients, ticks and levels, the last tick, and the relative quantum in 4096ths
 pub record HasUnits (p k f last relative : ℕ) : Type 0 where
@@ -22,8 +23,8 @@ pub record HasUnits (p k f last relative : ℕ) : Type 0 where
   pub unit_bits : p + k ≤ 44
   pub level_bits : f ≤ 24
   pub state_bits : f + p + k ≤ 62
-  pub last_tick : last < 2 ^ 32
-  pub share : relative ≤ 2048
+  pub last_tick : last < tick_limit
+  pub share : relative ≤ relative_limit
 
 -- entries sorted by variable, all variables below `count`, all coefficients nonzero
 pub record AreEntries (count : ℕ) (entries : List Entry) : Type 0 where
@@ -88,24 +89,24 @@ item_count clauses = sum_by (λ clause. sum_by (λ branch. 1 + length branch.act
 -- clauses within the limits
 pub record AreClauses (states discretes : ℕ) (clauses : List ClauseInfo) : Type 0 where
   pub each : All (IsClause states discretes) clauses
-  pub few : item_count clauses ≤ 16384
+  pub few : item_count clauses ≤ condition_limit
 
 -- a state whose initial value and quantum are within the limits
-pub record IsState (unit : ℤ) (state : StateInfo) : Type 0 where
-  pub start : IsWithin 88 state.x0
-  pub level : IsWithin 43 (level_below unit state.x0)
+pub record IsStateInfo (unit : ℤ) (state : StateInfo) : Type 0 where
+  pub start : IsState state.x0
+  pub level : IsLevel (level_below unit state.x0)
   pub quantum_low : pos 1 ≤ℤ state.quantum
-  pub quantum_high : state.quantum ≤ℤ pos (2 ^ 32)
+  pub quantum_high : state.quantum ≤ℤ pos quantum_limit
 
 -- states and discrete variables within the limits
 pub record AreVariables (unit : ℤ) (states : List StateInfo) (discretes : List DiscreteInfo) : Type 0 where
-  pub few : length states + length discretes ≤ 4096
-  pub each_state : All (IsState unit) states
-  pub each_discrete : All (λ discrete. IsWithin 43 discrete.d0) discretes
+  pub few : length states + length discretes ≤ variable_limit
+  pub each_state : All (IsStateInfo unit) states
+  pub each_discrete : All (λ discrete. IsLevel discrete.d0) discretes
 
 -- one row for each state, within the limits, and absolute row sums within the limit at the start
 pub record AreRows (level_bits : ℕ) (unit : ℤ) (states : List StateInfo) (discretes : List DiscreteInfo) (rows : List SlopeRow) : Type 0 where
   pub one_each : length rows ≡ length states
   pub each : All (IsRow (length states) (length discretes)) rows
   pub modes : All (λ row. IsTrue (mode_fits level_bits (length states) row (map (λ d. d.d0) discretes))) rows
-  pub weights : All (λ row. IsWithin 88 (weight_of level_bits row (map (λ s. level_below unit s.x0) states) (map (λ d. d.d0) discretes))) rows
+  pub weights : All (λ row. IsWeight (weight_of level_bits row (map (λ s. level_below unit s.x0) states) (map (λ d. d.d0) discretes))) rows

@@ -1,10 +1,10 @@
 -- Theorems on the runs of a machine.
 use Rattle.std.specs.Prelude.{◌≡◌, ℕ, ◌<◌, ◌≤◌, List, [], ◌∷◌, map, ℤ, pos, ◌+ℤ◌, ◌-ℤ◌, ◌*ℤ◌, ◌≤ℤ◌, ◌<ℤ◌, length, unsigned_abs}
 use Rattle.qss_machine.specs.declared.compiled_machine.Machine.{Machine}
-use Rattle.mu_num.specs.Sizes.{IsWithin}
 use Rattle.mu_num.specs.IndexedSums.{int_at}
 use Rattle.qss_machine.specs.Machines.{state_count, level_unit, slope_at, weight_at, quantum_of, quanta, start_states}
 use Rattle.mu_num.specs.Levels.{IsWithinOneLevel}
+use Rattle.mu_num.specs.Limits.{IsLevel}
 use Rattle.qss_machine.specs.Ticks.{Snapshot, start_snapshot, IsQuantizing, RuleOf}
 use Rattle.qss_machine.specs.Runs.{IsExecution, IsFreeExecution, last_snapshot, Run, IsRun, run_by}
 use Rattle.qss_machine.specs.Legitimate.{entry_at, IsLegitimate}
@@ -51,7 +51,7 @@ pub record RunsAreLegitimate : Type 0 where
 
 -- all levels are at most 2 ^ 43 in size
 abbrev pub HasSmallLevels : Snapshot → Type 0
-HasSmallLevels w = (j : ℕ) → IsWithin 43 (int_at w.levels j)
+HasSmallLevels w = (j : ℕ) → IsLevel (int_at w.levels j)
 
 -- Each run under a rule is a run under the free rule.
 pub record RulesAreFree : Type 0 where

@@ -6,6 +6,7 @@ use Rattle.qss_machine.specs.declared.machine_parts.SlopeRow.{SlopeRow}
 use Rattle.qss_machine.specs.declared.compiled_machine.Machine.{Machine}
 use Rattle.mu_num.specs.Sizes.{exceeds, IsWithin}
 use Rattle.mu_num.specs.IndexedSums.{int_at, tabulate, first_exceeding}
+use Rattle.mu_num.specs.Limits.{bits_of_level, bits_of_state, bits_of_weight, IsLevel}
 use Rattle.qss_machine.specs.Slopes.{mode_fits, weight_of}
 use Rattle.qss_machine.specs.Machines.{state_count, level_unit, start_states, start_discretes, slope_at, quantum_of}
 use Rattle.qss_machine.specs.Handlers.{truths, firing_flags, HandlerState, run_clauses}
@@ -39,7 +40,7 @@ moved_states m w = tabulate (state_count m) (λ j. int_at w.states j +ℤ slope_
 abbrev pub handlers_at : Machine → ℕ → Snapshot → HandlerState
 handlers_at m tick w =
     run_clauses m tick w.discretes 0
-    (record { states = moved_states m w; discretes = w.discretes; rows = []; overflow = first_exceeding 88 (moved_states m w) })
+    (record { states = moved_states m w; discretes = w.discretes; rows = []; overflow = first_exceeding bits_of_state (moved_states m w) })
     m.clauses
     (firing_flags (truths m (moved_states m w) w.discretes tick) w.at_arrival w.after_handlers)
 
@@ -64,7 +65,7 @@ AreNextLevels Rule m states old new = AreLevelsBy (IsNextLevel Rule m) m states 
 -- whether a row's mode coefficients or its absolute row sum exceed their limits
 abbrev pub exceeds_row_limits : Machine → List ℤ → List ℤ → SlopeRow → Bool
 exceeds_row_limits m levels discretes row =
-    not (mode_fits m.f (state_count m) row discretes) || exceeds 88 (weight_of m.f row levels discretes)
+    not (mode_fits m.f (state_count m) row discretes) || exceeds bits_of_weight (weight_of m.f row levels discretes)
 
 -- the snapshot, or the variable that overflowed
 abbrev pub snapshot_unless : Option ℕ → Snapshot → Result Snapshot ℕ
@@ -75,7 +76,7 @@ snapshot_unless (Some var) w = Err var
 abbrev pub finish_tick : Machine → ℕ → Snapshot → HandlerState → List ℤ → Result Snapshot ℕ
 finish_tick m tick w h levels =
     snapshot_unless
-    (option_or h.overflow (option_or (first_exceeding 43 levels) (position (exceeds_row_limits m levels h.discretes) m.rows)))
+    (option_or h.overflow (option_or (first_exceeding bits_of_level levels) (position (exceeds_row_limits m levels h.discretes) m.rows)))
     (record {
       states = h.states;
       levels = levels;
@@ -104,7 +105,7 @@ IsFreeLevel m j state old new = ((is_within_quantum m j state old ≡ true) × (
 -- limits of a run
 abbrev pub IsQuantizing : (ℤ → ℤ → ℤ → ℤ) → Type 0
 IsQuantizing level =
-    (unit state old : ℤ) → pos 1 ≤ℤ unit → unit ≤ℤ pos (2 ^ 44) → IsWithin 89 state → IsWithin 43 old → IsWithinOneLevel unit state old (level unit state old)
+    (unit state old : ℤ) → pos 1 ≤ℤ unit → unit ≤ℤ pos (2 ^ 44) → IsWithin 89 state → IsLevel old → IsWithinOneLevel unit state old (level unit state old)
 
 -- the rule that allows only the level that a function returns
 abbrev pub RuleOf : (ℤ → ℤ → ℤ → ℤ) → ℤ → ℤ → ℤ → ℤ → Type 0

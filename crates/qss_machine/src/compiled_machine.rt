@@ -2,6 +2,7 @@
 //! methods evaluate rows, forms and quanta.
 
 ghost use Rattle.std.specs.Prelude.{pos, ◌+◌, ◌^◌, length};
+ghost use Rattle.mu_num.specs.Limits.{tick_limit, relative_limit, IsLevel, AreLevels, AreStates, AreSlopes};
 ghost use Rattle.qss_machine.specs.MachineLimits.{HasUnits, AreVariables, AreRows, AreClauses};
 
 use crate::form_values::{add_form_parts, form_constant_part, form_time_part, sum_form_entries};
@@ -38,7 +39,7 @@ pub struct Machine {
 }
 
 impl Machine {
-    ghost use Rattle.std.specs.Prelude.{◌≡◌, ◌<◌, ◌≤◌, All, IsTrue, unsigned_abs};
+    ghost use Rattle.std.specs.Prelude.{◌≡◌, ◌<◌, ◌≤◌, IsTrue, unsigned_abs};
     ghost use Rattle.mu_num.specs.Sizes.{IsWithin};
     ghost use Rattle.qss_machine.specs.Slopes.{mode_fits};
     ghost use Rattle.qss_machine.specs.MachineLimits.{IsBounded};
@@ -50,7 +51,7 @@ impl Machine {
         requires row { row < state_count self.now }
         requires state { state < state_count self.now }
         requires same_length { length discretes.now ≡ discrete_count self.now }
-        requires size_limit { All (IsWithin 43) discretes.now }
+        requires size_limit { AreLevels discretes.now }
         ensures { result ≡ mode_coefficient_at self.now row state discretes.now }
     {
         let states = self.states.as_slice().len();
@@ -64,7 +65,7 @@ impl Machine {
         requires row { row < state_count self.now }
         requires own { own ≡ row_coefficient self.now row state }
         requires same_length { length discretes.now ≡ discrete_count self.now }
-        requires size_limit { All (IsWithin 43) discretes.now }
+        requires size_limit { AreLevels discretes.now }
         ensures { result ≡ mode_coefficient_at self.now row state discretes.now }
     {
         let states = self.states.as_slice().len();
@@ -85,7 +86,7 @@ impl Machine {
     pub fn mode_fits(&self, row: u32, discretes: &[i64]) -> bool
         requires row { row < state_count self.now }
         requires same_length { length discretes.now ≡ discrete_count self.now }
-        requires size_limit { All (IsWithin 43) discretes.now }
+        requires size_limit { AreLevels discretes.now }
         ensures { result
             ≡ mode_fits self.now.f (state_count self.now) (row_at self.now row) discretes.now }
     {
@@ -100,8 +101,8 @@ impl Machine {
         requires row { row < state_count self.now }
         requires levels { length levels.now ≡ state_count self.now }
         requires discretes { length discretes.now ≡ discrete_count self.now }
-        requires small_levels { All (IsWithin 43) levels.now }
-        requires small_discretes { All (IsWithin 43) discretes.now }
+        requires small_levels { AreLevels levels.now }
+        requires small_discretes { AreLevels discretes.now }
         requires modes { IsTrue
             (mode_fits self.now.f (state_count self.now) (row_at self.now row) discretes.now) }
         ensures value { result ≡ slope_at self.now row levels.now discretes.now }
@@ -116,8 +117,8 @@ impl Machine {
         requires row { row < state_count self.now }
         requires levels { length levels.now ≡ state_count self.now }
         requires discretes { length discretes.now ≡ discrete_count self.now }
-        requires small_levels { All (IsWithin 43) levels.now }
-        requires small_discretes { All (IsWithin 43) discretes.now }
+        requires small_levels { AreLevels levels.now }
+        requires small_discretes { AreLevels discretes.now }
         requires modes { IsTrue
             (mode_fits self.now.f (state_count self.now) (row_at self.now row) discretes.now) }
         ensures { result ≡ weight_at self.now row levels.now discretes.now }
@@ -137,7 +138,7 @@ impl Machine {
     /// and the relative quantum.
     pub fn quantum_at(&self, state: u32, level: i64) -> i64
         requires state { state < state_count self.now }
-        requires level { IsWithin 43 level }
+        requires level { IsLevel level }
         ensures { result ≡ quantum_of self.now state level }
     {
         let own = self.states.as_slice()[state as usize].quantum;
@@ -151,10 +152,10 @@ impl Machine {
         requires states { length x.now ≡ state_count self.now }
         requires discretes { length d.now ≡ discrete_count self.now }
         requires before { length pre.now ≡ discrete_count self.now }
-        requires small_states { All (IsWithin 88) x.now }
-        requires small_discretes { All (IsWithin 43) d.now }
-        requires small_before { All (IsWithin 43) pre.now }
-        requires tick { tick < 2 ^ 32 }
+        requires small_states { AreStates x.now }
+        requires small_discretes { AreLevels d.now }
+        requires small_before { AreLevels pre.now }
+        requires tick { tick < tick_limit }
         ensures value { result ≡ value_of self.now form.now x.now d.now pre.now tick }
         ensures bound { unsigned_abs result < 2 ^ 127 }
     {
@@ -168,7 +169,7 @@ impl Machine {
     pub fn form_speed(&self, form: &Form, slopes: &[i128]) -> i128
         requires form { IsBounded form.now }
         requires same_length { length slopes.now ≡ state_count self.now }
-        requires size_limit { All (IsWithin 88) slopes.now }
+        requires size_limit { AreSlopes slopes.now }
         ensures value { result ≡ speed_of self.now form.now slopes.now }
         ensures bound { unsigned_abs result < 2 ^ 127 }
     {
@@ -179,7 +180,7 @@ impl Machine {
 
     /// Returns this machine with another relative quantum, in 4096ths of a level's size.
     pub fn with_relative(self, n: u16) -> Machine
-        requires { n ≤ 2048 }
+        requires { n ≤ relative_limit }
         ensures relative { result.relative ≡ n }
         ensures units { (result.p ≡ self.p)
             × (result.k ≡ self.k)

@@ -1,8 +1,9 @@
 //! Values and rates of change of affine forms, in the units of a machine.
 
-ghost use Rattle.std.specs.Prelude.{◌≡◌, ℕ, ◌+◌, ◌*◌, ◌^◌, ◌<◌, ◌≤◌, length, map, All, pos, ◌*ℤ◌, ◌+ℤ◌, ◌≤ℤ◌, ◌++◌, unsigned_abs, sum_by};
+ghost use Rattle.std.specs.Prelude.{◌≡◌, ℕ, ◌+◌, ◌*◌, ◌^◌, ◌<◌, ◌≤◌, length, map, pos, ◌*ℤ◌, ◌+ℤ◌, ◌≤ℤ◌, ◌++◌, unsigned_abs, sum_by};
 ghost use Rattle.mu_num.specs.Sizes.{IsWithin};
 ghost use Rattle.mu_num.specs.IndexedSums.{int_at};
+ghost use Rattle.mu_num.specs.Limits.{tick_limit, IsLevel, AreLevels, IsState, AreStates};
 ghost use Rattle.qss_machine.specs.Slopes.{weighted_sum};
 
 use crate::machine_parts::Entry;
@@ -18,9 +19,9 @@ pub(crate) fn sum_form_entries(
 ) -> i128
     requires coefficients { sum_by (λ entry. unsigned_abs entry.coef) entries.now ≤ 2 ^ 38 }
     requires unit { unit_bits ≤ 44 }
-    requires states { All (IsWithin 88) states.now }
-    requires discretes { All (IsWithin 43) discretes.now }
-    requires before { All (IsWithin 43) before.now }
+    requires states { AreStates states.now }
+    requires discretes { AreLevels discretes.now }
+    requires before { AreLevels before.now }
     requires count_limit { length states.now + length discretes.now + length before.now < 2 ^ 32 }
     ensures value { result
         ≡ weighted_sum entries.now
@@ -41,7 +42,7 @@ pub(crate) fn sum_form_entries(
 /// and `bits` at most 56.
 pub fn form_time_part(time: i64, tick: u64, bits: u8) -> i128
     requires time { IsWithin 38 time }
-    requires tick { tick < 2 ^ 32 }
+    requires tick { tick < tick_limit }
     requires bits { bits ≤ 56 }
     ensures value { result ≡ time *ℤ pos (tick * 2 ^ bits) }
     ensures bound { unsigned_abs result ≤ unsigned_abs time * 2 ^ 88 }
@@ -81,9 +82,9 @@ fn form_entry_value(
 ) -> i128
     requires coef { IsWithin 38 entry.coef }
     requires unit { unit_bits ≤ 44 }
-    requires states { All (IsWithin 88) states.now }
-    requires discretes { All (IsWithin 43) discretes.now }
-    requires before { All (IsWithin 43) before.now }
+    requires states { AreStates states.now }
+    requires discretes { AreLevels discretes.now }
+    requires before { AreLevels before.now }
     requires count_limit { length states.now + length discretes.now + length before.now < 2 ^ 32 }
     ensures value { result
         ≡ entry.coef *ℤ int_at
@@ -102,7 +103,7 @@ fn form_entry_value(
 /// Multiplies a coefficient of at most 2^38 in size by a value of at most 2^88 in size.
 pub fn multiply_form_coefficient(coef: i64, value: i128) -> i128
     requires coef { IsWithin 38 coef }
-    requires value { IsWithin 88 value }
+    requires value { IsState value }
     ensures { result ≡ coef *ℤ value }
 {
     i128::from(coef) * value
@@ -118,9 +119,9 @@ fn form_input_at(
     var: usize,
 ) -> i128
     requires unit { unit_bits ≤ 44 }
-    requires states { All (IsWithin 88) states.now }
-    requires discretes { All (IsWithin 43) discretes.now }
-    requires before { All (IsWithin 43) before.now }
+    requires states { AreStates states.now }
+    requires discretes { AreLevels discretes.now }
+    requires before { AreLevels before.now }
     requires count_limit { length states.now + length discretes.now + length before.now < 2 ^ 32 }
     ensures value { result
         ≡ int_at
@@ -128,7 +129,7 @@ fn form_input_at(
         ++ (map (λ d. d *ℤ pos (2 ^ unit_bits)) discretes.now
         ++ map (λ d. d *ℤ pos (2 ^ unit_bits)) before.now))
         var }
-    ensures bound { IsWithin 88 result }
+    ensures bound { IsState result }
 {
     if var < states.len() {
         return states[var];
@@ -147,30 +148,30 @@ fn form_input_at(
 /// Converts a discrete value to the unit of states: `value` * 2^unit_bits. The value is at most
 /// 2^43 in size and `unit_bits` at most 44.
 pub fn scale_discrete_value(value: i64, unit_bits: u8) -> i128
-    requires value { IsWithin 43 value }
+    requires value { IsLevel value }
     requires unit { unit_bits ≤ 44 }
     ensures value { result ≡ value *ℤ pos (2 ^ unit_bits) }
-    ensures bound { IsWithin 88 result }
+    ensures bound { IsState result }
 {
     multiply_by_unit(value, unit(unit_bits))
 }
 
 // Multiplies a number of at most 2^43 in size by one of at most 2^44.
 fn multiply_by_unit(value: i64, unit: i128) -> i128
-    requires value { IsWithin 43 value }
+    requires value { IsLevel value }
     requires unit { IsWithin 44 unit }
     ensures value { result ≡ value *ℤ unit }
-    ensures bound { IsWithin 88 result }
+    ensures bound { IsState result }
 {
     i128::from(value) * unit
 }
 
 // Converts a tick to the unit of states.
 fn form_unit_tick(tick: u64, bits: u8) -> i128
-    requires tick { tick < 2 ^ 32 }
+    requires tick { tick < tick_limit }
     requires bits { bits ≤ 56 }
     ensures value { result ≡ pos (tick * 2 ^ bits) }
-    ensures bound { IsWithin 88 result }
+    ensures bound { IsState result }
 {
     i128::from(tick) * unit(bits)
 }

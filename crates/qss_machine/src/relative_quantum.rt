@@ -3,14 +3,14 @@
 
 ghost use Rattle.std.specs.Prelude.{◌≡◌, ◌*◌, ◌/◌, ◌^◌, ◌≤◌, ◌≤ℤ◌, pos, unsigned_abs};
 ghost use Rattle.std.specs.Int.{int_max};
-ghost use Rattle.mu_num.specs.Sizes.{IsWithin};
+ghost use Rattle.mu_num.specs.Limits.{relative_unit, IsLevel};
 
 /// Returns the greater of the state's own quantum and the relative quantum |level| * relative /
 /// 4096. If `relative` is 0, no multiplication is done.
 pub(crate) fn quantum_with_relative(own: i64, level: i64, relative: u16) -> i64
     requires own { pos 0 ≤ℤ own }
-    requires level { IsWithin 43 level }
-    ensures { result ≡ int_max own (pos (unsigned_abs level * relative / 4096)) }
+    requires level { IsLevel level }
+    ensures { result ≡ int_max own (pos (unsigned_abs level * relative / relative_unit)) }
 {
     if relative == 0 {
         return own;
@@ -27,8 +27,8 @@ fn greater_quantum(own: i64, share: i64) -> i64
 
 // The relative quantum: |level| * relative / 4096, rounded down.
 fn share_of_level(level: i64, relative: u16) -> i64
-    requires { IsWithin 43 level }
-    ensures { result ≡ pos (unsigned_abs level * relative / 4096) }
+    requires { IsLevel level }
+    ensures { result ≡ pos (unsigned_abs level * relative / relative_unit) }
 {
     (level.unsigned_abs() * u64::from(relative) / 4096) as i64
 }

@@ -8,6 +8,7 @@ ghost use Rattle.std.specs.Prelude.{◌&&◌, not, ◌-ℤ◌};
 ghost use Rattle.mu_num.specs.Rounding.{nearest_of};
 ghost use Rattle.mu_num.specs.Sizes.{IsWithin, exceeds};
 ghost use Rattle.mu_num.specs.IndexedSums.{int_at, sum_below, abs_of, sum_over};
+ghost use Rattle.mu_num.specs.Limits.{variable_limit, bits_of_weight, IsLevel, AreLevels, IsState};
 ghost use Rattle.qss_machine.specs.Slopes.{products_of, mode_fits, slope_of, coefficient_of};
 ghost use Rattle.qss_machine.specs.Slopes.{mode_coefficient, weighted_sum, weight_of};
 ghost use Rattle.qss_machine.specs.MachineLimits.{IsRow, AreProducts};
@@ -15,15 +16,15 @@ ghost use Rattle.std.specs.List.Sorted.{IsStrictlyIncreasing};
 
 use crate::form_values::add_form_parts;
 use crate::machine_parts::{Entry, Product, SlopeRow};
-use mu_num::{exceeds_power_of_two, near_div};
+use mu_num::{WEIGHT_BITS, exceeds_power_of_two, near_div};
 
 /// Returns the slope of a row at these levels and discrete values, in units of 2^-(f+p+k).
 pub(crate) fn row_slope(row: &SlopeRow, level_bits: u8, levels: &[i64], discretes: &[i64]) -> i128
     requires bits { level_bits ≤ 24 }
-    requires count_limit { length levels.now + length discretes.now ≤ 4096 }
+    requires count_limit { length levels.now + length discretes.now ≤ variable_limit }
     requires row { IsRow (length levels.now) (length discretes.now) row.now }
-    requires levels { All (IsWithin 43) levels.now }
-    requires discretes { All (IsWithin 43) discretes.now }
+    requires levels { AreLevels levels.now }
+    requires discretes { AreLevels discretes.now }
     requires modes { IsTrue (mode_fits level_bits (length levels.now) row.now discretes.now) }
     ensures value { result ≡ slope_of level_bits row.now levels.now discretes.now }
     ensures bound { IsWithin 101 result }
@@ -37,16 +38,16 @@ pub(crate) fn row_slope(row: &SlopeRow, level_bits: u8, levels: &[i64], discrete
 /// coefficients at most 2^44 in size, absolute row sum at most 2^88.
 pub fn is_row_in_limits(row: &SlopeRow, level_bits: u8, levels: &[i64], discretes: &[i64]) -> bool
     requires bits { level_bits ≤ 24 }
-    requires count_limit { length levels.now + length discretes.now ≤ 4096 }
+    requires count_limit { length levels.now + length discretes.now ≤ variable_limit }
     requires row { IsRow (length levels.now) (length discretes.now) row.now }
-    requires levels { All (IsWithin 43) levels.now }
-    requires discretes { All (IsWithin 43) discretes.now }
+    requires levels { AreLevels levels.now }
+    requires discretes { AreLevels discretes.now }
     ensures { result
         ≡ (mode_fits level_bits (length levels.now) row.now discretes.now
-        && not (exceeds 88 (weight_of level_bits row.now levels.now discretes.now))) }
+        && not (exceeds bits_of_weight (weight_of level_bits row.now levels.now discretes.now))) }
 {
     row_modes_fit(row, level_bits, levels.len(), discretes)
-        && !exceeds_power_of_two(absolute_row_sum(row, level_bits, levels, discretes), 88)
+        && !exceeds_power_of_two(absolute_row_sum(row, level_bits, levels, discretes), WEIGHT_BITS)
 }
 
 /// Returns the coefficient of a variable, or 0 if no entry is of it.
@@ -64,11 +65,11 @@ pub fn entry_coefficient(entries: &[Entry], var: u32) -> i128
 
 /// Returns the sum of the entries' coefficients times the values of their variables.
 pub(crate) fn sum_slope_entries(entries: &[Entry], first: &[i64], second: &[i64]) -> i128
-    requires count_limit { length entries.now ≤ 4096 }
+    requires count_limit { length entries.now ≤ variable_limit }
     requires size_limit { All (λ entry. IsWithin 44 entry.coef) entries.now }
     requires known { All (λ entry. entry.var < length first.now + length second.now) entries.now }
-    requires firsts { All (IsWithin 43) first.now }
-    requires seconds { All (IsWithin 43) second.now }
+    requires firsts { AreLevels first.now }
+    requires seconds { AreLevels second.now }
     ensures value { result ≡ weighted_sum entries.now (first.now ++ second.now) }
     ensures bound { IsWithin 99 result }
 {
@@ -83,8 +84,8 @@ pub(crate) fn sum_slope_entries(entries: &[Entry], first: &[i64], second: &[i64]
 pub(crate) fn slope_entry_term(entry: Entry, first: &[i64], second: &[i64]) -> i128
     requires size_limit { IsWithin 44 entry.coef }
     requires known { entry.var < length first.now + length second.now }
-    requires firsts { All (IsWithin 43) first.now }
-    requires seconds { All (IsWithin 43) second.now }
+    requires firsts { AreLevels first.now }
+    requires seconds { AreLevels second.now }
     ensures value { result ≡ entry.coef *ℤ int_at (first.now ++ second.now) entry.var }
     ensures bound { IsWithin 87 result }
 {
@@ -97,7 +98,7 @@ pub(crate) fn slope_entry_term(entry: Entry, first: &[i64], second: &[i64]) -> i
 /// Multiplies a coefficient by a level or a discrete value.
 pub fn slope_term(coef: i64, value: i64) -> i128
     requires coef { IsWithin 44 coef }
-    requires value { IsWithin 43 value }
+    requires value { IsLevel value }
     ensures value { result ≡ coef *ℤ value }
     ensures bound { IsWithin 87 result }
 {
@@ -107,10 +108,10 @@ pub fn slope_term(coef: i64, value: i64) -> i128
 /// Returns the element at a place of two concatenated lists: levels, then discrete values.
 pub fn slope_input_at(first: &[i64], second: &[i64], place: usize) -> i64
     requires place { place < length first.now + length second.now }
-    requires firsts { All (IsWithin 43) first.now }
-    requires seconds { All (IsWithin 43) second.now }
+    requires firsts { AreLevels first.now }
+    requires seconds { AreLevels second.now }
     ensures value { result ≡ int_at (first.now ++ second.now) place }
-    ensures bound { IsWithin 43 result }
+    ensures bound { IsLevel result }
 {
     if place < first.len() {
         first[place]
@@ -122,10 +123,10 @@ pub fn slope_input_at(first: &[i64], second: &[i64], place: usize) -> i64
 // Returns the sum, over the states with products, of the rounded products times the level.
 fn product_slope(row: &SlopeRow, level_bits: u8, levels: &[i64], discretes: &[i64]) -> i128
     requires bits { level_bits ≤ 24 }
-    requires count_limit { length levels.now + length discretes.now ≤ 4096 }
+    requires count_limit { length levels.now + length discretes.now ≤ variable_limit }
     requires row { IsRow (length levels.now) (length discretes.now) row.now }
-    requires levels { All (IsWithin 43) levels.now }
-    requires discretes { All (IsWithin 43) discretes.now }
+    requires levels { AreLevels levels.now }
+    requires discretes { AreLevels discretes.now }
     requires modes { IsTrue (mode_fits level_bits (length levels.now) row.now discretes.now) }
     ensures value { result
         ≡ sum_below (length levels.now)
@@ -155,10 +156,10 @@ fn slope_product_at_level(
     state: usize,
 ) -> i128
     requires bits { level_bits ≤ 24 }
-    requires count_limit { length levels.now + length discretes.now ≤ 4096 }
+    requires count_limit { length levels.now + length discretes.now ≤ variable_limit }
     requires row { IsRow (length levels.now) (length discretes.now) row.now }
-    requires levels { All (IsWithin 43) levels.now }
-    requires discretes { All (IsWithin 43) discretes.now }
+    requires levels { AreLevels levels.now }
+    requires discretes { AreLevels discretes.now }
     requires modes { IsTrue (mode_fits level_bits (length levels.now) row.now discretes.now) }
     requires state { state < length levels.now }
     ensures value { result
@@ -180,9 +181,9 @@ pub(crate) fn rounded_row_products(
     state: u32,
 ) -> i128
     requires bits { level_bits ≤ 24 }
-    requires count_limit { state_count + length discretes.now ≤ 4096 }
+    requires count_limit { state_count + length discretes.now ≤ variable_limit }
     requires row { IsRow state_count (length discretes.now) row.now }
-    requires size_limit { All (IsWithin 43) discretes.now }
+    requires size_limit { AreLevels discretes.now }
     ensures value { result
         ≡ nearest_of (products_of row.now.products state_count discretes.now state)
         (pos (2 ^ level_bits)) }
@@ -207,7 +208,7 @@ pub(crate) fn sum_slope_products(
     requires count_limit { length products.now ≤ 2 ^ 24 }
     requires products { AreProducts first (length discretes.now) products.now }
     requires size_limit { All (λ product. IsWithin 44 product.coef) products.now }
-    requires values { All (IsWithin 43) discretes.now }
+    requires values { AreLevels discretes.now }
     ensures value { result ≡ products_of products.now first discretes.now state }
     ensures bound { IsWithin 111 result }
 {
@@ -223,7 +224,7 @@ fn slope_product_term_of(product: Product, first: usize, discretes: &[i64], stat
     requires size_limit { IsWithin 44 product.coef }
     requires from { first ≤ product.discrete }
     requires to { product.discrete < first + length discretes.now }
-    requires values { All (IsWithin 43) discretes.now }
+    requires values { AreLevels discretes.now }
     ensures value { result
         ≡ (if product.state == state then product.coef
         *ℤ int_at discretes.now (product.discrete - first) else pos 0) }
@@ -241,7 +242,7 @@ fn slope_product_term(product: Product, first: usize, discretes: &[i64]) -> i128
     requires size_limit { IsWithin 44 product.coef }
     requires from { first ≤ product.discrete }
     requires to { product.discrete < first + length discretes.now }
-    requires values { All (IsWithin 43) discretes.now }
+    requires values { AreLevels discretes.now }
     ensures value { result ≡ product.coef *ℤ int_at discretes.now (product.discrete - first) }
     ensures bound { unsigned_abs result ≤ 2 ^ 87 }
 {
@@ -262,7 +263,7 @@ fn sum_slope_products_halving(
     requires count_limit { length products.now ≤ 2 ^ 24 }
     requires products { AreProducts first (length discretes.now) products.now }
     requires size_limit { All (λ product. IsWithin 44 product.coef) products.now }
-    requires values { All (IsWithin 43) discretes.now }
+    requires values { AreLevels discretes.now }
     ensures value { result ≡ products_of products.now first discretes.now state }
     ensures bound { IsWithin 111 result }
 {
@@ -300,9 +301,9 @@ pub(crate) fn units_in_one(bits: u8) -> i128
 /// Multiplies a number of at most 2^45 in size by a level.
 pub(crate) fn wide_slope_term(coef: i128, level: i64) -> i128
     requires coef { IsWithin 45 coef }
-    requires level { IsWithin 43 level }
+    requires level { IsLevel level }
     ensures value { result ≡ coef *ℤ level }
-    ensures bound { IsWithin 88 result }
+    ensures bound { IsState result }
 {
     coef * i128::from(level)
 }
@@ -317,9 +318,9 @@ pub(crate) fn row_modes_fit(
     discretes: &[i64],
 ) -> bool
     requires bits { level_bits ≤ 24 }
-    requires count_limit { state_count + length discretes.now ≤ 4096 }
+    requires count_limit { state_count + length discretes.now ≤ variable_limit }
     requires row { IsRow state_count (length discretes.now) row.now }
-    requires size_limit { All (IsWithin 43) discretes.now }
+    requires size_limit { AreLevels discretes.now }
     ensures { result ≡ mode_fits level_bits state_count row.now discretes.now }
 {
     let mut past = 0;
@@ -346,9 +347,9 @@ pub(crate) fn row_mode_coefficient(
     state: u32,
 ) -> i128
     requires bits { level_bits ≤ 24 }
-    requires count_limit { state_count + length discretes.now ≤ 4096 }
+    requires count_limit { state_count + length discretes.now ≤ variable_limit }
     requires row { IsRow state_count (length discretes.now) row.now }
-    requires size_limit { All (IsWithin 43) discretes.now }
+    requires size_limit { AreLevels discretes.now }
     ensures value { result ≡ mode_coefficient level_bits state_count row.now discretes.now state }
     ensures bound { IsWithin 112 result }
 {
@@ -380,9 +381,9 @@ pub(crate) fn row_mode_coefficient_from(
 ) -> i128
     requires own { own ≡ coefficient_of row.now.entries state }
     requires bits { level_bits ≤ 24 }
-    requires count_limit { state_count + length discretes.now ≤ 4096 }
+    requires count_limit { state_count + length discretes.now ≤ variable_limit }
     requires row { IsRow state_count (length discretes.now) row.now }
-    requires size_limit { All (IsWithin 43) discretes.now }
+    requires size_limit { AreLevels discretes.now }
     ensures value { result ≡ mode_coefficient level_bits state_count row.now discretes.now state }
     ensures bound { IsWithin 112 result }
 {
@@ -402,10 +403,10 @@ pub(crate) fn absolute_row_sum(
     discretes: &[i64],
 ) -> i128
     requires bits { level_bits ≤ 24 }
-    requires count_limit { length levels.now + length discretes.now ≤ 4096 }
+    requires count_limit { length levels.now + length discretes.now ≤ variable_limit }
     requires row { IsRow (length levels.now) (length discretes.now) row.now }
-    requires levels { All (IsWithin 43) levels.now }
-    requires discretes { All (IsWithin 43) discretes.now }
+    requires levels { AreLevels levels.now }
+    requires discretes { AreLevels discretes.now }
     requires modes { IsTrue (mode_fits level_bits (length levels.now) row.now discretes.now) }
     ensures { result ≡ weight_of level_bits row.now levels.now discretes.now }
 {
@@ -416,11 +417,11 @@ pub(crate) fn absolute_row_sum(
 
 /// Returns the sum of the absolute values of all entries' terms.
 pub fn slope_entry_weight(entries: &[Entry], first: &[i64], second: &[i64]) -> i128
-    requires count_limit { length entries.now ≤ 4096 }
+    requires count_limit { length entries.now ≤ variable_limit }
     requires size_limit { All (λ entry. IsWithin 44 entry.coef) entries.now }
     requires known { All (λ entry. entry.var < length first.now + length second.now) entries.now }
-    requires firsts { All (IsWithin 43) first.now }
-    requires seconds { All (IsWithin 43) second.now }
+    requires firsts { AreLevels first.now }
+    requires seconds { AreLevels second.now }
     ensures value { result
         ≡ sum_over (λ entry. abs_of (entry.coef *ℤ int_at (first.now ++ second.now) entry.var))
         entries.now }
@@ -437,8 +438,8 @@ pub fn slope_entry_weight(entries: &[Entry], first: &[i64], second: &[i64]) -> i
 pub fn slope_entry_size(entry: Entry, first: &[i64], second: &[i64]) -> i128
     requires size_limit { IsWithin 44 entry.coef }
     requires known { entry.var < length first.now + length second.now }
-    requires firsts { All (IsWithin 43) first.now }
-    requires seconds { All (IsWithin 43) second.now }
+    requires firsts { AreLevels first.now }
+    requires seconds { AreLevels second.now }
     ensures value { result ≡ abs_of (entry.coef *ℤ int_at (first.now ++ second.now) entry.var) }
     ensures bound { unsigned_abs result ≤ 2 ^ 87 }
 {
@@ -448,10 +449,10 @@ pub fn slope_entry_size(entry: Entry, first: &[i64], second: &[i64]) -> i128
 // The contribution of all products to the absolute row sum. It may be negative.
 fn product_excess(row: &SlopeRow, level_bits: u8, levels: &[i64], discretes: &[i64]) -> i128
     requires bits { level_bits ≤ 24 }
-    requires count_limit { length levels.now + length discretes.now ≤ 4096 }
+    requires count_limit { length levels.now + length discretes.now ≤ variable_limit }
     requires row { IsRow (length levels.now) (length discretes.now) row.now }
-    requires levels { All (IsWithin 43) levels.now }
-    requires discretes { All (IsWithin 43) discretes.now }
+    requires levels { AreLevels levels.now }
+    requires discretes { AreLevels discretes.now }
     requires modes { IsTrue (mode_fits level_bits (length levels.now) row.now discretes.now) }
     ensures value { result
         ≡ sum_below (length levels.now)
@@ -483,10 +484,10 @@ fn state_product_excess(
     state: usize,
 ) -> i128
     requires bits { level_bits ≤ 24 }
-    requires count_limit { length levels.now + length discretes.now ≤ 4096 }
+    requires count_limit { length levels.now + length discretes.now ≤ variable_limit }
     requires row { IsRow (length levels.now) (length discretes.now) row.now }
-    requires levels { All (IsWithin 43) levels.now }
-    requires discretes { All (IsWithin 43) discretes.now }
+    requires levels { AreLevels levels.now }
+    requires discretes { AreLevels discretes.now }
     requires modes { IsTrue (mode_fits level_bits (length levels.now) row.now discretes.now) }
     requires state { state < length levels.now }
     ensures value { result
@@ -523,9 +524,9 @@ fn slope_coefficient_excess(mode: i128, own: i128) -> i128
 
 // Returns the absolute value of a level.
 fn slope_level_size(level: i64) -> i64
-    requires { IsWithin 43 level }
+    requires { IsLevel level }
     ensures value { result ≡ abs_of level }
-    ensures bound { IsWithin 43 result }
+    ensures bound { IsLevel result }
 {
     level.abs()
 }

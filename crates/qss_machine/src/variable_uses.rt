@@ -6,6 +6,7 @@ ghost use Rattle.std.specs.Prelude.{◌++◌, flat_map, ◌||◌, ◌==◌, repl
 ghost use Rattle.qss_machine.specs.Readers.{uses_of, reading_rows, reading_coefficients, has_entry};
 ghost use Rattle.qss_machine.specs.Readers.{row_reads, condition_reads, places_from};
 ghost use Rattle.mu_num.specs.IndexedSums.{tabulate};
+ghost use Rattle.mu_num.specs.Limits.{variable_limit, condition_limit};
 ghost use Rattle.qss_machine.specs.Machines.{state_count, discrete_count, row_coefficient};
 ghost use Rattle.std.specs.List.{list_any};
 ghost use Rattle.qss_machine.specs.declared.machine_parts.Condition.{Condition};
@@ -88,7 +89,7 @@ pub(crate) fn row_uses_by_variable(
     rows: &[SlopeRow],
     count: u32,
 ) -> Result<Vec<Vec<u32>>, AllocError>
-    requires count_limit { length rows.now ≤ 4096 }
+    requires count_limit { length rows.now ≤ variable_limit }
     requires known { All (IsRowOf count) rows.now }
     ensures { IfOk result
         (λ lists. map (λ list. list.items) lists.items
@@ -210,7 +211,7 @@ pub(crate) fn condition_uses_by_variable(
 ) -> Result<Vec<Vec<u32>>, AllocError>
     requires count_limit { length
         (flat_map (λ clause. map (λ branch. branch.condition) clause.branches) clauses.now)
-        ≤ 16384 }
+        ≤ condition_limit }
     requires known { All
         (λ clause. All (λ branch. IsConditionOf count branch.condition) clause.branches)
         clauses.now }
@@ -236,7 +237,7 @@ fn mark_branch_uses(
     branches: &[BranchInfo],
     first: u32,
 ) -> Result<u32, AllocError>
-    requires count_limit { first + length branches.now ≤ 16384 }
+    requires count_limit { first + length branches.now ≤ condition_limit }
     requires known { All (λ branch. IsConditionOf (length lists.old.items) branch.condition)
         branches.now }
     ensures next { IfOk result (λ next. next ≡ first + length branches.now) }

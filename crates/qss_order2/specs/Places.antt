@@ -7,6 +7,7 @@ use Rattle.mu_num.specs.Sizes.{IsWithin}
 use Rattle.mu_num.specs.ListedPlaces.{is_listed}
 use Rattle.qss_machine.specs.declared.compiled_machine.Machine.{Machine}
 use Rattle.mu_num.specs.IndexedSums.{int_at, tabulate, abs_of, sum_below}
+use Rattle.mu_num.specs.Limits.{look_span, IsSecondLevel, IsSecondState}
 use Rattle.qss_machine.specs.Legitimate.{start_coefficient}
 use Rattle.qss_machine.specs.Machines.{state_count}
 use Rattle.qss_order2.specs.declared.order2_motion.Place.{Place}
@@ -66,8 +67,8 @@ moved_in places changes rises bends tick j =
 
 -- a state of at most 94 bits, and a level of at most 49
 pub record IsSmallPlace (p : Place) : Type 0 where
-  pub state : IsWithin 94 p.state
-  pub level : IsWithin 49 p.level
+  pub state : IsSecondState p.state
+  pub level : IsSecondLevel p.level
 
 -- places that are not at the tick can be moved to it: they are small, and at most 65,536 ticks earlier
 pub record CanMove (n tick : ℕ) (places : List Place) (changes rises bends : List ℤ) : Type 0 where
@@ -75,12 +76,12 @@ pub record CanMove (n tick : ℕ) (places : List Place) (changes rises bends : L
   pub as_many_rises : length rises ≡ n
   pub as_many_bends : length bends ≡ n
   pub past : (j : ℕ) → j < n → (place_in places j).since ≤ tick
-  pub near : (j : ℕ) → j < n → tick ≤ (place_in places j).since + 65536
+  pub near : (j : ℕ) → j < n → tick ≤ (place_in places j).since + look_span
   pub small : (j : ℕ) → j < n → (place_in places j).since < tick → IsSmallPlace (place_in places j)
   pub small_changes : (j : ℕ) → j < n → IsWithin 95 (int_at changes j)
   pub small_rises : (j : ℕ) → j < n → (place_in places j).since < tick →
-      IsWithin 94 (int_at rises j)
-  pub small_bends : (j : ℕ) → j < n → IsWithin 94 (int_at bends j)
+      IsSecondState (int_at rises j)
+  pub small_bends : (j : ℕ) → j < n → IsSecondState (int_at bends j)
 
 -- how far new levels shift the slope of a row
 abbrev pub level_shift : Machine → ℕ → List Place → List Place → ℤ
@@ -108,9 +109,9 @@ pub record IsLineCalm (bound : ℤ) (p : Place) (change : ℤ) (window : ℕ) : 
 pub record CanRead (n tick : ℕ) (places : List Place) (changes : List ℤ) : Type 0 where
   pub as_many_changes : length changes ≡ n
   pub past : (j : ℕ) → j < n → (place_in places j).since ≤ tick
-  pub near : (j : ℕ) → j < n → tick ≤ (place_in places j).since + 65536
+  pub near : (j : ℕ) → j < n → tick ≤ (place_in places j).since + look_span
   pub small : (j : ℕ) → j < n → (place_in places j).since < tick →
-      IsWithin 49 (place_in places j).level
+      IsSecondLevel (place_in places j).level
   pub small_changes : (j : ℕ) → j < n → (place_in places j).since < tick →
       IsWithin 95 (int_at changes j)
 

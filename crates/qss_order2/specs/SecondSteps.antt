@@ -7,6 +7,7 @@ use Rattle.std.specs.Option.{option_or}
 use Rattle.mu_num.specs.Rounding.{floor_of, nearest_of}
 use Rattle.qss_machine.specs.declared.compiled_machine.Machine.{Machine}
 use Rattle.mu_num.specs.IndexedSums.{int_at, tabulate, sum_below, abs_of, first_exceeding}
+use Rattle.mu_num.specs.Limits.{look_span, bits_of_second_level, bits_of_second_state}
 use Rattle.qss_machine.specs.Machines.{state_count, level_unit, quanta, start_states}
 use Rattle.qss_machine.specs.Legitimate.{start_coefficient, start_constant_part, scaled_slope}
 
@@ -72,14 +73,14 @@ pub record AreChanges (Rule : ℤ → ℤ → ℤ → Type 0) (m : Machine) (ask
 -- else 2^94 for that of the level slopes
 abbrev pub first_exceeding_limit : Machine → List ℤ → List ℤ → Option ℕ
 first_exceeding_limit m levels changes =
-    option_or (first_exceeding 49 levels)
-    (option_or (first_exceeding 94 (tabulate (state_count m) (rise_weight m levels)))
-    (first_exceeding 94 (tabulate (state_count m) (rise_change_weight m changes))))
+    option_or (first_exceeding bits_of_second_level levels)
+    (option_or (first_exceeding bits_of_second_state (tabulate (state_count m) (rise_weight m levels)))
+    (first_exceeding bits_of_second_state (tabulate (state_count m) (rise_change_weight m changes))))
 
 -- the limits are checked at tick 0, at each multiple of this number, at the last tick, and if a
 -- state is requantized
 abbrev pub limit_check_period : ℕ
-limit_check_period = 65536
+limit_check_period = look_span
 
 abbrev pub is_limit_check : Machine → ℕ → Bool → Bool
 is_limit_check m tick requantized = tick % limit_check_period == 0 || tick == m.last || requantized

@@ -11,6 +11,7 @@ use Rattle.mu_num.specs.Sizes.{IsWithin, exceeds}
 use Rattle.qss_machine.specs.declared.compiled_machine.Machine.{Machine}
 use Rattle.mu_num.specs.ListedPlaces.{is_listed, AreRisingBelow}
 use Rattle.mu_num.specs.IndexedSums.{int_at, tabulate, abs_of}
+use Rattle.mu_num.specs.Limits.{look_span, bits_of_second_state, IsSecondState}
 use Rattle.qss_machine.specs.Machines.{state_count, discrete_count, level_unit}
 use Rattle.qss_machine.specs.Legitimate.{start_coefficient}
 use Rattle.qss_order2.specs.declared.order2_motion.Motion.{Motion}
@@ -257,11 +258,11 @@ AreChangesCalm n changes calm = (bound : ℤ) × (calm ≡ Some bound) × ((j : 
 pub record AreOnTheWay (n tick window : ℕ) (places : List Place) (changes rises bends : List ℤ) :
     Type 0 where
   pub past : (j : ℕ) → j < n → (place_in places j).since ≤ tick
-  pub near : (j : ℕ) → j < n → window ≤ (place_in places j).since + 65536
+  pub near : (j : ℕ) → j < n → window ≤ (place_in places j).since + look_span
   pub small : (j : ℕ) → j < n → IsSmallPlace (place_in places j)
   pub small_changes : (j : ℕ) → j < n → IsWithin 95 (int_at changes j)
-  pub small_rises : (j : ℕ) → j < n → IsWithin 94 (int_at rises j)
-  pub small_bends : (j : ℕ) → j < n → IsWithin 94 (int_at bends j)
+  pub small_rises : (j : ℕ) → j < n → IsSecondState (int_at rises j)
+  pub small_bends : (j : ℕ) → j < n → IsSecondState (int_at bends j)
 
 abbrev pub IsOnTheWay : Machine → ℕ → ℕ → Motion → Type 0
 IsOnTheWay m tick window q =
@@ -326,7 +327,7 @@ pub record MaySettle (m : Machine) (tick : ℕ) (s : Store) : Type 0 where
   pub reads : CanRead (state_count m) tick s.motion.places.items s.motion.changes.items
   pub in_window : tick ≤ s.window
   pub near : (j : ℕ) → j < state_count m → s.window ≤ (place_in s.motion.places.items j).since +
-      65536
+      look_span
   pub calm : s.wild ≡ false →
       (bound : ℤ) × (s.calm ≡ Some bound)
       × ((j : ℕ) → j < state_count m → is_listed s.left.items j ≡ false →
@@ -336,7 +337,7 @@ pub record MaySettle (m : Machine) (tick : ℕ) (s : Store) : Type 0 where
   pub risen : HasRisen m tick s.touched.places s.motion
   pub bends : (j : ℕ) → j < state_count m → int_at s.motion.bends.items j ≡ int_wrap w128
       (bend_at m j s.motion.changes.items)
-  pub flat : (j : ℕ) → j < state_count m → exceeds 94 (rise_change_weight m s.motion.changes.items
+  pub flat : (j : ℕ) → j < state_count m → exceeds bits_of_second_state (rise_change_weight m s.motion.changes.items
       j) ≡ false
   pub held : (j : ℕ) → j < state_count m → IsWithin 95
       (level_unit m *ℤ int_at s.motion.changes.items j)

@@ -5,10 +5,10 @@ ghost use Rattle.std.specs.Prelude.{◌≡◌, ◌≤◌, ◌<◌, ◌%◌, ◌+
 ghost use Rattle.std.specs.Prelude.{unsigned_abs, ℕ, All, length, Some, ◌-ℤ◌, ◌*ℤ◌, None, true};
 ghost use Rattle.std.specs.Prelude.{false, vec_capacity};
 ghost use Rattle.mu_num.specs.Curves.{curve_at, FirstUpTo};
-ghost use Rattle.mu_num.specs.Ticks.{tick_limit};
 ghost use Rattle.mu_num.specs.Sizes.{IsWithin, IsPositiveWithin};
 ghost use Rattle.mu_num.specs.ListedPlaces.{is_listed, AreRisingBelow};
 ghost use Rattle.mu_num.specs.Writes.{IsWritten};
+ghost use Rattle.mu_num.specs.Limits.{tick_limit, look_span, IsSecondLevel, IsSecondState};
 ghost use Rattle.qss_machine.specs.Machines.{state_count};
 ghost use Rattle.qss_order2.specs.Places.{place_in};
 ghost use Rattle.qss_order2.specs.Stores.{snapshot_at, motion_at, HasLists, Moves, due_at, until};
@@ -17,11 +17,8 @@ ghost use Rattle.qss_order2.specs.SecondSteps.{SecondSnapshot};
 
 use crate::fixed_machine::FixedMachine;
 use crate::order2_motion::Motion;
-use mu_num::first_curve;
+use mu_num::{LOOK_SPAN, first_curve};
 use qss_sched::Agenda;
-
-/// The limits are checked at each multiple of this number of ticks.
-const LOOK_SPAN: u64 = 65_536;
 
 /// Schedules the ticks at which the states of a list reach their quanta.
 pub(crate) fn set_leaving_dues(
@@ -40,7 +37,7 @@ pub(crate) fn set_leaving_dues(
         → (place_in q.now.places.items j).since ≡ tick }
     requires dues { length dues.old ≡ state_count f.now.machine }
     requires some { 1 ≤ reach }
-    requires count_limit { reach ≤ 65536 }
+    requires count_limit { reach ≤ look_span }
     ensures { IsWritten None
         (λ j due. IsDue2 f.now.machine (snapshot_at f.now.machine q.now tick) reach j
         (until tick due)) list.now
@@ -101,7 +98,7 @@ fn leaving_due_tick(
     requires state { state < state_count f.now.machine }
     requires here { (place_in q.now.places.items state).since ≡ tick }
     requires some { 1 ≤ reach }
-    requires count_limit { reach ≤ 65536 }
+    requires count_limit { reach ≤ look_span }
     ensures { IsDue2 f.now.machine (snapshot_at f.now.machine q.now tick) reach state
         (until tick result) }
 {
@@ -119,7 +116,7 @@ fn leaving_due_of(f: &FixedMachine, q: &Motion, tick: u64, state: usize, reach: 
     requires state { state < state_count f.now.machine }
     requires here { (place_in q.now.places.items state).since ≡ tick }
     requires some { 1 ≤ reach }
-    requires count_limit { reach ≤ 65536 }
+    requires count_limit { reach ≤ look_span }
     ensures { IsDue2 f.now.machine (snapshot_at f.now.machine q.now tick) reach state
         result }
 {
@@ -131,8 +128,8 @@ fn leaving_due_of(f: &FixedMachine, q: &Motion, tick: u64, state: usize, reach: 
 
 /// The signed distance of a state from its level, in units 64 times finer than those of states.
 pub fn leaving_gap_of(x: i128, level: i128, unit: i128) -> i128
-    requires state { IsWithin 94 x }
-    requires level { IsWithin 49 level }
+    requires state { IsSecondState x }
+    requires level { IsSecondLevel level }
     requires unit { IsPositiveWithin 44 unit }
     ensures value { result ≡ x -ℤ unit *ℤ level }
     ensures bound { IsWithin 95 result }
@@ -142,7 +139,7 @@ pub fn leaving_gap_of(x: i128, level: i128, unit: i128) -> i128
 
 // A level in units of a state.
 fn scale_leaving_level(level: i128, unit: i128) -> i128
-    requires level { IsWithin 49 level }
+    requires level { IsSecondLevel level }
     requires unit { IsPositiveWithin 44 unit }
     ensures value { result ≡ unit *ℤ level }
     ensures bound { IsWithin 93 result }
@@ -152,7 +149,7 @@ fn scale_leaving_level(level: i128, unit: i128) -> i128
 
 // The increment of that distance in the next tick, if the level changes by `change` per tick.
 fn leaving_drift_of(rise: i128, change: i128, unit: i128) -> i128
-    requires rise { IsWithin 94 rise }
+    requires rise { IsSecondState rise }
     requires change { IsWithin 95 (unit *ℤ change) }
     ensures value { result ≡ rise -ℤ unit *ℤ change }
     ensures bound { IsWithin 96 result }
@@ -166,9 +163,9 @@ fn first_step_past_limit(gap: i128, drift: i128, bend: i128, limit: i128, reach:
     requires inside { pos (unsigned_abs gap) <ℤ limit }
     requires bound { limit ≤ℤ pos (2 ^ 82) }
     requires slope { IsWithin 96 drift }
-    requires bend { IsWithin 94 bend }
+    requires bend { IsSecondState bend }
     requires some { 1 ≤ reach }
-    requires reach { reach ≤ 65536 }
+    requires reach { reach ≤ look_span }
     ensures { FirstUpTo (λ n. limit ≤ℤ pos (unsigned_abs (curve_at gap drift bend n))) reach result }
 {
     if is_never_leaving(drift, bend) {

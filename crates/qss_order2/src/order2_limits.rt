@@ -7,6 +7,7 @@ ghost use Rattle.mu_num.specs.Sizes.{IsWithin, exceeds};
 ghost use Rattle.qss_machine.specs.Machines.{state_count};
 ghost use Rattle.mu_num.specs.ListedPlaces.{is_listed};
 ghost use Rattle.mu_num.specs.IndexedSums.{int_at, first_exceeding, abs_of};
+ghost use Rattle.mu_num.specs.Limits.{variable_limit, bits_of_second_level, bits_of_second_state};
 ghost use Rattle.qss_order2.specs.Places.{levels_in, AreLevelsWithin, AreLinesWithin, place_in};
 ghost use Rattle.qss_order2.specs.Places.{CanRead, IsLineWithin};
 ghost use Rattle.qss_order2.specs.SecondRunLimits.{heavy_row, steep_row, IsFlat, past_levels};
@@ -16,15 +17,9 @@ ghost use Rattle.qss_order2.specs.SecondSteps.{rise_weight, rise_change_weight};
 use crate::fixed_machine::FixedMachine;
 use crate::order2_motion::{Place, level_in_motion, list_motion_levels};
 use crate::order2_rises::{is_rise_change_steep, rise_weight_of};
-use mu_num::{exceeds_power_of_two, unit};
+use mu_num::{SECOND_LEVEL_BITS, SECOND_WEIGHT_BITS, exceeds_power_of_two, unit};
 use qss_sched::repeat_value;
 use std::alloc::{AllocError, Global};
-
-/// The number of bits of a level, at most.
-const LEVEL_BITS: u8 = 49;
-
-/// The number of bits of an absolute row sum, at most.
-const WEIGHT_BITS: u8 = 94;
 
 /// Whether the absolute row sum of the level slopes exceeds its limit for a row of a list.
 pub(crate) fn has_bend_past_limit(f: &FixedMachine, list: &[u32], changes: &[i128]) -> bool
@@ -132,7 +127,7 @@ pub(crate) fn first_line_past_limit(
 pub(crate) fn calm_level_limit(alloc: Global, f: &FixedMachine) -> Result<Option<i128>, AllocError>
     ensures { IfOk result (λ calm. IsCalmBy f.now.machine calm) }
 {
-    let mut bits = LEVEL_BITS + 1;
+    let mut bits = SECOND_LEVEL_BITS + 1;
     while bits > 0 {
         bits -= 1;
         if is_within_calm_limit(alloc, f, bits)? {
@@ -146,7 +141,7 @@ pub(crate) fn calm_level_limit(alloc: Global, f: &FixedMachine) -> Result<Option
 fn is_bend_past_limit(f: &FixedMachine, row: usize, changes: &[i128]) -> bool
     requires row { row < state_count f.now.machine }
     requires changes { length changes.now ≡ state_count f.now.machine }
-    ensures { result ≡ exceeds 94 (rise_change_weight f.now.machine changes.now row) }
+    ensures { result ≡ exceeds bits_of_second_state (rise_change_weight f.now.machine changes.now row) }
 {
     is_rise_change_steep(f.rows[row].as_slice(), changes)
 }
@@ -227,11 +222,11 @@ pub(crate) fn first_state_past_limits(f: &FixedMachine, levels: &[i128]) -> Opti
 
 // The least state whose level exceeds its limit.
 fn first_level_past_limit(levels: &[i128]) -> Option<u32>
-    requires { length levels.now ≤ 4096 }
-    ensures { result ≡ first_exceeding 49 levels.now }
+    requires { length levels.now ≤ variable_limit }
+    ensures { result ≡ first_exceeding bits_of_second_level levels.now }
 {
     for j in 0..levels.len() {
-        if exceeds_power_of_two(levels[j], LEVEL_BITS) {
+        if exceeds_power_of_two(levels[j], SECOND_LEVEL_BITS) {
             return Some(j as u32);
         }
     }
@@ -258,11 +253,11 @@ fn is_row_past_limit(f: &FixedMachine, row: usize, levels: &[i128]) -> bool
     requires row { row < state_count f.now.machine }
     requires levels { length levels.now ≡ state_count f.now.machine }
     requires size_limit { All (IsWithin 50) levels.now }
-    ensures { result ≡ exceeds 94 (rise_weight f.now.machine levels.now row) }
+    ensures { result ≡ exceeds bits_of_second_state (rise_weight f.now.machine levels.now row) }
 {
     exceeds_power_of_two(
         rise_weight_of(f.rows[row].as_slice(), f.drives[row], levels),
-        WEIGHT_BITS,
+        SECOND_WEIGHT_BITS,
     )
 }
 

@@ -7,6 +7,7 @@ ghost use Rattle.mu_num.specs.Curves.{sum_to, curve_at};
 ghost use Rattle.mu_num.specs.Sizes.{IsWithin};
 ghost use Rattle.mu_num.specs.Writes.{IsWritten};
 ghost use Rattle.mu_num.specs.IndexedSums.{int_at};
+ghost use Rattle.mu_num.specs.Limits.{look_span, IsSecondLevel, IsSecondState};
 ghost use Rattle.qss_machine.specs.Machines.{state_count, level_unit};
 ghost use Rattle.qss_order2.specs.Places.{levels_in, moved_in, no_place, place_in, place_at};
 ghost use Rattle.qss_order2.specs.Places.{floor_place, level_on, rise_on, level_shift};
@@ -127,9 +128,9 @@ fn rise_moved_in_motion(
 
 // A slope after some ticks, at a constant second difference.
 fn slope_after_motion(rise: i128, bend: i128, ticks: u64) -> i128
-    requires rise { IsWithin 94 rise }
-    requires bend { IsWithin 94 bend }
-    requires ticks { ticks ≤ 65536 }
+    requires rise { IsSecondState rise }
+    requires bend { IsSecondState bend }
+    requires ticks { ticks ≤ look_span }
     ensures { result ≡ rise +ℤ pos ticks *ℤ bend }
 {
     rise + rise_in_motion(ticks, bend)
@@ -137,7 +138,7 @@ fn slope_after_motion(rise: i128, bend: i128, ticks: u64) -> i128
 
 // The increment of a number over some ticks, from its increment per tick.
 fn rise_in_motion(ticks: u64, change: i128) -> i128
-    requires ticks { ticks ≤ 65536 }
+    requires ticks { ticks ≤ look_span }
     requires change { IsWithin 95 change }
     ensures value { result ≡ pos ticks *ℤ change }
     ensures bound { IsWithin 111 result }
@@ -170,10 +171,10 @@ pub(crate) fn place_moved_in_motion(
 fn place_after_motion(p: Place, change: i128, rise: i128, bend: i128, tick: u64) -> Place
     requires place { IsSmallPlace p }
     requires change { IsWithin 95 change }
-    requires rise { IsWithin 94 rise }
-    requires bend { IsWithin 94 bend }
+    requires rise { IsSecondState rise }
+    requires bend { IsSecondState bend }
     requires since { p.since ≤ tick }
-    requires ticks { tick ≤ p.since + 65536 }
+    requires ticks { tick ≤ p.since + look_span }
     ensures { result ≡ place_at p change rise bend tick }
 {
     let ticks = tick - p.since;
@@ -186,10 +187,10 @@ fn place_after_motion(p: Place, change: i128, rise: i128, bend: i128, tick: u64)
 
 // A state after some ticks, along its parabola.
 fn state_after_motion(x: i128, rise: i128, bend: i128, ticks: u64) -> i128
-    requires state { IsWithin 94 x }
-    requires rise { IsWithin 94 rise }
-    requires bend { IsWithin 94 bend }
-    requires ticks { ticks ≤ 65536 }
+    requires state { IsSecondState x }
+    requires rise { IsSecondState rise }
+    requires bend { IsSecondState bend }
+    requires ticks { ticks ≤ look_span }
     ensures { result ≡ curve_at x rise bend ticks }
 {
     x + rise_in_motion(ticks, rise) + bend_in_motion(ticks, bend)
@@ -197,8 +198,8 @@ fn state_after_motion(x: i128, rise: i128, bend: i128, ticks: u64) -> i128
 
 // The contribution of the second difference to a state over some ticks.
 fn bend_in_motion(ticks: u64, bend: i128) -> i128
-    requires ticks { ticks ≤ 65536 }
-    requires bend { IsWithin 94 bend }
+    requires ticks { ticks ≤ look_span }
+    requires bend { IsSecondState bend }
     ensures value { result ≡ pos (sum_to ticks) *ℤ bend }
     ensures bound { IsWithin 125 result }
 {
@@ -207,7 +208,7 @@ fn bend_in_motion(ticks: u64, bend: i128) -> i128
 
 // The sum 0 + 1 + .. + (ticks - 1): the coefficient of the second difference after these ticks.
 fn motion_turns(ticks: u64) -> i128
-    requires { ticks ≤ 65536 }
+    requires { ticks ≤ look_span }
     ensures value { result ≡ pos (sum_to ticks) }
     ensures bound { IsWithin 31 result }
 {
@@ -219,9 +220,9 @@ fn motion_turns(ticks: u64) -> i128
 
 // A level after some ticks, along its line.
 fn line_after_motion(level: i128, change: i128, ticks: u64) -> i128
-    requires level { IsWithin 49 level }
+    requires level { IsSecondLevel level }
     requires change { IsWithin 95 change }
-    requires ticks { ticks ≤ 65536 }
+    requires ticks { ticks ≤ look_span }
     ensures { result ≡ level +ℤ pos ticks *ℤ change }
 {
     level + rise_in_motion(ticks, change)

@@ -9,6 +9,7 @@ ghost use Rattle.mu_num.specs.ListedPlaces.{is_listed};
 ghost use Rattle.mu_num.specs.Writes.{IsWritten};
 ghost use Rattle.qss_machine.specs.Machines.{state_count, level_unit};
 ghost use Rattle.mu_num.specs.IndexedSums.{int_at, abs_of};
+ghost use Rattle.mu_num.specs.Limits.{variable_limit, bits_of_second_state, IsState, IsSlope, IsSecondState};
 ghost use Rattle.qss_order2.specs.Places.{levels_in, place_in, change_shift, CanRead};
 ghost use Rattle.qss_order2.specs.SecondRunLaws.{bend_at};
 ghost use Rattle.qss_order2.specs.SecondRunLimits.{steep_row, IsFlat, AreFlatOutside, AreHeld};
@@ -117,10 +118,10 @@ pub(crate) fn settle_rises(
 
 /// Whether the sum of the absolute values of all coefficients times level slopes exceeds 2^94.
 pub(crate) fn is_rise_change_steep(entries: &[Entry], changes: &[i128]) -> bool
-    requires count_limit { length entries.now ≤ 4096 }
+    requires count_limit { length entries.now ≤ variable_limit }
     requires known { All (λ entry. entry.var < length changes.now) entries.now }
     ensures { result
-        ≡ exceeds 94
+        ≡ exceeds bits_of_second_state
         (absolute_sum entries.now changes.now) }
 {
     let mut sum: u128 = 0;
@@ -135,11 +136,11 @@ pub(crate) fn is_rise_change_steep(entries: &[Entry], changes: &[i128]) -> bool
 
 /// The absolute row sum: the slope of a state with the absolute value of each term.
 pub(crate) fn rise_weight_of(entries: &[Entry], drive: i128, levels: &[i128]) -> i128
-    requires count_limit { length entries.now ≤ 4096 }
+    requires count_limit { length entries.now ≤ variable_limit }
     requires size_limit { All (λ entry. IsWithin 44 entry.coef) entries.now }
     requires known { All (λ entry. entry.var < length levels.now) entries.now }
     requires levels { All (IsWithin 50) levels.now }
-    requires drive { IsWithin 88 drive }
+    requires drive { IsSlope drive }
     ensures value { result
         ≡ absolute_sum entries.now levels.now +ℤ pos 64
         *ℤ abs_of drive }
@@ -194,12 +195,12 @@ pub(crate) fn rise_of(
     changes: &[i128],
     tick: u64,
 ) -> i128
-    requires count_limit { length entries.now ≤ 4096 }
+    requires count_limit { length entries.now ≤ variable_limit }
     requires size_limit { All (λ entry. IsWithin 44 entry.coef) entries.now }
     requires known { All (λ entry. entry.var < length places.now) entries.now }
     requires reads { CanRead (length places.now) tick places.now changes.now }
     requires levels { All (IsWithin 50) (levels_in places.now changes.now tick) }
-    requires drive { IsWithin 88 drive }
+    requires drive { IsSlope drive }
     ensures value { result
         ≡ weighted_sum entries.now (levels_in places.now changes.now tick) +ℤ pos 64
         *ℤ drive }
@@ -215,7 +216,7 @@ pub(crate) fn rise_level_sum(
     changes: &[i128],
     tick: u64,
 ) -> i128
-    requires count_limit { length entries.now ≤ 4096 }
+    requires count_limit { length entries.now ≤ variable_limit }
     requires size_limit { All (λ entry. IsWithin 44 entry.coef) entries.now }
     requires known { All (λ entry. entry.var < length places.now) entries.now }
     requires reads { CanRead (length places.now) tick places.now changes.now }
@@ -253,7 +254,7 @@ fn rise_term(coef: i64, level: i128) -> i128
     requires coef { IsWithin 44 coef }
     requires level { IsWithin 50 level }
     ensures value { result ≡ coef *ℤ level }
-    ensures bound { IsWithin 94 result }
+    ensures bound { IsSecondState result }
 {
     i128::from(coef) * level
 }
@@ -345,7 +346,7 @@ fn set_rise_bends(f: &FixedMachine, list: &[u32], changes: &[i128], bends: &mut 
 fn rise_bend_at(f: &FixedMachine, row: usize, changes: &[i128]) -> i128
     requires row { row < state_count f.now.machine }
     requires changes { length changes.now ≡ state_count f.now.machine }
-    requires within { exceeds 94 (rise_change_weight f.now.machine changes.now row) ≡ false }
+    requires within { exceeds bits_of_second_state (rise_change_weight f.now.machine changes.now row) ≡ false }
     ensures { result ≡ bend_at f.now.machine row changes.now }
 {
     rise_change_sum(f.rows[row].as_slice(), changes)
@@ -354,9 +355,9 @@ fn rise_bend_at(f: &FixedMachine, row: usize, changes: &[i128]) -> i128
 /// The sum of all coefficients times the level slopes of their states. The absolute values add up
 /// to at most 2^94.
 pub(crate) fn rise_change_sum(entries: &[Entry], changes: &[i128]) -> i128
-    requires count_limit { length entries.now ≤ 4096 }
+    requires count_limit { length entries.now ≤ variable_limit }
     requires known { All (λ entry. entry.var < length changes.now) entries.now }
-    requires within { exceeds 94
+    requires within { exceeds bits_of_second_state
         (absolute_sum entries.now changes.now)
         ≡ false }
     ensures { result ≡ weighted_sum entries.now changes.now }
@@ -371,7 +372,7 @@ pub(crate) fn rise_change_sum(entries: &[Entry], changes: &[i128]) -> i128
 // The coefficient of an entry times the level slope of its state, at most 2^94.
 fn rise_change_term(entry: Entry, changes: &[i128]) -> i128
     requires known { entry.var < length changes.now }
-    requires within { IsWithin 94 (entry.coef *ℤ int_at changes.now entry.var) }
+    requires within { IsSecondState (entry.coef *ℤ int_at changes.now entry.var) }
     ensures value { result ≡ entry.coef *ℤ int_at changes.now entry.var }
     ensures bound { unsigned_abs result ≤ 2 ^ 94 }
 {
@@ -414,7 +415,7 @@ fn update_rise_changes(
 // exceeds 2^94.
 fn rise_entry_size(entry: Entry, changes: &[i128]) -> Option<u128>
     requires { entry.var < length changes.now }
-    ensures { MatchOption result (exceeds 94 (entry.coef *ℤ int_at changes.now entry.var) ≡ true)
+    ensures { MatchOption result (exceeds bits_of_second_state (entry.coef *ℤ int_at changes.now entry.var) ≡ true)
         (λ s. (pos s ≡ abs_of (entry.coef *ℤ int_at changes.now entry.var)) × (s ≤ 2 ^ 94)) }
 {
     rise_size_within(entry.coef, changes[entry.var as usize])
@@ -423,7 +424,7 @@ fn rise_entry_size(entry: Entry, changes: &[i128]) -> Option<u128>
 // The absolute value of a coefficient times a level slope, or `None` if it exceeds 2^94. Never
 // overflows.
 fn rise_size_within(coef: i64, change: i128) -> Option<u128>
-    ensures { MatchOption result (exceeds 94 (coef *ℤ change) ≡ true)
+    ensures { MatchOption result (exceeds bits_of_second_state (coef *ℤ change) ≡ true)
         (λ s. (s ≡ unsigned_abs (coef *ℤ change)) × (s ≤ 2 ^ 94)) }
 {
     let factor = u128::from(coef.unsigned_abs());
@@ -439,7 +440,7 @@ fn rise_size_within(coef: i64, change: i128) -> Option<u128>
 
 /// The sum of the absolute values of all coefficients times the levels of their states.
 pub(crate) fn rise_level_weight(entries: &[Entry], levels: &[i128]) -> i128
-    requires count_limit { length entries.now ≤ 4096 }
+    requires count_limit { length entries.now ≤ variable_limit }
     requires size_limit { All (λ entry. IsWithin 44 entry.coef) entries.now }
     requires known { All (λ entry. entry.var < length levels.now) entries.now }
     requires levels { All (IsWithin 50) levels.now }
@@ -478,9 +479,9 @@ fn entry_rise_term(entry: Entry, levels: &[i128]) -> i128
 
 // The absolute value of the constant part of a row.
 fn rise_drive_size(drive: i128) -> i128
-    requires { IsWithin 88 drive }
+    requires { IsSlope drive }
     ensures value { result ≡ abs_of drive }
-    ensures bound { IsWithin 88 result }
+    ensures bound { IsState result }
 {
     drive.abs()
 }

@@ -8,6 +8,7 @@ ghost use Rattle.mu_num.specs.IndexedSums.{tabulate};
 ghost use Rattle.qss_order2.specs.declared.order2_rows.Kind2.TheVariants.{Slope, End};
 ghost use Rattle.qss_order2.specs.SecondRuns.{discrete_rows2, end_rows, overflow_row};
 ghost use Rattle.mu_num.specs.ListedPlaces.{AreRisingBelow};
+ghost use Rattle.mu_num.specs.Limits.{variable_limit};
 ghost use Rattle.qss_order2.specs.Places.{moved_in, CanMove};
 ghost use Rattle.qss_order2.specs.Stores.{CanMoveTo, snapshot_of, motion_at, HasLists, place_rows};
 ghost use Rattle.qss_rows.specs.HeldLines.{lines_in};
@@ -58,7 +59,7 @@ pub(crate) fn set_left_rows(
     changes: &[i128],
     rows: &mut Vec<Row2>,
 )
-    requires count_limit { length places.now ≤ 4096 }
+    requires count_limit { length places.now ≤ variable_limit }
     requires changes { length changes.now ≡ length places.now }
     requires left { AreRisingBelow (length places.now) left.now }
     requires room { length places.now + length places.now ≤ vec_capacity rows.old }
@@ -141,7 +142,7 @@ fn push_state(
     x: i128,
     rows: &mut Vec<Row2>,
 )
-    requires count_limit { state < 4096 }
+    requires count_limit { state < variable_limit }
     requires room { vec_len rows.old + 2 ≤ vec_capacity rows.old }
     ensures rows { rows.new.items
         ≡ rows.old.items
@@ -176,7 +177,7 @@ fn add_levels(
     bends: &[i128],
     rows: &mut Vec<Row2>,
 )
-    requires count_limit { length places.now ≤ 4096 }
+    requires count_limit { length places.now ≤ variable_limit }
     requires moves { CanMove (length places.now) tick places.now changes.now rises.now bends.now }
     requires room { vec_len rows.old + length places.now ≤ vec_capacity rows.old }
     ensures rows { rows.new.items
@@ -196,7 +197,7 @@ fn add_levels(
 
 // A row of a state at the end, at its place there.
 fn end_row(tick: u64, state: usize, p: Place) -> Row2
-    requires { state < 4096 }
+    requires { state < variable_limit }
     ensures { result
         ≡ record { tick = tick; kind = End; var = state; level = p.level; state = p.state } }
 {

@@ -2,8 +2,8 @@
 
 ghost use Rattle.std.specs.Prelude.{◌≡◌, ◌≤◌, IfOk, length, pos, ◌*ℤ◌, vec_capacity};
 ghost use Rattle.std.specs.List.{range_with_len};
-ghost use Rattle.mu_num.specs.Sizes.{IsWithin};
 ghost use Rattle.mu_num.specs.IndexedSums.{int_at, tabulate};
+ghost use Rattle.mu_num.specs.Limits.{IsState};
 ghost use Rattle.qss_order2.specs.SlopeRules.{IsRuled2};
 ghost use Rattle.qss_order2.specs.SecondRuns.{start_rows};
 ghost use Rattle.qss_order2.specs.Stores.{snapshot_at, IsResting, IsBlank, Stands};
@@ -112,7 +112,7 @@ fn start_order2_states(alloc: Global, m: &Machine) -> Result<Vec<i128>, AllocErr
 
 // A state in units 64 times finer.
 fn fine_state(x: i128) -> i128
-    requires { IsWithin 88 x }
+    requires { IsState x }
     ensures { result ≡ pos 64 *ℤ x }
 {
     64 * x

@@ -18,7 +18,7 @@ use Rattle.mu_num.specs.Sizes.{IsWithin, exceeds}
 use Rattle.qss_machine.specs.Handlers.{HandlerState, run_clauses}
 use Rattle.qss_machine.specs.RunLaws.{HasSmallLevels, states_from, levels_from}
 use Rattle.qss_machine.specs.Legitimate.{IsLegitimate}
-use Rattle.qss_machine.specs.MachineLimits.{IsState}
+use Rattle.qss_machine.specs.MachineLimits.{IsStateInfo}
 use Rattle.qss_machine.specs.Machines.{state_count, level_unit, quanta, start_states}
 use Rattle.mu_num.specs.IndexedSums.{int_at}
 use Rattle.qss_machine.specs.Runs.{IsExecutionBy, IsExecution, RunEndsBy, Run, IsRun}
@@ -70,7 +70,7 @@ record IsFit (m : Machine) (w : Snapshot) : Type 0 where
 small-list : (narrow wide : ℕ) → 2 ^ narrow ≤ 2 ^ wide → (xs : List ℤ) → ((j : ℕ) → IsWithin narrow (int_at xs j)) → All (IsWithin wide) xs
 small-list narrow wide le xs each = wider narrow wide xs le (all_of (IsWithin narrow) xs (length xs) refl (λ k h. each k))
 
-starts_small : (unit : ℤ) (states : List StateInfo) → All (IsState unit) states → (j : ℕ) → IsWithin 88 (int_at (map (λ (s : StateInfo). s.x0) states) j)
+starts_small : (unit : ℤ) (states : List StateInfo) → All (IsStateInfo unit) states → (j : ℕ) → IsWithin 88 (int_at (map (λ (s : StateInfo). s.x0) states) j)
 starts_small unit [] all j = omega arith
 starts_small unit (s ∷ states) all zero = (all 0 s (omega arith)).start
 starts_small unit (s ∷ states) all (suc j) = starts_small unit states (λ k d h. all (suc k) d (omega arith)) j

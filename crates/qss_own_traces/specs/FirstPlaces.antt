@@ -1,6 +1,6 @@
 -- One point of a run under the rule `floor`.
-use Rattle.std.specs.Prelude.{◌≡◌, length, All}
-use Rattle.mu_num.specs.Sizes.{IsWithin}
+use Rattle.std.specs.Prelude.{◌≡◌, length}
+use Rattle.mu_num.specs.Limits.{AreLevels, AreStates}
 use Rattle.qss_machine.specs.declared.compiled_machine.Machine.{Machine}
 use Rattle.qss_machine.specs.Machines.{state_count}
 use Rattle.qss_machine.specs.Ticks.{Snapshot}
@@ -14,14 +14,14 @@ snapshot_of m place = plain_world m place.states.items place.levels.items
 -- one state for each state variable, within the limits
 pub record HasStates (m : Machine) (place : FirstPlace) : Type 0 where
   pub one_each : length place.states.items ≡ state_count m
-  pub small : All (IsWithin 88) place.states.items
+  pub small : AreStates place.states.items
 
 -- their levels, within the limits, and equal levels in 64 bits
 pub record HasLevels (m : Machine) (place : FirstPlace) : Type 0 where
   pub one_each : length place.levels.items ≡ state_count m
   pub short_each : length place.short_levels.items ≡ state_count m
   pub same : place.short_levels.items ≡ place.levels.items
-  pub small : All (IsWithin 43) place.levels.items
+  pub small : AreLevels place.levels.items
 
 -- states and levels within the limits
 pub record IsWithinLimits (m : Machine) (place : FirstPlace) : Type 0 where

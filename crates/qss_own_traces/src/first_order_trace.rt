@@ -1,10 +1,11 @@
 //! The trace of a machine's run under the rule `floor`, computed tick by tick.
 
-ghost use Rattle.std.specs.Prelude.{◌≡◌, ◌<◌, ◌≤◌, ℕ, [], All, None, position, length, pos, ◌+ℤ◌};
+ghost use Rattle.std.specs.Prelude.{◌≡◌, ◌<◌, ◌≤◌, ℕ, [], None, position, length, pos, ◌+ℤ◌};
 ghost use Rattle.std.specs.Prelude.{◌-ℤ◌, ◌*ℤ◌, ◌<ℤ◌, unsigned_abs, int_lt, if◌then◌else◌, IfOk};
 ghost use Rattle.std.specs.Prelude.{IfErr};
 ghost use Rattle.mu_num.specs.Levels.{floor_level};
 ghost use Rattle.mu_num.specs.Sizes.{IsWithin, IsPositiveWithin};
+ghost use Rattle.mu_num.specs.Limits.{tick_limit, bits_of_level, bits_of_state, IsLevel, AreLevels, IsState, AreStates};
 ghost use Rattle.qss_machine.specs.Machines.{state_count, level_unit, start_discretes, row_at};
 ghost use Rattle.qss_machine.specs.Ticks.{is_within_quantum, exceeds_row_limits, moved_states};
 ghost use Rattle.qss_machine.specs.Ticks.{next_levels};
@@ -13,25 +14,13 @@ ghost use Rattle.cert_check.specs.CertificateLimits.{IsSize};
 ghost use Rattle.qss_trace.specs.Trace.{IsRunOf};
 ghost use Rattle.qss_own_traces.specs.FirstRuns.{IsFirstTrace, IsFirstRefusal};
 
-use crate::own_trace_draft::{
-    Draft, TraceOver, draft_levels_below, draft_number_exceeding, draft_states_at_start,
-    finish_draft_trace, trace_draft_unit,
-};
-use mu_num::{exceeds_power_of_two, floor_div};
+use crate::own_trace_draft::{Draft, TraceOver, draft_levels_below, draft_number_exceeding, draft_states_at_start, finish_draft_trace, trace_draft_unit};
+use mu_num::{LEVEL_BITS, STATE_BITS, WEIGHT_BITS, exceeds_power_of_two, floor_div};
 use qss_machine::Machine;
 use qss_order2::{fixed_discretes_of, leaving_gap_of};
 use qss_sched::repeat_value;
 use qss_trace::Trace;
 use std::alloc::{AllocError, Global};
-
-/// The number of bits of a state, at most.
-const STATE_BITS: u8 = 88;
-
-/// The number of bits of a level, at most.
-const LEVEL_BITS: u8 = 43;
-
-/// The number of bits of an absolute row sum, at most.
-const WEIGHT_BITS: u8 = 88;
 
 /// The current point of the run, and its states and levels so far.
 #[derive(Drop)]
@@ -145,7 +134,7 @@ impl FirstPlace {
     fn move_on(&mut self, m: &Machine, discretes: &[i64]) -> Option<u32>
         requires stands { IsWithinLimits m.now self.old }
         requires discretes { discretes.now ≡ start_discretes m.now }
-        ensures overflow { result ≡ first_exceeding 88 self.new.states.items }
+        ensures overflow { result ≡ first_exceeding bits_of_state self.new.states.items }
         ensures moved { self.new.states.items ≡ moved_states m.now (snapshot_of m.now self.old) }
         ensures levels { (self.new.levels ≡ self.old.levels)
             × (self.new.short_levels ≡ self.old.short_levels) }
@@ -164,7 +153,7 @@ impl FirstPlace {
     fn relevel(&mut self, m: &Machine, unit: i128) -> Option<u32>
         requires stands { IsWithinLimits m.now self.old }
         requires unit { unit ≡ level_unit m.now }
-        ensures overflow { result ≡ first_exceeding 43 self.new.levels.items }
+        ensures overflow { result ≡ first_exceeding bits_of_level self.new.levels.items }
         ensures states { self.new.states ≡ self.old.states }
         ensures releveled { self.new.levels.items
             ≡ next_levels floor_level m.now self.old.states.items self.old.levels.items }
@@ -185,7 +174,7 @@ impl FirstPlace {
         requires unit { unit ≡ level_unit m.now }
         requires discretes { discretes.now ≡ start_discretes m.now }
         ensures overflow { result
-            ≡ option_or (first_exceeding 43 self.new.levels.items)
+            ≡ option_or (first_exceeding bits_of_level self.new.levels.items)
             (position (exceeds_row_limits m.now self.new.levels.items (start_discretes m.now))
             m.now.rows) }
         ensures states { self.new.states ≡ self.old.states }
@@ -238,7 +227,7 @@ pub fn first_trace(alloc: Global, m: &Machine) -> Result<Trace, TraceOver>
 // Copies levels to 64 bits.
 fn shorten_first_trace_levels(levels: &[i128], short: &mut [i64])
     requires same_length { length short.old ≡ length levels.now }
-    requires size_limit { All (IsWithin 43) levels.now }
+    requires size_limit { AreLevels levels.now }
     ensures { short.new ≡ levels.now }
 {
     for j in 0..short.len() {
@@ -251,8 +240,8 @@ fn move_states(m: &Machine, levels: &[i64], discretes: &[i64], states: &mut [i12
     requires discretes { discretes.now ≡ start_discretes m.now }
     requires levels { length levels.now ≡ state_count m.now }
     requires states { length states.old ≡ state_count m.now }
-    requires small_levels { All (IsWithin 43) levels.now }
-    requires small_states { All (IsWithin 88) states.old }
+    requires small_levels { AreLevels levels.now }
+    requires small_states { AreStates states.old }
     ensures { states.new ≡ moved_states m.now (plain_world m.now states.old levels.now) }
 {
     for j in 0..states.len() {
@@ -262,7 +251,7 @@ fn move_states(m: &Machine, levels: &[i64], discretes: &[i64], states: &mut [i12
 
 // A state after one tick.
 fn risen(x: i128, slope: i128) -> i128
-    requires state { IsWithin 88 x }
+    requires state { IsState x }
     requires slope { IsWithin 101 slope }
     ensures { result ≡ x +ℤ slope }
 {
@@ -274,8 +263,8 @@ fn set_first_trace_levels(m: &Machine, unit: i128, states: &[i128], levels: &mut
     requires unit { unit ≡ level_unit m.now }
     requires states { length states.now ≡ state_count m.now }
     requires levels { length levels.old ≡ state_count m.now }
-    requires small_states { All (IsWithin 88) states.now }
-    requires small_levels { All (IsWithin 43) levels.old }
+    requires small_states { AreStates states.now }
+    requires small_levels { AreLevels levels.old }
     ensures { levels.new ≡ next_levels floor_level m.now states.now levels.old }
 {
     for j in 0..levels.len() {
@@ -288,8 +277,8 @@ fn set_first_trace_levels(m: &Machine, unit: i128, states: &[i128], levels: &mut
 fn next_first_trace_level(m: &Machine, unit: i128, state: u32, x: i128, level: i128) -> i128
     requires unit { unit ≡ level_unit m.now }
     requires state { state < state_count m.now }
-    requires small_state { IsWithin 88 x }
-    requires small_level { IsWithin 43 level }
+    requires small_state { IsState x }
+    requires small_level { IsLevel level }
     ensures { result
         ≡ (if is_within_quantum m.now state x level then level else floor_level (level_unit m.now) x level) }
 {
@@ -303,8 +292,8 @@ fn next_first_trace_level(m: &Machine, unit: i128, state: u32, x: i128, level: i
 // Whether a state is less than a quantum from its level.
 fn is_first_trace_close(unit: i128, x: i128, level: i128, quantum: i64) -> bool
     requires unit { IsPositiveWithin 44 unit }
-    requires state { IsWithin 88 x }
-    requires level { IsWithin 43 level }
+    requires state { IsState x }
+    requires level { IsLevel level }
     ensures { result ≡ int_lt (pos (unsigned_abs (x -ℤ unit *ℤ level))) (unit *ℤ quantum) }
 {
     leaving_gap_of(x, level, unit).abs() < in_states(unit, quantum)
@@ -322,7 +311,7 @@ fn in_states(unit: i128, count: i64) -> i128
 fn first_heavy(m: &Machine, levels: &[i64], discretes: &[i64]) -> Option<u32>
     requires discretes { discretes.now ≡ start_discretes m.now }
     requires levels { length levels.now ≡ state_count m.now }
-    requires size_limit { All (IsWithin 43) levels.now }
+    requires size_limit { AreLevels levels.now }
     ensures { result
         ≡ position (exceeds_row_limits m.now levels.now (start_discretes m.now)) m.now.rows }
 {
@@ -339,7 +328,7 @@ fn is_heavy(m: &Machine, row: u32, levels: &[i64], discretes: &[i64]) -> bool
     requires row { row < state_count m.now }
     requires discretes { discretes.now ≡ start_discretes m.now }
     requires levels { length levels.now ≡ state_count m.now }
-    requires size_limit { All (IsWithin 43) levels.now }
+    requires size_limit { AreLevels levels.now }
     ensures { result ≡ exceeds_row_limits m.now levels.now (start_discretes m.now) (row_at m.now row) }
 {
     exceeds_power_of_two(m.weight(row, levels, discretes), WEIGHT_BITS)

@@ -9,6 +9,7 @@ ghost use Rattle.qss_trace.specs.TracePlaces.{places};
 ghost use Rattle.qss_own_traces.specs.Traces.{IsTraceOf};
 ghost use Rattle.mu_num.specs.IndexedSums.{first_exceeding};
 ghost use Rattle.mu_num.specs.Rounding.{floor_of};
+ghost use Rattle.mu_num.specs.Limits.{variable_limit};
 
 use mu_io::Items;
 use mu_num::{exceeds_power_of_two, floor_div};
@@ -104,7 +105,7 @@ pub(crate) fn finish_draft_trace(
 
 /// The least index of a number greater than 2^bits in absolute value.
 pub(crate) fn draft_number_exceeding(numbers: &[i128], bits: u8) -> Option<u32>
-    requires count_limit { length numbers.now ≤ 4096 }
+    requires count_limit { length numbers.now ≤ variable_limit }
     requires bits { bits < 100 }
     ensures { result ≡ first_exceeding bits numbers.now }
 {

@@ -3,7 +3,7 @@
 
 ghost use Rattle.std.specs.Prelude.{◌≡◌, ◌<◌, ◌≤◌, ◌||◌, ℕ, Bool, All, None, position, length, pos};
 ghost use Rattle.std.specs.Prelude.{◌+ℤ◌, ◌*ℤ◌, ◌<ℤ◌, replicate, true, if◌then◌else◌, [], IfOk};
-ghost use Rattle.std.specs.Prelude.{IfErr, ◌^◌, MatchOption, ◌-ℤ◌, unsigned_abs};
+ghost use Rattle.std.specs.Prelude.{IfErr, MatchOption, ◌-ℤ◌, unsigned_abs};
 ghost use Rattle.std.specs.List.{list_any, range_with_len};
 ghost use Rattle.std.specs.Option.{option_or};
 ghost use Rattle.mu_num.specs.Rounding.{floor_of};
@@ -11,6 +11,7 @@ ghost use Rattle.mu_num.specs.Sizes.{IsWithin, exceeds};
 ghost use Rattle.mu_num.specs.ListedPlaces.{flag_at};
 ghost use Rattle.qss_machine.specs.Machines.{state_count, level_unit};
 ghost use Rattle.mu_num.specs.IndexedSums.{int_at, first_exceeding, tabulate, abs_of};
+ghost use Rattle.mu_num.specs.Limits.{variable_limit, tick_limit, sum_limit, bits_of_second_level, bits_of_second_state};
 ghost use Rattle.qss_order2.specs.SecondSteps.{rise_change_weight, is_limit_check, nearest_change};
 ghost use Rattle.qss_order2.specs.SecondSteps.{rise_at, rise_weight};
 ghost use Rattle.qss_own_traces.specs.SecondPlaces.{AreHeld, AreSized, changed, has_left};
@@ -23,23 +24,14 @@ ghost use Rattle.qss_own_traces.specs.SecondRuns.{IsSecondTrace, IsSecondRefusal
 ghost use Rattle.cert_matrix.specs.Matrix.{table};
 ghost use Rattle.qss_trace.specs.TraceSums.{IsSmall};
 
-use crate::own_trace_draft::{
-    Draft, TraceOver, draft_levels_below, draft_number_exceeding, draft_states_at_start,
-    finish_draft_trace,
-};
+use crate::own_trace_draft::{Draft, TraceOver, draft_levels_below, draft_number_exceeding, draft_states_at_start, finish_draft_trace};
 use cert_check::{AffineSystem, affine_system};
 use cert_matrix::RangedSum;
-use mu_num::{exceeds_power_of_two, floor_div, near_div};
+use mu_num::{LOOK_SPAN, SECOND_LEVEL_BITS, SECOND_WEIGHT_BITS, exceeds_power_of_two, floor_div, near_div};
 use qss_machine::Machine;
 use qss_sched::repeat_value;
 use qss_trace::{Trace, trace_level_in_states, trace_reach, trace_rise};
 use std::alloc::{AllocError, Global};
-
-/// The number of bits of a level, at most. Only limit checks apply it.
-const LEVEL_BITS: u8 = 49;
-
-/// The limits are checked at each multiple of this number of ticks.
-const LOOK_SPAN: u64 = 65_536;
 
 /// The greatest absolute value of a state in a trace.
 const WIDEST_STATE: u128 = 1 << 108;
@@ -55,9 +47,6 @@ pub(crate) const DRIVEN: u32 = FINENESS;
 
 /// The factor of the constant part in the absolute row sum of level slopes.
 pub(crate) const UNDRIVEN: u32 = 0;
-
-/// The number of bits of an absolute row sum, at most.
-const WEIGHT_BITS: u8 = 94;
 
 /// The current point of the run, and its states and levels so far.
 #[derive(Drop)]
@@ -283,10 +272,10 @@ fn second_trace_level_excess(m: &Machine, a: &AffineSystem, levels: &[i128]) -> 
     requires fits { Fits m.now a.now }
     requires levels { length levels.now ≡ state_count m.now }
     ensures { result
-        ≡ option_or (first_exceeding 49 levels.now)
-        (first_exceeding 94 (tabulate (state_count m.now) (rise_weight m.now levels.now))) }
+        ≡ option_or (first_exceeding bits_of_second_level levels.now)
+        (first_exceeding bits_of_second_state (tabulate (state_count m.now) (rise_weight m.now levels.now))) }
 {
-    if let Some(var) = draft_number_exceeding(levels, LEVEL_BITS) {
+    if let Some(var) = draft_number_exceeding(levels, SECOND_LEVEL_BITS) {
         return Some(var);
     }
     first_heavy(m, a, DRIVEN, levels)
@@ -302,7 +291,7 @@ pub(crate) fn first_heavy(
     requires fits { Fits m.now a.now }
     requires numbers { length numbers.now ≡ state_count m.now }
     ensures { result
-        ≡ first_exceeding 94 (tabulate (state_count m.now) (row_weight m.now share numbers.now)) }
+        ≡ first_exceeding bits_of_second_state (tabulate (state_count m.now) (row_weight m.now share numbers.now)) }
 {
     for row in 0..a.n {
         if is_heavy(m, a, share, numbers, row) {
@@ -317,10 +306,10 @@ fn is_heavy(m: &Machine, a: &AffineSystem, share: u32, numbers: &[i128], row: u8
     requires fits { Fits m.now a.now }
     requires row { row < state_count m.now }
     requires numbers { length numbers.now ≡ state_count m.now }
-    ensures { result ≡ exceeds 94 (row_weight m.now share numbers.now row) }
+    ensures { result ≡ exceeds bits_of_second_state (row_weight m.now share numbers.now row) }
 {
     match weigh_second_trace_row(a, share, numbers, row) {
-        Some(sum) => exceeds_power_of_two(sum, WEIGHT_BITS),
+        Some(sum) => exceeds_power_of_two(sum, SECOND_WEIGHT_BITS),
         None => true,
     }
 }
@@ -331,7 +320,7 @@ fn weigh_second_trace_row(a: &AffineSystem, share: u32, numbers: &[i128], row: u
     requires size_limit { IsSmall a.now }
     requires row { row < a.now.n }
     requires numbers { length numbers.now ≡ a.now.n }
-    ensures { MatchOption result (2 ^ 126 < system_weight a.now share numbers.now row)
+    ensures { MatchOption result (sum_limit < system_weight a.now share numbers.now row)
         (λ sum. sum ≡ pos (system_weight a.now share numbers.now row)) }
 {
     let mut sum = RangedSum::new().plus_size(a.constant.at(row), i128::from(share))?;
@@ -416,7 +405,7 @@ fn second_trace_change_excess(m: &Machine, a: &AffineSystem, changes: &[i128]) -
     requires fits { Fits m.now a.now }
     requires changes { length changes.now ≡ state_count m.now }
     ensures { result
-        ≡ first_exceeding 94 (tabulate (state_count m.now) (rise_change_weight m.now changes.now)) }
+        ≡ first_exceeding bits_of_second_state (tabulate (state_count m.now) (rise_change_weight m.now changes.now)) }
 {
     first_heavy(m, a, UNDRIVEN, changes)
 }
@@ -596,7 +585,7 @@ fn has_second_trace_left(left: &[bool]) -> bool
 
 // The least state that does, itself or by its level.
 fn second_trace_wide_state(states: &[i128], levels: &[i128]) -> Option<u32>
-    requires count_limit { length states.now ≤ 4096 }
+    requires count_limit { length states.now ≤ variable_limit }
     requires levels { length levels.now ≡ length states.now }
     ensures { result
         ≡ position (is_wide_at states.now levels.now) (range_with_len 0 (length states.now)) }

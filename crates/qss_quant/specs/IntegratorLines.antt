@@ -1,7 +1,7 @@
 -- Defines lines of integrators (constant slope), and when a state has left its quantum.
 use Rattle.std.specs.Prelude.{ℕ, ◌^◌, ◌≤◌, ◌-◌, ℤ, pos, ◌+ℤ◌, ◌-ℤ◌, ◌*ℤ◌, ◌<ℤ◌, ◌≤ℤ◌, unsigned_abs}
-use Rattle.mu_num.specs.Ticks.{tick_limit}
 use Rattle.mu_num.specs.Sizes.{IsWithin}
+use Rattle.mu_num.specs.Limits.{tick_limit, IsLevel, IsSlope}
 
 -- a state at a tick, its slope per tick, and its level
 pub record Line : Type 0 where
@@ -26,5 +26,5 @@ IsAway unit state level quantum = (unit *ℤ quantum) ≤ℤ pos (unsigned_abs (
 pub record IsLine (i : Line) : Type 0 where
   pub in_time : i.tick ≤ tick_limit
   pub small_state : IsWithin 89 i.x
-  pub small_slope : IsWithin 88 i.slope
-  pub small_level : IsWithin 43 i.level
+  pub small_slope : IsSlope i.slope
+  pub small_level : IsLevel i.level

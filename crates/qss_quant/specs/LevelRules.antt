@@ -2,6 +2,7 @@
 use Rattle.std.specs.Prelude.{◌≡◌, ℤ, Option, Some}
 use Rattle.mu_num.specs.Sizes.{IsWithin, IsPositiveWithin}
 use Rattle.mu_num.specs.Levels.{IsWithinOneLevel, floor_level, near_level, inward_level}
+use Rattle.mu_num.specs.Limits.{IsLevel}
 use Rattle.qss_quant.specs.declared.quantizer.Rule.{Rule}
 use Rattle.qss_quant.specs.declared.quantizer.Rule.TheVariants.{Floor, Near, Inward}
 
@@ -15,7 +16,7 @@ level_by Inward unit state old = inward_level unit state old
 -- a state, an old level and a unit within the limits for which a rule is defined
 pub record IsAsked (state old unit : ℤ) : Type 0 where
   pub small_state : IsWithin 89 state
-  pub small_old : IsWithin 43 old
+  pub small_old : IsLevel old
   pub small_unit : IsPositiveWithin 44 unit
 
 -- a result is less than one level away from the state; if the rule has a name, it is the result of

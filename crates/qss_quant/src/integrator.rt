@@ -4,6 +4,7 @@
 ghost use Rattle.std.specs.Prelude.{pos, ◌+ℤ◌, ◌-ℤ◌, ◌*ℤ◌, ◌≤ℤ◌, unsigned_abs};
 ghost use Rattle.mu_num.specs.Ticks.{FirstAfter};
 ghost use Rattle.mu_num.specs.Sizes.{IsWithin, IsPositiveWithin};
+ghost use Rattle.mu_num.specs.Limits.{tick_limit, IsLevel, IsQuantum, IsSlope};
 ghost use Rattle.qss_quant.specs.IntegratorLines.{IsLineWithinQuantum};
 
 use crate::level_gaps::{room_above, room_below};
@@ -36,7 +37,7 @@ impl Model for Integrator {
 
 impl Integrator {
     ghost use Rattle.std.specs.Prelude.{◌≡◌, ℕ, ◌+◌, ◌^◌, ◌≤◌};
-    ghost use Rattle.mu_num.specs.Ticks.{FirstAfter, tick_limit};
+    ghost use Rattle.mu_num.specs.Ticks.{FirstAfter};
     ghost use Rattle.mu_num.specs.Sizes.{IsWithin, IsPositiveWithin};
     ghost use Rattle.qss_quant.specs.IntegratorLines.{state_at, IsLineWithinQuantum, IsAway};
 
@@ -44,7 +45,7 @@ impl Integrator {
     /// the tick of the integrator and at most 2^32, or `None` if there is no such tick.
     #[inline(always)]
     pub fn due(&self, quantum: i64, unit: i128) -> Option<u64>
-        requires quantum { IsPositiveWithin 43 quantum }
+        requires quantum { IsQuantum quantum }
         requires unit { IsPositiveWithin 44 unit }
         requires near { IsLineWithinQuantum unit self.now.x self.now.level quantum }
         ensures { FirstAfter (λ tick. IsAway unit (state_at self.now tick) self.now.level quantum)
@@ -79,7 +80,7 @@ impl Integrator {
 
     /// Sets the slope from the tick of the integrator on.
     pub fn set_slope(&mut self, slope: i128)
-        requires { IsWithin 88 slope }
+        requires { IsSlope slope }
         ensures { self.new ≡ record self.old { slope = slope } }
     {
         self.slope = slope;
@@ -97,9 +98,9 @@ fn first_integrator_leaving(
     unit: i128,
 ) -> Option<u64>
     requires state { IsWithin 89 x }
-    requires level { IsWithin 43 level }
-    requires speed { IsWithin 88 speed }
-    requires quantum { IsWithin 43 quantum }
+    requires level { IsLevel level }
+    requires speed { IsSlope speed }
+    requires quantum { IsLevel quantum }
     requires unit { IsPositiveWithin 44 unit }
     requires near { IsLineWithinQuantum unit x level quantum }
     ensures { FirstAfter

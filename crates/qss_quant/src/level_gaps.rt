@@ -2,12 +2,13 @@
 
 ghost use Rattle.std.specs.Prelude.{◌≡◌, pos, ◌*ℤ◌, ◌+ℤ◌, ◌-ℤ◌, ◌<ℤ◌, unsigned_abs, IsTrue, ◌↔◌};
 ghost use Rattle.mu_num.specs.Sizes.{IsWithin, IsPositiveWithin};
+ghost use Rattle.mu_num.specs.Limits.{IsLevel, IsQuantum, IsState};
 
 /// The difference between a state and its level, in units of the state. It is negative below the
 /// level.
 pub(crate) fn signed_gap(x: i128, level: i64, unit: i128) -> i128
     requires state { IsWithin 89 x }
-    requires level { IsWithin 43 level }
+    requires level { IsLevel level }
     requires unit { IsPositiveWithin 44 unit }
     ensures value { result ≡ x -ℤ unit *ℤ level }
     ensures bound { IsWithin 90 result }
@@ -19,8 +20,8 @@ pub(crate) fn signed_gap(x: i128, level: i64, unit: i128) -> i128
 /// state.
 pub(crate) fn room_above(x: i128, level: i64, quantum: i64, unit: i128) -> i128
     requires state { IsWithin 89 x }
-    requires level { IsWithin 43 level }
-    requires quantum { IsWithin 43 quantum }
+    requires level { IsLevel level }
+    requires quantum { IsLevel quantum }
     requires unit { IsPositiveWithin 44 unit }
     ensures value { result ≡ unit *ℤ quantum -ℤ (x -ℤ unit *ℤ level) }
     ensures bound { IsWithin 90 result }
@@ -32,8 +33,8 @@ pub(crate) fn room_above(x: i128, level: i64, quantum: i64, unit: i128) -> i128
 /// state.
 pub(crate) fn room_below(x: i128, level: i64, quantum: i64, unit: i128) -> i128
     requires state { IsWithin 89 x }
-    requires level { IsWithin 43 level }
-    requires quantum { IsWithin 43 quantum }
+    requires level { IsLevel level }
+    requires quantum { IsLevel quantum }
     requires unit { IsPositiveWithin 44 unit }
     ensures value { result ≡ unit *ℤ quantum +ℤ (x -ℤ unit *ℤ level) }
     ensures bound { IsWithin 90 result }
@@ -43,7 +44,7 @@ pub(crate) fn room_below(x: i128, level: i64, quantum: i64, unit: i128) -> i128
 
 /// A quantum, converted from levels to units of a state.
 pub(crate) fn quantum_in_units(quantum: i64, unit: i128) -> i128
-    requires quantum { IsPositiveWithin 43 quantum }
+    requires quantum { IsQuantum quantum }
     requires unit { IsPositiveWithin 44 unit }
     ensures value { result ≡ unit *ℤ quantum }
     ensures bound { IsWithin 87 result }
@@ -62,7 +63,7 @@ pub(crate) fn is_gap_inside(gap: i128, limit: i128) -> bool
 
 /// Converts a number of levels to units of a state. `unit` is the number of units in a level.
 pub fn levels_in_units(levels: i64, unit: i128) -> i128
-    requires levels { IsWithin 43 levels }
+    requires levels { IsLevel levels }
     requires unit { IsPositiveWithin 44 unit }
     ensures value { result ≡ unit *ℤ levels }
     ensures bound { IsWithin 87 result }
@@ -75,7 +76,7 @@ fn level_product(unit: i128, levels: i64) -> i128
     requires unit { IsPositiveWithin 44 unit }
     requires levels { IsWithin 44 levels }
     ensures value { result ≡ unit *ℤ levels }
-    ensures bound { IsWithin 88 result }
+    ensures bound { IsState result }
 {
     i128::from(unit as i64) * i128::from(levels)
 }

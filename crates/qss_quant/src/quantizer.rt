@@ -1,6 +1,7 @@
 //! Quantizers with hysteresis, and the three named rules for new levels.
 
 ghost use Rattle.std.specs.Prelude.{◌≡◌, ℤ, Some};
+ghost use Rattle.mu_num.specs.Limits.{IsQuantum};
 ghost use Rattle.qss_quant.specs.LevelRules.{IsAsked, IsAnswer};
 ghost use Rattle.qss_quant.specs.declared.quantizer.Rule.TheVariants.{Floor, Near, Inward};
 
@@ -22,7 +23,6 @@ pub struct Quantizer {
 }
 
 impl Quantizer {
-    ghost use Rattle.mu_num.specs.Sizes.{IsPositiveWithin};
     ghost use Rattle.qss_quant.specs.IntegratorLines.{IsLineWithinQuantum, IsAway};
 
     /// A quantizer with this rule, and a name if the rule has one.
@@ -42,7 +42,7 @@ impl Quantizer {
     /// from it, else the result of the rule.
     pub fn level(&self, x: i128, old: i64, quantum: i64, unit: i128) -> i128
         requires asked { IsAsked x old unit }
-        requires quantum { IsPositiveWithin 43 quantum }
+        requires quantum { IsQuantum quantum }
         ensures kept { IsLineWithinQuantum unit x old quantum → result ≡ old }
         ensures taken { IsAway unit x old quantum → IsAnswer self.now.name x old unit result }
         ensures ruled { IsAway unit x old quantum → LevelRule.post self.now.rule x old unit result }

@@ -6,7 +6,6 @@ use Rattle.std.proofs.lemmas.List.{get_or_past}
 use Rattle.std.specs.Prelude.{Option, Some, None, All}
 use Rattle.mu_num.proofs.Tests.{if-true}
 use Rattle.mu_num.specs.Sizes.{IsWithin}
-use Rattle.mu_num.specs.Ticks.{tick_limit}
 use Rattle.qss_machine.specs.declared.compiled_machine.Machine.{Machine}
 use Rattle.mu_num.specs.IndexedSums.{int_at, first_exceeding}
 use Rattle.qss_machine.specs.Machines.{state_count, level_unit, quantum_of, value_of, speed_of}
@@ -39,6 +38,7 @@ use Rattle.qss_run.proofs.Takes.{not_among}
 use Rattle.qss_events.proofs.Silence.{from_later, watch_value_at, flag_still}
 use Rattle.qss_run.proofs.Visits.{due_stays}
 use Rattle.mu_num.proofs.Writes.{index_of}
+use Rattle.mu_num.specs.Limits.{tick_limit}
 use Rattle.qss_events.proofs.NextLevels.{next_is_near}
 
 -- where handlers overflow nowhere, no state exceeded its limit on arrival

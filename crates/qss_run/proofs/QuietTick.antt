@@ -11,7 +11,6 @@ use Rattle.std.specs.Int.RustNames.{unsigned_abs}
 use Rattle.std.specs.List.{list_any, sum_by}
 use Rattle.std.specs.Prelude.{Option, Some, None, All, if◌then◌else◌}
 use Rattle.mu_num.specs.Sizes.{IsWithin}
-use Rattle.mu_num.specs.Ticks.{tick_limit}
 use Rattle.qss_machine.specs.declared.machine_parts.Condition.{Condition}
 use Rattle.qss_machine.specs.declared.machine_parts.Entry.{Entry}
 use Rattle.qss_machine.specs.declared.machine_parts.Form.{Form}
@@ -22,6 +21,7 @@ use Rattle.mu_num.specs.IndexedSums.{int_at, sum_over, first_exceeding}
 use Rattle.qss_machine.specs.Machines.{state_count, level_unit, value_of, truth, inputs}
 use Rattle.qss_machine.specs.Handlers.{conditions, truths, firing_flags}
 use Rattle.mu_num.specs.ListedPlaces.{flag_at}
+use Rattle.mu_num.specs.Limits.{tick_limit}
 use Rattle.qss_machine.specs.Ticks.{Snapshot, handlers_at, moved_states}
 use Rattle.qss_machine.proofs.Loops.{product_bound}
 use Rattle.qss_machine.proofs.SumLaws.{weighted_sum-entries}

@@ -7,7 +7,6 @@ use Rattle.std.proofs.lemmas.List.{get_or_default}
 use Rattle.std.specs.Option.{option_or}
 use Rattle.std.specs.Prelude.{Option, Some, None, position, if◌then◌else◌}
 use Rattle.mu_num.specs.Sizes.{IsWithin}
-use Rattle.mu_num.specs.Ticks.{tick_limit}
 use Rattle.qss_machine.specs.declared.compiled_machine.Machine.{Machine}
 use Rattle.mu_num.specs.IndexedSums.{int_at, tabulate, first_exceeding}
 use Rattle.qss_machine.specs.Machines.{state_count, level_unit, slope_at, quantum_of, row_at}
@@ -38,6 +37,7 @@ use Rattle.qss_events.proofs.NextVisit.{only_due_states_pass}
 use Rattle.qss_run.proofs.Jumps.{dues_later}
 use Rattle.qss_run.proofs.QuietTick.{NoneChanges, only_moves, quiet_truths, watched_then}
 use Rattle.mu_num.proofs.Writes.{index_of}
+use Rattle.mu_num.specs.Limits.{tick_limit}
 use Rattle.qss_machine.proofs.Unread.{unread_at, unread_slope}
 use Rattle.qss_events.proofs.NextLevels.{next_is_near}
 use Rattle.qss_events.proofs.Risen.{none_due}

@@ -1,7 +1,5 @@
 -- Defines the contexts in which conditions and handlers are evaluated, and their preconditions.
-use Rattle.std.specs.Prelude.{◌≡◌, ℕ, ◌<◌, ◌≤◌, ◌^◌, Bool, List, length, All, ℤ, Option, false}
-use Rattle.mu_num.specs.Sizes.{IsWithin}
-use Rattle.mu_num.specs.Ticks.{tick_limit}
+use Rattle.std.specs.Prelude.{◌≡◌, ℕ, ◌<◌, ◌≤◌, Bool, List, length, ℤ, Option, false}
 use Rattle.qss_machine.specs.declared.compiled_machine.Machine.{Machine}
 use Rattle.qss_machine.specs.Machines.{state_count, truth}
 use Rattle.qss_machine.specs.Readers.{uses_of}
@@ -13,6 +11,7 @@ use Rattle.qss_states.specs.StateLines.{states_at, AreLinesAt, AreLinesWithDue}
 use Rattle.qss_run.specs.ConditionPlaces.{detector_at, AreConditionsOf, HasPlaces, KnowsApart}
 use Rattle.qss_states.specs.Variables.{AreSlopesOf, AreWithin}
 use Rattle.mu_num.specs.ListedPlaces.{flag_at, is_listed, AreRisingBelow}
+use Rattle.mu_num.specs.Limits.{tick_limit, AreStates}
 use Rattle.qss_machine.specs.Handlers.{conditions}
 use Rattle.qss_hand.specs.Values.{Values}
 use Rattle.qss_events.specs.Schedules.{condition_at, became_true}
@@ -42,7 +41,7 @@ pub record IsConditionContext (at : ConditionContext) : Type 0 where
 pub record AreConditionValues (m : Machine) (at : ConditionValues) : Type 0 where
   pub values : AreWithin m at.states.now at.discretes.now
   pub slopes : AreSlopesOf m at.slopes.now
-  pub in_time : at.tick < 2 ^ 32
+  pub in_time : at.tick < tick_limit
 
 -- the conditions of a machine, with indices in an event queue, may be settled at these values and
 -- slopes
@@ -57,7 +56,7 @@ pub record CanUpdateDetectors (m : Machine) (tick : ℕ) (slopes : List ℤ) (al
   pub places : HasPlaces m due
   pub small : AreSmallAt tick all.detectors.items
   pub slopes_of : AreSlopesOf m slopes
-  pub in_time : tick < 2 ^ 32
+  pub in_time : tick < tick_limit
 
 -- the speeds of the conditions that read a state whose row reads a moved state may be set at a tick
 pub record CanUpdateReaderDetectors (m : Machine) (readers : List (List ℕ) × List (List ℕ) × List (List ℤ)) (tick : ℕ) (states : List ℕ) (slopes : List ℤ) (all : Conditions) (due : List (Option ℕ)) : Type 0 where
@@ -80,7 +79,7 @@ pub record KnowsArrival (at : ChangedConditions) (all : Conditions) (d : List �
   pub changed : AreRisingBelow (length (conditions at.machine.now)) at.changed.now
   pub watched : (place : ℕ) → place < length (conditions at.machine.now) →
       ((detector_at all.detectors.items place).tick ≤ at.tick)
-      × (All (IsWithin 88) (states_at at.lines.now at.tick) → IsSmall (value_at (detector_at all.detectors.items place) at.tick))
+      × (AreStates (states_at at.lines.now at.tick) → IsSmall (value_at (detector_at all.detectors.items place) at.tick))
       × (holds_at (detector_at all.detectors.items place) at.tick ≡ truth at.machine.now (condition_at at.machine.now place) (states_at at.lines.now at.tick) d at.tick)
   pub alike : KnowsApart all
   pub others : (place : ℕ) → place < length (conditions at.machine.now) → is_listed at.changed.now place ≡ false →

@@ -1,14 +1,14 @@
 -- Defines how some conditions are settled at a tick and the others do not change.
 use Rattle.std.specs.Prelude.{◌≡◌, ℕ, ◌+◌, ◌<◌, ◌≤◌, Bool, true, false, ◌||◌, List, ◌++◌, length}
-use Rattle.std.specs.Prelude.{All, ℤ, Option, flat_map}
+use Rattle.std.specs.Prelude.{ℤ, Option, flat_map}
 use Rattle.std.specs.List.{list_any}
-use Rattle.mu_num.specs.Sizes.{IsWithin}
 use Rattle.qss_machine.specs.declared.machine_parts.Condition.{Condition}
 use Rattle.qss_machine.specs.declared.compiled_machine.Machine.{Machine}
 use Rattle.qss_machine.specs.Machines.{state_count, discrete_count, speed_of, truth}
 use Rattle.qss_machine.specs.Handlers.{conditions}
 use Rattle.mu_num.specs.IndexedSums.{int_at}
 use Rattle.mu_num.specs.ListedPlaces.{flag_at, is_listed}
+use Rattle.mu_num.specs.Limits.{AreStates}
 use Rattle.qss_machine.specs.Readers.{condition_reads, reading_rows, reading_conditions}
 use Rattle.qss_cross.specs.Crossing.{DetectorView}
 use Rattle.qss_sched.specs.Ranks.{due_at}
@@ -103,7 +103,7 @@ pub record AreSettledAlong (at : ConditionContext) (d : List ℤ) (places : List
   pub noted : AreMarkedChanged places old new
   pub rest : AreAlikeButSettled old new
   pub at_arrival : AreArrived (one_reads at.machine.now places) (states_at at.lines.now at.tick) x y
-  pub small : All (IsWithin 88) y
+  pub small : AreStates y
 
 -- a condition that is not settled after handlers, and already has its speed at these slopes, does
 -- not change

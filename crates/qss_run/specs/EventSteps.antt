@@ -1,6 +1,6 @@
 -- Defines a store after handlers and after an event step, and the effect of an event step.
-use Rattle.std.specs.Prelude.{◌≡◌, ℕ, ◌+◌, ◌^◌, ◌<◌, ◌≤◌, List, ℤ, All, Option, None, vec_capacity}
-use Rattle.mu_num.specs.Sizes.{IsWithin}
+use Rattle.std.specs.Prelude.{◌≡◌, ℕ, ◌+◌, ◌<◌, ◌≤◌, List, ℤ, Option, None, vec_capacity}
+use Rattle.mu_num.specs.Limits.{tick_limit, AreLevels}
 use Rattle.qss_machine.specs.declared.compiled_machine.Machine.{Machine}
 use Rattle.qss_machine.specs.Handlers.{truths}
 use Rattle.qss_machine.specs.Runs.{tick_rows}
@@ -22,11 +22,11 @@ use Rattle.qss_run.specs.TouchCounts.{touches_at}
 -- row sums are those after them; slopes, lines, due ticks and detectors are those before the tick
 pub record CanContinueAfterHandlers (m : Machine) (tick : ℕ) (s : Store) : Type 0 where
   pub fits : FitsMachine m s
-  pub in_time : tick < 2 ^ 32
+  pub in_time : tick < tick_limit
   pub assigned : AreAssignedFrom m s.assigned.items s.work.pre s.work.d
   pub states : AreStatesLeft m tick s.lines.items s.moved.items s.work
   pub after_handlers : AreSettledBut m tick (states_at s.lines.items tick) s.work.pre s.slopes.items s.changed.items s.conditions s.agenda
-  pub small_levels : All (IsWithin 43) s.levels.items
+  pub small_levels : AreLevels s.levels.items
   pub levels : AreLevelsFor m (states_with s.lines.items tick s.moved.items s.work.x) s.levels.items s.work.d
   pub weights : AreWeights m s.levels.items s.work.d s.weights
   pub held : HeldBefore m tick s.moved.items s.levels.items s.work.pre s.slopes.items s.lines.items s.agenda

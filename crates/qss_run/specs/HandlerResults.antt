@@ -1,8 +1,7 @@
 -- Defines the handlers of a tick at which few conditions change, and their results.
 use Rattle.std.specs.Prelude.{◌≡◌, ℕ, ◌<◌, Bool, true, false, ◌&&◌, ◌||◌, List, [], length, ℤ}
-use Rattle.std.specs.Prelude.{Option, None, All, ◌==◌}
+use Rattle.std.specs.Prelude.{Option, None, ◌==◌}
 use Rattle.std.specs.List.{list_any}
-use Rattle.mu_num.specs.Sizes.{IsWithin}
 use Rattle.qss_machine.specs.declared.machine_parts.Row.{Row}
 use Rattle.qss_machine.specs.declared.compiled_machine.Machine.{Machine}
 use Rattle.qss_machine.specs.EventCounts.{is_reinit}
@@ -13,6 +12,7 @@ use Rattle.qss_quant.specs.IntegratorLines.{Line, state_at}
 use Rattle.qss_hand.specs.Values.{Values}
 use Rattle.qss_hand.specs.Works.{AreValuesOf}
 use Rattle.mu_num.specs.ListedPlaces.{is_listed, AreRisingBelow}
+use Rattle.mu_num.specs.Limits.{bits_of_state, AreStates}
 use Rattle.qss_run.specs.declared.run_conditions.Conditions.{Conditions}
 use Rattle.qss_run.specs.DueLists.{AreAlikeBut}
 use Rattle.qss_run.specs.DetectorUpdates.{DetectorStates, detector_states_of, IsSettled}
@@ -42,7 +42,7 @@ pub record IsHandlerEffect (m : Machine) (tick : ℕ) (lines : List Line) (due m
   pub values : new ≡ record { x = new.x; d = h.discretes; pre = old.d; tick = tick; log = h.rows; room = old.room }
   pub fits : AreValuesOf m new
   pub own_states : h.states ≡ states_with lines tick moved new.x
-  pub small : All (IsWithin 88) h.states
+  pub small : AreStates h.states
   pub numbers : AreRisingBelow (state_count m) moved
   pub moves : (j : ℕ) → is_listed moved j ≡ (is_listed due j || is_reinitialized h.rows j)
   pub assigns : AreAssignedFrom m assigned new.pre new.d
@@ -53,7 +53,7 @@ pub record AreStatesLeft (m : Machine) (tick : ℕ) (lines : List Line) (moved :
   pub reinitialized : (j : ℕ) → is_reinitialized left.log j ≡ true → j < state_count m
   pub still : (j : ℕ) → j < state_count m → is_reinitialized left.log j ≡ false →
       int_at (states_with lines tick moved left.x) j ≡ state_at (line_at lines j) tick
-  pub small : All (IsWithin 88) (states_with lines tick moved left.x)
+  pub small : AreStates (states_with lines tick moved left.x)
 
 -- all conditions but the evaluated ones are settled at these values and slopes, with equal truths
 -- on arrival
@@ -77,6 +77,6 @@ pub record AreDetectorsUpTo (m : Machine) (tick : ℕ) (moved reinitialized assi
 abbrev pub handling_from : Machine → ℕ → List ℤ → List ℤ → List Bool → List Bool → HandlerState
 handling_from m tick states discretes at_arrival after_handlers =
     run_clauses m tick discretes 0
-    (record { states = states; discretes = discretes; rows = []; overflow = first_exceeding 88 states })
+    (record { states = states; discretes = discretes; rows = []; overflow = first_exceeding bits_of_state states })
     m.clauses
     (firing_flags (truths m states discretes tick) at_arrival after_handlers)

@@ -24,8 +24,7 @@ ghost use Rattle.qss_events.specs.HandlerRows.{reinitialized_of};
 ghost use Rattle.qss_run.specs.EventSteps.{HadDetectors, HasDetectorsUpdated};
 ghost use Rattle.qss_states.specs.StateLines.{states_at, AreLinesAt};
 ghost use Rattle.qss_run.specs.Stores.{FitsMachine};
-ghost use Rattle.mu_num.specs.Sizes.{IsWithin};
-ghost use Rattle.mu_num.specs.Ticks.{tick_limit};
+ghost use Rattle.mu_num.specs.Limits.{tick_limit, AreSlopes};
 ghost use Rattle.qss_machine.specs.Readers.{uses_of};
 ghost use Rattle.qss_cross.specs.Crossing.{IsSmall, value_at};
 ghost use Rattle.qss_run.specs.SpeedUpdates.{GoesOn, AreDetectorsUpdated};
@@ -498,7 +497,7 @@ fn is_detector_truth_changed(one: bool, other: bool) -> bool
 fn detector_speed_at(m: &Machine, form: &Form, slopes: &[i128]) -> i128
     requires form { IsBounded form.now }
     requires same_length { length slopes.now ≡ state_count m.now }
-    requires size_limit { All (IsWithin 88) slopes.now }
+    requires size_limit { AreSlopes slopes.now }
     ensures value { result ≡ speed_of m.now form.now slopes.now }
     ensures bound { unsigned_abs result < 2 ^ 127 }
 {

@@ -1,7 +1,7 @@
 //! The truths of conditions on arrival at a tick, and the conditions that became true during the
 //! handlers of a tick.
 
-ghost use Rattle.std.specs.Prelude.{◌≡◌, ℕ, ◌+◌, ◌<◌, ◌^◌, length, None, Some, false, slice_set};
+ghost use Rattle.std.specs.Prelude.{◌≡◌, ℕ, ◌+◌, ◌<◌, length, None, Some, false, slice_set};
 ghost use Rattle.std.specs.Prelude.{if◌then◌else◌, ◌≤◌, not, ◌&&◌, vec_capacity, [], true};
 ghost use Rattle.std.specs.List.{list_any, filter};
 ghost use Rattle.qss_machine.specs.Handlers.{firing_flags};
@@ -9,12 +9,12 @@ ghost use Rattle.qss_sched.specs.Ranks.{due_at};
 ghost use Rattle.qss_events.specs.Schedules.{became_true};
 ghost use Rattle.qss_run.specs.DueLists.{AreApartAt, CanMakeDue, AreRisenDue, IsSameBut};
 ghost use Rattle.qss_run.specs.DueLists.{AreAlikeBut};
-ghost use Rattle.mu_num.specs.Ticks.{tick_limit};
 ghost use Rattle.mu_num.specs.ListedPlaces.{flag_at};
 ghost use Rattle.qss_cross.specs.Crossing.{IsSmall, value_at, holds_at};
 ghost use Rattle.qss_run.specs.ConditionContexts.{MayBeRead};
 ghost use Rattle.qss_run.specs.ConditionPlaces.{detector_at};
 ghost use Rattle.mu_num.specs.Writes.{IsWritten};
+ghost use Rattle.mu_num.specs.Limits.{tick_limit};
 
 use qss_cross::Detector;
 use qss_sched::{Agenda, PlaceSet};
@@ -31,7 +31,7 @@ pub fn schedule_risen_truth(
 ) -> bool
     requires flipped { AreApartAt flipped.now at_arrival.now after_handlers.now }
     requires place { place < length agenda.old }
-    requires tick_limit { tick < 2 ^ 32 }
+    requires tick_limit { tick < tick_limit }
     ensures rises { result
         ≡ list_any (λ flag. flag) (firing_flags after_handlers.now at_arrival.now after_handlers.now) }
     ensures own { due_at agenda.new place ≡ (if result then Some (tick + 1) else None) }

@@ -30,7 +30,7 @@ ghost use Rattle.qss_run.specs.TouchCounts.{MovesTouched, touches_at};
 ghost use Rattle.qss_machine.specs.Ticks.{Snapshot, snapshot_unless};
 ghost use Rattle.qss_quant.specs.declared.quantizer.Rule.{Rule};
 ghost use Rattle.qss_events.specs.EventFreeRuns.{AreEventFree, IsVisit};
-ghost use Rattle.mu_num.specs.Sizes.{IsWithin};
+ghost use Rattle.mu_num.specs.Limits.{variable_limit, tick_limit, AreStates};
 ghost use Rattle.qss_machine.specs.EventCounts.{is_touched};
 ghost use Rattle.qss_states.specs.Advancing.{reached};
 ghost use Rattle.qss_states.specs.EventContexts.{CanUpdateSlopesOf, AreAllScheduled};
@@ -305,8 +305,8 @@ fn continue_moved_states<L: Ledger>(
 )
     requires ready { CanUpdateSlopesOf at.now slopes.old lines.old agenda.old }
     requires room { state_count at.now.event.machine.now ≤ vec_capacity touched.old }
-    requires size_limit { All (IsWithin 88) (states_at lines.old at.now.event.tick) }
-    requires tick_limit { at.now.event.tick < 2 ^ 32 }
+    requires size_limit { AreStates (states_at lines.old at.now.event.tick) }
+    requires tick_limit { at.now.event.tick < tick_limit }
     requires fits { AreConditionsOf at.now.event.machine.now condition_set.old }
     requires places { HasPlaces at.now.event.machine.now agenda.old }
     requires watched { AreDetectorsAt at.now.event.machine.now at.now.event.tick
@@ -445,7 +445,7 @@ fn schedule_next_if_risen(tick: u64, s: &mut Store)
     requires places { length s.old.agenda
         ≡ length s.old.lines.items + length s.old.conditions.branches.items + 1 }
     requires count_limit { length s.old.lines.items + length s.old.conditions.branches.items < 2 ^ 32 }
-    requires tick_limit { tick < 2 ^ 32 }
+    requires tick_limit { tick < tick_limit }
     requires count { s.old.conditions.flipped.count ≡ length s.old.conditions.after_handlers.items }
     requires alike { KnowsApart s.old.conditions }
     ensures rising { s.new.rising
@@ -497,7 +497,7 @@ fn set_last_rows(m: &Machine, s: &mut Store)
 pub(crate) fn move_work_states(lines: &[Integrator], tick: u64, work: &mut Work)
     requires same_length { length work.old.x ≡ length lines.now }
     requires not_later { (j : ℕ) → j < length lines.now → (line_at lines.now j).tick ≤ tick }
-    requires tick_limit { tick < 2 ^ 32 }
+    requires tick_limit { tick < tick_limit }
     ensures { work.new ≡ record work.old { x = states_at lines.now tick } }
 {
     move_states_along_lines(lines, tick, work.x.as_mut_slice());
@@ -522,7 +522,7 @@ pub(crate) fn set_all_rows(
     d: &[i64],
     rows: &mut Vec<Row>,
 )
-    requires count_limit { length x.now + length d.now ≤ 4096 }
+    requires count_limit { length x.now + length d.now ≤ variable_limit }
     requires same_length { length levels.now ≡ length x.now }
     requires room { length x.now + length d.now ≤ vec_capacity rows.old }
     ensures rows { rows.new.items
@@ -536,7 +536,7 @@ pub(crate) fn set_all_rows(
 
 // Appends a row of each state.
 fn add_state_rows(kind: RowKind, tick: u64, x: &[i128], levels: &[i64], rows: &mut Vec<Row>)
-    requires count_limit { length x.now ≤ 4096 }
+    requires count_limit { length x.now ≤ variable_limit }
     requires same_length { length levels.now ≡ length x.now }
     requires room { vec_len rows.old + length x.now ≤ vec_capacity rows.old }
     ensures rows { rows.new.items ≡ rows.old.items ++ state_rows kind tick levels.now x.now }

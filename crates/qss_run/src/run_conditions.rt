@@ -9,6 +9,7 @@ ghost use Rattle.qss_run.specs.ConditionPlaces.{AreConditionsOf, AreBranches};
 ghost use Rattle.qss_events.specs.Schedules.{condition_at};
 ghost use Rattle.qss_machine.specs.declared.machine_parts.Rel.TheVariants.{Less};
 ghost use Rattle.mu_num.specs.IndexedSums.{tabulate};
+ghost use Rattle.mu_num.specs.Limits.{condition_limit};
 
 use qss_cross::Detector;
 use qss_machine::{Condition, Machine, Rel, Uses};
@@ -129,7 +130,7 @@ fn add_condition_branches(
     clause: u32,
     count: usize,
 ) -> Result<(), AllocError>
-    requires { count ≤ 16384 }
+    requires { count ≤ condition_limit }
     ensures { IfOk result
         (λ done. found.new.items
         ≡ found.old.items

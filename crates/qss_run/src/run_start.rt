@@ -1,11 +1,11 @@
 //! The data of a simulator, and its store at tick 0.
 
-ghost use Rattle.std.specs.Prelude.{◌≡◌, ℕ, ◌+◌, ◌<◌, ◌≤◌, ◌++◌, All, IfOk, None, false, pos};
+ghost use Rattle.std.specs.Prelude.{◌≡◌, ℕ, ◌+◌, ◌<◌, ◌≤◌, ◌++◌, IfOk, None, false, pos};
 ghost use Rattle.std.specs.Prelude.{length, map, position, vec_capacity};
-ghost use Rattle.mu_num.specs.Sizes.{IsWithin};
 ghost use Rattle.qss_machine.specs.declared.machine_parts.RowKind.TheVariants as kind;
 ghost use Rattle.mu_num.specs.Levels.{level_below};
 ghost use Rattle.mu_num.specs.IndexedSums.{int_at};
+ghost use Rattle.mu_num.specs.Limits.{variable_limit, IsLevel, AreLevels, IsState, IsSlope};
 ghost use Rattle.qss_machine.specs.Machines.{state_count, level_unit, quantum_of, start_states};
 ghost use Rattle.qss_machine.specs.Machines.{start_discretes};
 ghost use Rattle.qss_machine.specs.Ticks.{start_snapshot, exceeds_row_limits};
@@ -258,7 +258,7 @@ fn start_run_lines(
     requires values { AreWithin m.now x.now d.now }
     requires levels { length levels.now ≡ state_count m.now }
     requires one_each { HasOneEach m.now slopes.old lines.old agenda.old }
-    requires small_levels { All (IsWithin 43) levels.now }
+    requires small_levels { AreLevels levels.now }
     requires light { position (exceeds_row_limits m.now levels.now d.now) m.now.rows ≡ None }
     requires near { (j : ℕ) → j < state_count m.now
         → IsLineWithinQuantum (level_unit m.now) (int_at x.now j) (int_at levels.now j)
@@ -288,9 +288,9 @@ fn start_run_line(
 )
     requires state { j < state_count m.now }
     requires place { j < length agenda.old }
-    requires small_state { IsWithin 88 x }
-    requires slope { IsWithin 88 slope }
-    requires level { IsWithin 43 level }
+    requires small_state { IsState x }
+    requires slope { IsSlope slope }
+    requires level { IsLevel level }
     requires near { IsLineWithinQuantum (level_unit m.now) x level (quantum_of m.now j level) }
     ensures line { line.new ≡ record { tick = 0; x = x; slope = slope; level = level } }
     ensures same_length { length agenda.new ≡ length agenda.old }
@@ -309,7 +309,7 @@ fn start_run_line(
 
 // Sets the start rows.
 fn start_run_rows(work: &Work, levels: &[i64], rows: &mut Vec<Row>)
-    requires count_limit { length work.now.x + length work.now.d ≤ 4096 }
+    requires count_limit { length work.now.x + length work.now.d ≤ variable_limit }
     requires same_length { length levels.now ≡ length work.now.x }
     requires room { length work.now.x + length work.now.d ≤ vec_capacity rows.old }
     ensures rows { rows.new.items

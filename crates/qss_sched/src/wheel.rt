@@ -1,6 +1,7 @@
 //! A timing wheel (Varghese and Lauck 1987) for due ticks of at most 63 ticks after its base.
 
 ghost use Rattle.std.specs.Prelude.{◌≡◌, ◌≢◌, ℕ, ◌+◌, ◌^◌, ◌<◌, ◌≤◌, ◌↔◌, ◌*◌, ◌%◌, IsTrue, List, Option, None, Some, length, slice_set, vec_len, vec_capacity};
+ghost use Rattle.mu_num.specs.Limits.{wheel_places};
 ghost use Rattle.qss_sched.specs.Ranks.{due_at};
 ghost use Rattle.qss_sched.specs.Wheels.{IsFirstGroup, IsWheel};
 ghost use Rattle.qss_sched.specs.Agendas.{ArePartTaken, AreTaken, IsTakenAt};
@@ -286,7 +287,7 @@ fn take_wheel_group(
 // Returns whether a place's due tick is near.
 #[inline(always)]
 fn is_near_in_wheel(base: u64, place: u32, tick: u64) -> bool
-    ensures { IsTrue result ↔ ((place < 4096) × (base ≤ tick) × (tick < base + 64)) }
+    ensures { IsTrue result ↔ ((place < wheel_places) × (base ≤ tick) × (tick < base + 64)) }
 {
     place < NEAR_PLACES && tick >= base && tick - base < SLOTS as u64
 }
@@ -296,7 +297,7 @@ fn is_near_in_wheel(base: u64, place: u32, tick: u64) -> bool
 #[inline(never)]
 fn move_in_wheel(due: &mut [Option<u64>], marks: &mut Marks, place: u32, tick: u64)
     requires place { place < length due.old }
-    requires near { place < 4096 }
+    requires near { place < wheel_places }
     requires wheel { (base : ℕ) × IsWheel due.old marks.old base }
     ensures due { due.new ≡ slice_set due.old place (Some tick) }
     ensures wheel { (base : ℕ) → base ≤ tick → tick < base + 64
@@ -324,7 +325,7 @@ fn take_out_of_wheel(due: &mut [Option<u64>], marks: &mut Marks, place: u32)
 #[inline(always)]
 fn put_in_wheel(due: &mut [Option<u64>], marks: &mut Marks, place: u32, tick: u64)
     requires place { place < length due.old }
-    requires near { place < 4096 }
+    requires near { place < wheel_places }
     requires none { due_at due.old place ≡ None }
     requires wheel { (base : ℕ) × IsWheel due.old marks.old base }
     ensures due { due.new ≡ slice_set due.old place (Some tick) }

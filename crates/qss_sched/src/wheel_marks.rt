@@ -2,6 +2,7 @@
 //! nonempty slot are found by reading a few words.
 
 ghost use Rattle.std.specs.Prelude.{◌≡◌, ◌≢◌, ℕ, ◌<◌, ◌↔◌, IsTrue, IfOk, length, slice_index, vec_len};
+ghost use Rattle.mu_num.specs.Limits.{wheel_places};
 ghost use Rattle.qss_sched.specs.Wheels.{IsBitPut, IsGrouped, IsFirstSlot, IsFirstPlace, IsLowest};
 
 use std::alloc::{AllocError, Global};
@@ -58,7 +59,7 @@ impl Marks {
     /// Adds a place to a slot.
     #[inline(always)]
     pub(crate) fn enter(&mut self, place: u32, slot: u32)
-        requires place { place < 4096 }
+        requires place { place < wheel_places }
         requires slot { slot < 64 }
         ensures there { place_bit self.new slot place ≡ 1 }
         ensures others { AreOthersKept self.old self.new slot place }
@@ -72,7 +73,7 @@ impl Marks {
     /// Removes a place from a slot.
     #[inline(always)]
     pub(crate) fn leave(&mut self, place: u32, slot: u32)
-        requires place { place < 4096 }
+        requires place { place < wheel_places }
         requires slot { slot < 64 }
         requires there { place_bit self.old slot place ≡ 1 }
         ensures gone { place_bit self.new slot place ≡ 0 }

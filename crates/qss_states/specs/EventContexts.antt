@@ -1,9 +1,8 @@
 -- Defines the contexts of an event step, and the relation between states before and after it.
-use Rattle.std.specs.Prelude.{◌≡◌, ℕ, ◌+◌, ◌<◌, ◌≤◌, true, false, List, length, All, ℤ, Option}
+use Rattle.std.specs.Prelude.{◌≡◌, ℕ, ◌+◌, ◌<◌, ◌≤◌, true, false, List, length, ℤ, Option}
 use Rattle.std.specs.Prelude.{None, position, count_by}
 use Rattle.std.specs.List.{range_with_len}
 use Rattle.mu_num.specs.Sizes.{IsWithin}
-use Rattle.mu_num.specs.Ticks.{tick_limit}
 use Rattle.qss_machine.specs.declared.compiled_machine.Machine.{Machine}
 use Rattle.qss_machine.specs.Machines.{state_count, discrete_count, level_unit, row_at, slope_at}
 use Rattle.qss_machine.specs.Machines.{quantum_of}
@@ -15,6 +14,7 @@ use Rattle.qss_quant.specs.IntegratorLines.{Line, state_at, IsLineWithinQuantum,
 use Rattle.qss_sched.specs.Ranks.{due_at}
 use Rattle.qss_hand.specs.Works.{AreValuesOf}
 use Rattle.mu_num.specs.ListedPlaces.{is_listed, AreRisingBelow}
+use Rattle.mu_num.specs.Limits.{tick_limit, IsLevel, AreLevels, IsState, AreStates, AreSlopes}
 use Rattle.qss_events.specs.Schedules.{IsDue}
 use Rattle.qss_states.specs.declared.row_sum_changes.RowSum.{RowSum}
 use Rattle.qss_states.specs.declared.row_sum_changes.RowSum.TheVariants.{Slope}
@@ -38,7 +38,7 @@ use Rattle.qss_states.specs.RowSums.{sum_at, AreLevelsOfLines, HadSums}
 -- within their limit
 pub record IsMode (at : Mode) : Type 0 where
   pub as_many : length at.discretes.now ≡ discrete_count at.machine.now
-  pub small : All (IsWithin 43) at.discretes.now
+  pub small : AreLevels at.discretes.now
   pub fits : (row : ℕ) → row < state_count at.machine.now →
       mode_fits at.machine.now.f (state_count at.machine.now) (row_at at.machine.now row) at.discretes.now ≡ true
 
@@ -47,21 +47,21 @@ pub record IsMode (at : Mode) : Type 0 where
 pub record CanShift (at : Mode) (state : ℕ) (level_old level_new : ℤ) : Type 0 where
   pub mode : IsMode at
   pub known : state < state_count at.machine.now
-  pub small_old : IsWithin 43 level_old
-  pub small_new : IsWithin 43 level_new
+  pub small_old : IsLevel level_old
+  pub small_new : IsLevel level_new
 
 -- the readers of a machine, indices of moved states, and a level of each state, within the limit
 pub record AreNewLevels (at : NewLevels) : Type 0 where
   pub uses : at.uses.now ≡ uses_of at.machine.now
   pub moved : AreRisingBelow (state_count at.machine.now) at.moved.now
   pub levels : length at.levels.now ≡ state_count at.machine.now
-  pub small_levels : All (IsWithin 43) at.levels.now
+  pub small_levels : AreLevels at.levels.now
 
 -- such new levels, and a value of each discrete variable, within the limit
 pub record AreNewLevelsAt (at : NewLevels) (discretes : List ℤ) : Type 0 where
   pub new : AreNewLevels at
   pub as_many : length discretes ≡ discrete_count at.machine.now
-  pub small : All (IsWithin 43) discretes
+  pub small : AreLevels discretes
 
 -- the sums of all rows at the new levels and at discrete values
 abbrev pub new_sums : RowSum → NewLevels → List ℤ → List ℤ
@@ -137,7 +137,7 @@ pub record CanArrive (at : Arrival) (levels : List ℤ) : Type 0 where
 pub record CanTakeOnArrival (at : Arrival) (levels_old : List ℤ) : Type 0 where
   pub arrival : CanArrive at levels_old
   pub levels : length levels_old ≡ state_count at.machine.now
-  pub small_levels : All (IsWithin 43) levels_old
+  pub small_levels : AreLevels levels_old
 
 -- the moved states may take new levels at these states, from a level of each state, within the
 -- limits; after the rows so far there is capacity for one row of each state
@@ -145,8 +145,8 @@ pub record CanRequantize (at : Arrival) (x levels_old : List ℤ) (taken capacit
   pub states : length x ≡ state_count at.machine.now
   pub levels : length levels_old ≡ state_count at.machine.now
   pub moved : AreRisingBelow (state_count at.machine.now) at.moved.now
-  pub small_states : (j : ℕ) → is_listed at.moved.now j ≡ true → IsWithin 88 (int_at x j)
-  pub small_levels : All (IsWithin 43) levels_old
+  pub small_states : (j : ℕ) → is_listed at.moved.now j ≡ true → IsState (int_at x j)
+  pub small_levels : AreLevels levels_old
   pub room : taken + state_count at.machine.now ≤ capacity
 
 -- the level of each line, within the limit, and the absolute row sums of all rows at these levels
@@ -176,7 +176,7 @@ pub record HasOneEach (m : Machine) (slopes_old : List ℤ) (lines_old : List Li
 pub record CanSchedule (at : NewSlopes) (lines_old : List Line) (dues_old : List (Option ℕ)) : Type 0 where
   pub new : AreNewLevels at.event
   pub one_each : HasOneEach at.event.machine.now at.slopes.now lines_old dues_old
-  pub small_slopes : All (IsWithin 88) at.slopes.now
+  pub small_slopes : AreSlopes at.slopes.now
   pub in_time : at.event.tick ≤ tick_limit
 
 -- one state of a machine may continue in this way
@@ -193,7 +193,7 @@ pub record CanUpdateSlopes (at : NewSlopes) (lines_old : List Line) (dues_old : 
 -- a value of each state, within the limit
 pub record AreStatesOf (m : Machine) (x : List ℤ) : Type 0 where
   pub as_many : length x ≡ state_count m
-  pub small : All (IsWithin 88) x
+  pub small : AreStates x
 
 -- the slopes of all rows at the new levels, at an event-free change of levels
 abbrev pub quiet_slopes : EventLevels → List ℤ
@@ -242,7 +242,7 @@ states_left at left lines = states_with lines at.tick at.moved.now left.states.n
 pub record CanRestart (at : NewLevels) (left : HandlerResult) (slopes_old : List ℤ) (lines_old : List Line) (dues_old : List (Option ℕ)) : Type 0 where
   pub new : AreNewLevels at
   pub handled : IsHandlerResult at.machine.now left
-  pub small_states : All (IsWithin 88) (states_left at left lines_old)
+  pub small_states : AreStates (states_left at left lines_old)
   pub levels : AreLevelsFor at.machine.now (states_left at left lines_old) at.levels.now left.discretes.now
   pub one_each : HasOneEach at.machine.now slopes_old lines_old dues_old
   pub held : HeldBefore at.machine.now at.tick at.moved.now at.levels.now left.before.now slopes_old lines_old dues_old

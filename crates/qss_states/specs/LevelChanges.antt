@@ -1,11 +1,11 @@
 -- Defines the levels that states take at a tick, and their rows.
-use Rattle.std.specs.Prelude.{◌≡◌, ℕ, ◌+◌, ◌≤◌, ◌++◌, List, [], ◌∷◌, All, ℤ, pos, Option, None, Vec}
+use Rattle.std.specs.Prelude.{◌≡◌, ℕ, ◌+◌, ◌≤◌, ◌++◌, List, [], ◌∷◌, ℤ, pos, Option, None, Vec}
 use Rattle.std.specs.Prelude.{vec_len, vec_capacity, if◌then◌else◌}
 use Rattle.std.specs.declared.alloc.Global.{Global}
 use Rattle.std.specs.List.{flat_map}
 use Rattle.std.specs.Option.{option_or}
 use Rattle.std.specs.Ordering.{int_eq}
-use Rattle.mu_num.specs.Sizes.{IsWithin, exceeds}
+use Rattle.mu_num.specs.Sizes.{exceeds}
 use Rattle.qss_machine.specs.declared.machine_parts.Row.{Row}
 use Rattle.qss_machine.specs.declared.machine_parts.RowKind.TheVariants as kind
 use Rattle.qss_machine.specs.declared.compiled_machine.Machine.{Machine}
@@ -16,6 +16,7 @@ use Rattle.qss_quant.specs.declared.quantizer.Rule.{Rule}
 use Rattle.mu_num.specs.ListedPlaces.{DiffersOnlyAt}
 use Rattle.qss_events.specs.AllowedLevels.{IsAllowedLevel}
 use Rattle.mu_num.specs.Writes.{IsFirstOf, IsWritten}
+use Rattle.mu_num.specs.Limits.{bits_of_level, bits_of_state, AreLevels}
 use Rattle.qss_states.specs.declared.event_contexts.Arrival.{Arrival}
 use Rattle.qss_states.specs.EventContexts.{AreMovedTo}
 use Rattle.qss_states.specs.StateLines.{states_at}
@@ -42,7 +43,7 @@ pub record HaveOneMore (old new : Vec Row Global) : Type 0 where
 -- none does, they are set, with their rows appended
 pub record AreRequantized (m : Machine) (name : Option Rule) (tick : ℕ) (states : List ℤ) (places : List ℕ) (old kept new : List ℤ) (before rows : List Row) (first : Option ℕ) : Type 0 where
   pub allowed : IsWritten (pos 0) (λ j level. IsNextLevel (IsAllowedLevel name) m j (int_at states j) (int_at old j) level) places old new
-  pub found : IsFirstOf (λ j. exceeds 43 (int_at new j)) places first
+  pub found : IsFirstOf (λ j. exceeds bits_of_level (int_at new j)) places first
   pub off : DiffersOnlyAt places old kept
   pub levels : first ≡ None → kept ≡ new
   pub own_rows : first ≡ None → rows ≡ before ++ flat_map (taken_row tick states old new) places
@@ -50,14 +51,14 @@ pub record AreRequantized (m : Machine) (name : Option Rule) (tick : ℕ) (state
 -- new levels on an arrival, which differ only for moved states: allowed if no state exceeds its
 -- limit, and set if nothing overflows
 pub record AreRequantizedOnArrival (at : Arrival) (name : Option Rule) (old kept new : List ℤ) (later over : Option ℕ) : Type 0 where
-  pub over_is : over ≡ option_or (first_exceeding 88 (states_at at.lines.now at.tick)) later
-  pub allowed : first_exceeding 88 (states_at at.lines.now at.tick) ≡ None → AreNextLevels (IsAllowedLevel name) at.machine.now (states_at at.lines.now at.tick) old new
+  pub over_is : over ≡ option_or (first_exceeding bits_of_state (states_at at.lines.now at.tick)) later
+  pub allowed : first_exceeding bits_of_state (states_at at.lines.now at.tick) ≡ None → AreNextLevels (IsAllowedLevel name) at.machine.now (states_at at.lines.now at.tick) old new
   pub others : DiffersOnlyAt at.moved.now old new
   pub levels : over ≡ None → kept ≡ new
 
 -- levels within the limit that were set on arrival, and a row for each that changed
 pub record AreTakenOnArrival (at : Arrival) (old new : List ℤ) (rows : List Row) : Type 0 where
-  pub small : All (IsWithin 43) new
+  pub small : AreLevels new
   pub own_rows : rows ≡ level_rows at.tick old new (states_at at.lines.now at.tick)
 
 -- new levels that differ only for the moved states: allowed, and set if nothing overflows

@@ -7,6 +7,7 @@ use Rattle.qss_machine.specs.Machines.{state_count, row_at, weight_at}
 use Rattle.mu_num.specs.IndexedSums.{int_at}
 use Rattle.qss_machine.specs.Slopes.{mode_fits}
 use Rattle.mu_num.specs.ListedPlaces.{is_listed}
+use Rattle.mu_num.specs.Limits.{bits_of_weight}
 
 -- whether a row is before the row that was found, if any
 abbrev pub comes_before : Option ℕ → ℕ → Bool
@@ -16,11 +17,11 @@ comes_before (Some found) row = nat_lt row found
 -- the absolute row sum of the row that was found exceeds its limit; no examined row before it has
 -- one that does
 pub record IsLeastPast (weights : List ℤ) (rows : List ℕ) (found : Option ℕ) : Type 0 where
-  pub past : (row : ℕ) → found ≡ Some row → (row < length weights) × (exceeds 88 (int_at weights row) ≡ true)
-  pub none_before : (row : ℕ) → is_listed rows row ≡ true → comes_before found row ≡ true → exceeds 88 (int_at weights row) ≡ false
+  pub past : (row : ℕ) → found ≡ Some row → (row < length weights) × (exceeds bits_of_weight (int_at weights row) ≡ true)
+  pub none_before : (row : ℕ) → is_listed rows row ≡ true → comes_before found row ≡ true → exceeds bits_of_weight (int_at weights row) ≡ false
 
 -- the absolute row sum of a row, or a number above its limit if a coefficient in the current mode
 -- exceeds its limit
 abbrev pub IsWeighed : Machine → List ℤ → List ℤ → ℕ → ℤ → Type 0
 IsWeighed m levels discretes row weight =
-    MatchBool (mode_fits m.f (state_count m) (row_at m row) discretes) (weight ≡ weight_at m row levels discretes) (exceeds 88 weight ≡ true)
+    MatchBool (mode_fits m.f (state_count m) (row_at m row) discretes) (weight ≡ weight_at m row levels discretes) (exceeds bits_of_weight weight ≡ true)

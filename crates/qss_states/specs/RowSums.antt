@@ -1,7 +1,6 @@
 -- Defines the two sums of a row over levels: its slope, and its absolute row sum.
 use Rattle.std.specs.Prelude.{◌≡◌, ℕ, ◌+◌, ◌^◌, ◌<◌, ◌≤◌, List, length, ℤ, ◌+ℤ◌, ◌-ℤ◌, ◌*ℤ◌}
-use Rattle.std.specs.Prelude.{unsigned_abs, None, All, position}
-use Rattle.mu_num.specs.Sizes.{IsWithin}
+use Rattle.std.specs.Prelude.{unsigned_abs, None, position}
 use Rattle.qss_machine.specs.declared.compiled_machine.Machine.{Machine}
 use Rattle.qss_machine.specs.Machines.{state_count, mode_coefficient_at, slope_at, weight_at}
 use Rattle.mu_num.specs.IndexedSums.{int_at, abs_of, tabulate}
@@ -10,6 +9,7 @@ use Rattle.qss_quant.specs.IntegratorLines.{Line}
 use Rattle.qss_states.specs.declared.row_sum_changes.RowSum.{RowSum}
 use Rattle.qss_states.specs.declared.row_sum_changes.RowSum.TheVariants.{Slope, Weight}
 use Rattle.mu_num.specs.ListedPlaces.{DiffersOnlyAt}
+use Rattle.mu_num.specs.Limits.{AreLevels}
 use Rattle.qss_states.specs.StateLines.{line_at}
 use Rattle.qss_states.specs.Variables.{AreLevelsOf}
 
@@ -37,7 +37,7 @@ pub record CanAddUp (m : Machine) (levels discretes sums : List ℤ) : Type 0 wh
 -- the levels of the lines, within their limit, at which, with these discrete values, no row exceeds
 -- its limits
 pub record AreLevelsOfLines (m : Machine) (lines : List Line) (levels discretes : List ℤ) : Type 0 where
-  pub small : All (IsWithin 43) levels
+  pub small : AreLevels levels
   pub light : position (exceeds_row_limits m levels discretes) m.rows ≡ None
   pub own_levels : (j : ℕ) → j < state_count m → (line_at lines j).level ≡ int_at levels j
 

@@ -1,12 +1,12 @@
 -- Defines how lines and due ticks change when some states continue at new slopes.
 use Rattle.std.specs.Prelude.{◌≡◌, ℕ, ◌<◌, ◌≤◌, ◌⊎◌, List, length, ℤ, Option, true, false}
-use Rattle.mu_num.specs.Sizes.{IsWithin}
 use Rattle.qss_machine.specs.declared.compiled_machine.Machine.{Machine}
 use Rattle.qss_machine.specs.Machines.{state_count, level_unit, quantum_of}
 use Rattle.mu_num.specs.IndexedSums.{int_at}
 use Rattle.qss_quant.specs.IntegratorLines.{Line, state_at, IsLineWithinQuantum}
 use Rattle.qss_sched.specs.Ranks.{due_at}
 use Rattle.mu_num.specs.ListedPlaces.{is_listed}
+use Rattle.mu_num.specs.Limits.{IsState}
 use Rattle.qss_states.specs.StateLines.{line_at, IsRestartedFrom}
 use Rattle.qss_states.specs.LineReplacements.{has_level_and_slope}
 use Rattle.qss_events.specs.Schedules.{IsDue}
@@ -15,7 +15,7 @@ use Rattle.qss_events.specs.Schedules.{IsDue}
 -- due tick is valid if its level does not change
 pub record MayUpdateSlope (m : Machine) (tick : ℕ) (level slope : ℤ) (j : ℕ) (line : Line) (found : Option ℕ) : Type 0 where
   pub not_later : line.tick ≤ tick
-  pub small : IsWithin 88 (state_at line tick)
+  pub small : IsState (state_at line tick)
   pub near : IsLineWithinQuantum (level_unit m) (state_at line tick) level (quantum_of m j level)
   pub due : line.level ≡ level → IsDue m tick j line found
 

@@ -1,8 +1,7 @@
 -- Defines the lines of states by index, and the states on these lines at a tick.
-use Rattle.std.specs.Prelude.{ℕ, List, length, All, ℤ, pos, false, if◌then◌else◌, ◌≡◌, ◌^◌, ◌<◌}
+use Rattle.std.specs.Prelude.{ℕ, List, length, ℤ, pos, false, if◌then◌else◌, ◌≡◌, ◌<◌}
 use Rattle.std.specs.Prelude.{◌≤◌, Option, None, slice_index_or}
 use Rattle.mu_num.specs.Sizes.{IsWithin}
-use Rattle.mu_num.specs.Ticks.{tick_limit}
 use Rattle.qss_machine.specs.Machines.{state_count}
 use Rattle.mu_num.specs.IndexedSums.{int_at, tabulate, first_exceeding}
 use Rattle.qss_machine.specs.declared.compiled_machine.Machine.{Machine}
@@ -10,6 +9,7 @@ use Rattle.qss_quant.specs.IntegratorLines.{Line, state_at}
 use Rattle.mu_num.specs.ListedPlaces.{is_listed, AreRisingBelow}
 use Rattle.qss_events.specs.Schedules.{IsDue, no_line}
 use Rattle.mu_num.specs.Writes.{IsWritten}
+use Rattle.mu_num.specs.Limits.{tick_limit, bits_of_state, IsState, AreStates}
 
 -- the line of a state
 abbrev pub line_at : List Line → ℕ → Line
@@ -23,18 +23,18 @@ states_at lines tick = tabulate (length lines) (λ j. state_at (line_at lines j)
 pub record AreLinesUpTo (m : Machine) (tick : ℕ) (lines : List Line) : Type 0 where
   pub as_many : length lines ≡ state_count m
   pub later : (j : ℕ) → j < length lines → (line_at lines j).tick ≤ tick
-  pub in_time : tick < 2 ^ 32
+  pub in_time : tick < tick_limit
 
 -- lines up to a tick, with states within the limit at this tick
 pub record AreLinesAt (m : Machine) (tick : ℕ) (lines : List Line) : Type 0 where
   pub up_to : AreLinesUpTo m tick lines
-  pub small : All (IsWithin 88) (states_at lines tick)
+  pub small : AreStates (states_at lines tick)
 
 -- lines up to a tick, and indices of due states: the other states are within the limit at this tick
 pub record AreLinesWithDue (m : Machine) (tick : ℕ) (lines : List Line) (due : List ℕ) : Type 0 where
   pub up_to : AreLinesUpTo m tick lines
   pub numbers : AreRisingBelow (state_count m) due
-  pub others_small : (j : ℕ) → j < state_count m → is_listed due j ≡ false → IsWithin 88 (state_at (line_at lines j) tick)
+  pub others_small : (j : ℕ) → j < state_count m → is_listed due j ≡ false → IsState (state_at (line_at lines j) tick)
 
 -- lines that may move to a tick up to 2^32: none is later, and their states at the tick are within
 -- 89 bits
@@ -56,16 +56,16 @@ pub record CanArriveWithin (tick : ℕ) (lines : List Line) (due : List ℕ) (x 
   pub as_many : length x ≡ length lines
   pub numbers : AreRisingBelow (length lines) due
   pub later : (j : ℕ) → j < length lines → (line_at lines j).tick ≤ tick
-  pub in_time : tick < 2 ^ 32
-  pub others_small : (j : ℕ) → j < length lines → is_listed due j ≡ false → IsWithin 88 (state_at (line_at lines j) tick)
-  pub small : All (IsWithin 88) x
+  pub in_time : tick < tick_limit
+  pub others_small : (j : ℕ) → j < length lines → is_listed due j ≡ false → IsState (state_at (line_at lines j) tick)
+  pub small : AreStates x
 
 -- the due states have arrived, and the first that exceeds its limit was found, if any; if none
 -- does, all values are within the limit
 pub record HaveArrivedWithin (tick : ℕ) (lines : List Line) (due : List ℕ) (x new : List ℤ) (over : Option ℕ) : Type 0 where
-  pub over_is : over ≡ first_exceeding 88 (states_at lines tick)
+  pub over_is : over ≡ first_exceeding bits_of_state (states_at lines tick)
   pub at_arrival : IsWritten (pos 0) (λ j z. z ≡ state_at (line_at lines j) tick) due x new
-  pub small : over ≡ None → All (IsWithin 88) new
+  pub small : over ≡ None → AreStates new
 
 -- the states at a tick: these values for the moved states, and the states on their lines for the
 -- others

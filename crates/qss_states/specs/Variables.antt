@@ -1,12 +1,12 @@
 -- Defines indices of variables, rows that read them, and values within their limits.
 use Rattle.std.specs.Prelude.{◌≡◌, ℕ, ◌+◌, ◌<◌, ◌≤◌, false, List, ℤ, All, length, Bool}
 use Rattle.std.specs.List.{list_any}
-use Rattle.mu_num.specs.Sizes.{IsWithin}
 use Rattle.qss_machine.specs.declared.compiled_machine.Machine.{Machine}
 use Rattle.mu_num.specs.IndexedSums.{int_at}
 use Rattle.qss_machine.specs.Machines.{state_count, discrete_count, row_at}
 use Rattle.qss_machine.specs.Readers.{row_reads}
 use Rattle.mu_num.specs.ListedPlaces.{is_listed}
+use Rattle.mu_num.specs.Limits.{AreLevels, AreStates, AreSlopes}
 
 -- indices of states and discrete variables
 abbrev pub AreVariablesOf : Machine → List ℕ → Type 0
@@ -25,7 +25,7 @@ AreAssigned m assigned old new = (g : ℕ) → g < discrete_count m → is_liste
 pub record AreAssignedFrom (m : Machine) (assigned : List ℕ) (before after : List ℤ) : Type 0 where
   pub known : AreDiscretes m assigned
   pub others : AreAssigned m assigned before after
-  pub small_before : All (IsWithin 43) before
+  pub small_before : AreLevels before
 
 -- whether the row of a state reads one of the moved states
 abbrev pub reads_moved : Machine → List ℕ → ℕ → Bool
@@ -35,17 +35,17 @@ reads_moved m moved j = list_any (λ i. row_reads i (row_at m j)) moved
 pub record AreWithin (m : Machine) (x d : List ℤ) : Type 0 where
   pub states : length x ≡ state_count m
   pub discretes : length d ≡ discrete_count m
-  pub small_states : All (IsWithin 88) x
-  pub small_discretes : All (IsWithin 43) d
+  pub small_states : AreStates x
+  pub small_discretes : AreLevels d
 
 -- a level of each state and a value of each discrete variable, within the limit
 pub record AreLevelsOf (m : Machine) (l d : List ℤ) : Type 0 where
   pub levels : length l ≡ state_count m
   pub discretes : length d ≡ discrete_count m
-  pub small_levels : All (IsWithin 43) l
-  pub small_discretes : All (IsWithin 43) d
+  pub small_levels : AreLevels l
+  pub small_discretes : AreLevels d
 
 -- a slope of each state, within the limit
 pub record AreSlopesOf (m : Machine) (slopes : List ℤ) : Type 0 where
   pub as_many : length slopes ≡ state_count m
-  pub small : All (IsWithin 88) slopes
+  pub small : AreSlopes slopes

@@ -22,9 +22,9 @@ ghost use Rattle.qss_states.specs.SumMarks.{AreReaderSums, AreReadersMarkedOr, A
 
 use crate::event_contexts::{HandlerResult, NewLevels};
 use crate::row_sum_changes::{RowSum, update_all_row_sums};
-use crate::safe_bounds::{WEIGHT_BITS, are_places_within, start_row_bound};
+use crate::safe_bounds::{are_places_within, start_row_bound};
 use crate::sum_marks::{is_sum_marked, mark_reader_sums};
-use mu_num::exceeds_power_of_two;
+use mu_num::{WEIGHT_BITS, exceeds_power_of_two};
 use qss_machine::{Machine, Uses};
 use qss_quant::Integrator;
 

@@ -1,12 +1,11 @@
 //! Sets the new levels of the states that are due at one tick, and updates the absolute row sums. A
 //! level that changes has a row.
 
-ghost use Rattle.std.specs.Prelude.{◌≡◌, ℕ, ◌+◌, ◌<◌, ◌≤◌, ◌^◌, ◌++◌, List, ℤ, All, None, Some};
+ghost use Rattle.std.specs.Prelude.{◌≡◌, ℕ, ◌+◌, ◌<◌, ◌≤◌, ◌^◌, ◌++◌, List, ℤ, None, Some};
 ghost use Rattle.std.specs.Prelude.{length, pos, vec_len, vec_capacity, if◌then◌else◌, true, false};
 ghost use Rattle.std.specs.Prelude.{position, Option};
 ghost use Rattle.std.specs.Option.{option_or};
-ghost use Rattle.mu_num.specs.Sizes.{IsWithin, exceeds};
-ghost use Rattle.mu_num.specs.Ticks.{tick_limit};
+ghost use Rattle.mu_num.specs.Sizes.{exceeds};
 ghost use Rattle.mu_num.specs.IndexedSums.{first_exceeding};
 ghost use Rattle.qss_machine.specs.Machines.{state_count, discrete_count};
 ghost use Rattle.qss_machine.specs.Runs.{level_rows};
@@ -20,13 +19,13 @@ ghost use Rattle.qss_states.specs.LevelChanges.{HaveOneMore};
 ghost use Rattle.qss_states.specs.StateLines.{line_at, states_at, CanArriveWithin};
 ghost use Rattle.qss_states.specs.StateLines.{HaveArrivedWithin, MayArrive};
 ghost use Rattle.mu_num.specs.Writes.{IsFirstOf, IsWritten};
+ghost use Rattle.mu_num.specs.Limits.{tick_limit, bits_of_level, bits_of_state, IsLevel, AreLevels};
 ghost use Rattle.qss_machine.specs.Ticks.{exceeds_row_limits};
 ghost use Rattle.qss_states.specs.KeptWeights.{AreWeights};
 
 use crate::event_contexts::{Arrival, HandlerArrival, HandlerResult, NewLevels};
 use crate::kept_weights::Weights;
-use crate::safe_bounds::{LEVEL_BITS, STATE_BITS};
-use mu_num::exceeds_power_of_two;
+use mu_num::{LEVEL_BITS, STATE_BITS, exceeds_power_of_two};
 use qss_events::requantize_level;
 use qss_hand::Work;
 use qss_machine::{Row, RowKind};
@@ -50,11 +49,11 @@ pub fn requantize_after_handlers(
         ≤ vec_capacity rows.old }
     ensures taken { (new : List ℤ) × AreRequantizedAt at.now.machine.now q.now.name
         at.now.moved.now at.now.work.now.x levels.old levels.new new
-        (option_or (first_exceeding 43 new)
+        (option_or (first_exceeding bits_of_level new)
         (position (exceeds_row_limits at.now.machine.now new at.now.work.now.d)
         at.now.machine.now.rows))
         result }
-    ensures size_limit { result ≡ None → All (IsWithin 43) levels.new }
+    ensures size_limit { result ≡ None → AreLevels levels.new }
     ensures weights { result ≡ None
         → AreWeights at.now.machine.now levels.new at.now.work.now.d weights.new }
     ensures rows { result ≡ None
@@ -110,13 +109,13 @@ pub fn requantize_moved(
 ) -> Option<u32>
     requires ready { CanArrive at.now levels.old }
     requires discretes { length work.now.d ≡ discrete_count at.now.machine.now }
-    requires small_discretes { All (IsWithin 43) work.now.d }
+    requires small_discretes { AreLevels work.now.d }
     requires held { HoldsLevels at.now.machine.now at.now.lines.now work.now.d
         levels.old weights.old }
     requires room { state_count at.now.machine.now ≤ vec_capacity rows.old }
     ensures taken { (new : List ℤ) × AreRequantizedOnArrival at.now q.now.name
         levels.old levels.new new
-        (option_or (first_exceeding 43 new)
+        (option_or (first_exceeding bits_of_level new)
         (position (exceeds_row_limits at.now.machine.now new work.now.d) at.now.machine.now.rows))
         result }
     ensures kept { result ≡ None
@@ -178,8 +177,8 @@ pub(crate) fn requantize_states(
 ) -> Option<u32>
     requires { CanRequantize at.now x.now levels.old (vec_len rows.old) (vec_capacity rows.old) }
     ensures taken { (new : List ℤ) × AreRequantizedAt at.now.machine.now q.now.name
-        at.now.moved.now x.now levels.old levels.new new (first_exceeding 43 new) result }
-    ensures size_limit { result ≡ None → All (IsWithin 43) levels.new }
+        at.now.moved.now x.now levels.old levels.new new (first_exceeding bits_of_level new) result }
+    ensures size_limit { result ≡ None → AreLevels levels.new }
     ensures rows { result ≡ None
         → (states : List ℤ) → AreMovedTo at.now.machine.now at.now.moved.now x.now levels.old states
         → rows.new.items ≡ rows.old.items ++ level_rows at.now.tick levels.old levels.new states }
@@ -224,7 +223,7 @@ pub(crate) fn set_requantized_within_limit(
     state: i128,
 ) -> bool
     requires { vec_len rows.old < vec_capacity rows.old }
-    ensures past { result ≡ exceeds 43 fresh }
+    ensures past { result ≡ exceeds bits_of_level fresh }
     ensures left { result ≡ true → (level.new ≡ level.old) × (rows.new.items ≡ rows.old.items) }
     ensures taken { result ≡ false
         → HasTaken tick var state level.old fresh level.new rows.old.items rows.new.items }
@@ -246,7 +245,7 @@ fn set_requantized_level(
     fresh: i128,
     state: i128,
 )
-    requires size_limit { IsWithin 43 fresh }
+    requires size_limit { IsLevel fresh }
     requires room { vec_len rows.old < vec_capacity rows.old }
     ensures taken { HasTaken tick var state level.old fresh level.new rows.old.items
         rows.new.items }
@@ -299,7 +298,7 @@ pub(crate) fn requantize_due(
     requires ready { CanTakeOnArrival at.now levels.old }
     requires room { state_count at.now.machine.now ≤ vec_capacity rows.old }
     ensures taken { (new : List ℤ) × AreRequantizedOnArrival at.now q.now.name
-        levels.old levels.new new (first_exceeding 43 new) result }
+        levels.old levels.new new (first_exceeding bits_of_level new) result }
     ensures kept { result ≡ None
         → AreTakenOnArrival at.now levels.old levels.new rows.new.items }
     ensures room { vec_capacity rows.new ≡ vec_capacity rows.old }
@@ -320,9 +319,9 @@ fn requantize_on_arrival(
 ) -> Option<u32>
     requires ready { CanTakeOnArrival at.now levels.old }
     requires room { vec_len rows.old + state_count at.now.machine.now ≤ vec_capacity rows.old }
-    ensures passed { (var : ℕ) → first_exceeding 88 (states_at at.now.lines.now at.now.tick) ≡ Some var
+    ensures passed { (var : ℕ) → first_exceeding bits_of_state (states_at at.now.lines.now at.now.tick) ≡ Some var
         → result ≡ Some var }
-    ensures taken { first_exceeding 88 (states_at at.now.lines.now at.now.tick) ≡ None
+    ensures taken { first_exceeding bits_of_state (states_at at.now.lines.now at.now.tick) ≡ None
         → (new : List ℤ) × AreRequantized at.now.machine.now q.now.name at.now.tick
         (states_at at.now.lines.now at.now.tick)
         at.now.moved.now levels.old levels.new new rows.old.items rows.new.items result }
@@ -371,7 +370,7 @@ fn move_requantized_states(
 ) -> Option<u32>
     requires may_arrive { MayArrive tick lines.now x.old }
     requires moved { AreRisingBelow (length lines.now) moved.now }
-    ensures first { IsFirstOf (λ j. exceeds 88 (state_at (line_at lines.now j) tick)) moved.now
+    ensures first { IsFirstOf (λ j. exceeds bits_of_state (state_at (line_at lines.now j) tick)) moved.now
         result }
     ensures arrived { IsWritten (pos 0)
         (λ j z. z ≡ state_at (line_at lines.now j) tick) moved.now x.old x.new }

@@ -7,6 +7,7 @@ ghost use Rattle.qss_machine.specs.Machines.{state_count, row_coefficient, mode_
 ghost use Rattle.qss_machine.specs.Readers.{reading_rows, uses_of};
 ghost use Rattle.qss_states.specs.RowSums.{taken_by, IsSumAfterLevelChange};
 ghost use Rattle.mu_num.specs.Writes.{IsWritten};
+ghost use Rattle.mu_num.specs.Limits.{IsLevel, IsState};
 ghost use Rattle.qss_states.specs.declared.row_sum_changes.RowSum.TheVariants as sum;
 ghost use Rattle.qss_states.specs.EventContexts.{IsMode, CanShift, CanFollow, new_sums, new_slopes};
 
@@ -63,9 +64,9 @@ pub(crate) fn update_all_row_sums(
 
 // The level as a factor of a sum: itself, or its absolute value.
 fn row_sum_level(kind: RowSum, level: i64) -> i64
-    requires { IsWithin 43 level }
+    requires { IsLevel level }
     ensures value { result ≡ taken_by kind level }
-    ensures bound { IsWithin 43 result }
+    ensures bound { IsLevel result }
 {
     match kind {
         RowSum::Slope => level,
@@ -119,7 +120,7 @@ pub(crate) fn sum_difference(
     ensures value { result
         ≡ taken_by kind (mode_coefficient_at at.now.machine.now row state at.now.discretes.now)
         *ℤ (new -ℤ old) }
-    ensures bound { IsWithin 88 result }
+    ensures bound { IsState result }
 {
     let mode = mode_for_sum_change(at, own, row, state);
     slope_sum_change(row_sum_mode(kind, mode), old, new)
@@ -147,10 +148,10 @@ fn mode_for_sum_change(at: &Mode, own: i64, row: u32, state: u32) -> i64
 // The coefficient in the current mode times the change of a level.
 fn slope_sum_change(coefficient: i64, old: i64, new: i64) -> i128
     requires coefficient { IsWithin 44 coefficient }
-    requires old { IsWithin 43 old }
-    requires new { IsWithin 43 new }
+    requires old { IsLevel old }
+    requires new { IsLevel new }
     ensures value { result ≡ coefficient *ℤ (new -ℤ old) }
-    ensures bound { IsWithin 88 result }
+    ensures bound { IsState result }
 {
     let change = new - old;
     i128::from(coefficient) * i128::from(change)

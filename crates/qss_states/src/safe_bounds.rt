@@ -3,9 +3,11 @@
 ghost use Rattle.std.specs.Prelude.{◌≡◌, ℕ, ◌+◌, ◌^◌, ◌<◌, ◌≤◌, ◌↔◌, All, IsTrue, MatchOption};
 ghost use Rattle.std.specs.Prelude.{None, Some, length, sum_by, unsigned_abs};
 ghost use Rattle.mu_num.specs.Sizes.{IsWithin};
+ghost use Rattle.mu_num.specs.Limits.{variable_limit};
 ghost use Rattle.qss_states.specs.SafeBounds.{IsUpTo, AreUpToAt, AllowsBound, IsSafeBound};
 ghost use Rattle.qss_states.specs.SafeBounds.{AreSmall, excess};
 
+use mu_num::LEVEL_BITS;
 use qss_machine::{Entry, Machine, Product, SlopeRow};
 
 // The limit of levels and of discrete values, in units of 2^-f.
@@ -14,17 +16,8 @@ const LIMIT: u64 = 1 << LEVEL_BITS;
 // The limit of coefficients in the current mode, in units of 2^-(p+k).
 const MODE_LIMIT: u128 = 1 << MODE_BITS;
 
-/// The bits of states, in units of 2^-(f+p+k).
-pub(crate) const STATE_BITS: u8 = 88;
-
-/// The bits of levels and of discrete values, in units of 2^-f.
-pub(crate) const LEVEL_BITS: u8 = 43;
-
 /// The bits of coefficients in the current mode, in units of 2^-(p+k).
 pub(crate) const MODE_BITS: u8 = 44;
-
-/// The bits of absolute row sums, in units of 2^-(f+p+k).
-pub(crate) const WEIGHT_BITS: u8 = 88;
 
 /// The greatest number that all rows allow, among the limit of levels and its successive halves. No
 /// row exceeds its limits while levels and discrete values are at most this bound in absolute
@@ -93,7 +86,7 @@ fn is_safe_machine_bound(m: &Machine, bound: u64) -> bool
 // Whether a row is within its limits for all levels and discrete values up to a bound, by its
 // coefficients.
 fn is_safe_row_bound(row: &SlopeRow, level_bits: u8, bound: u64) -> bool
-    requires count_limit { length row.now.entries ≤ 4096 }
+    requires count_limit { length row.now.entries ≤ variable_limit }
     requires size_limit { All (λ entry. IsWithin 44 entry.coef) row.now.entries }
     requires factors { All (λ product. IsWithin 44 product.coef) row.now.products }
     requires bits { level_bits ≤ 24 }
@@ -139,7 +132,7 @@ fn greatest_excess(product: &Product, level_bits: u8, bound: u64) -> u128
 
 // The sum of the absolute values of coefficients.
 fn size_sum_of_entries(entries: &[Entry]) -> u128
-    requires count_limit { length entries.now ≤ 4096 }
+    requires count_limit { length entries.now ≤ variable_limit }
     requires size_limit { All (λ entry. IsWithin 44 entry.coef) entries.now }
     ensures value { result ≡ sum_by (λ entry. unsigned_abs entry.coef) entries.now }
     ensures bound { result ≤ 2 ^ 56 }

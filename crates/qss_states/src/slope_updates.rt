@@ -4,7 +4,6 @@
 ghost use Rattle.std.specs.Prelude.{◌≡◌, ℕ, ◌+◌, ◌<◌, ◌≤◌, ◌∷◌, [], All, length, pos, true, false};
 ghost use Rattle.std.specs.Prelude.{vec_capacity, flat_map, List, ℤ, None};
 ghost use Rattle.mu_num.specs.Sizes.{IsWithin};
-ghost use Rattle.mu_num.specs.Ticks.{tick_limit};
 ghost use Rattle.mu_num.specs.IndexedSums.{int_at};
 ghost use Rattle.qss_machine.specs.Machines.{state_count, discrete_count, level_unit, slope_at};
 ghost use Rattle.qss_machine.specs.Machines.{quantum_of};
@@ -13,6 +12,7 @@ ghost use Rattle.qss_quant.specs.IntegratorLines.{state_at, IsLineWithinQuantum}
 ghost use Rattle.qss_sched.specs.Ranks.{due_at};
 ghost use Rattle.mu_num.specs.ListedPlaces.{is_listed};
 ghost use Rattle.mu_num.specs.Writes.{IsWritten};
+ghost use Rattle.mu_num.specs.Limits.{tick_limit, IsLevel, IsSlope};
 ghost use Rattle.qss_states.specs.Advancing.{CanAdvance, HaveAdvanced, advancing_of, MaySchedule};
 ghost use Rattle.qss_states.specs.Advancing.{reached};
 ghost use Rattle.qss_states.specs.StateLines.{line_at, MayMove, IsRestartedFrom};
@@ -428,8 +428,8 @@ pub(crate) fn schedule_new_slope(
 
 // Sets the slope and the level of a line from its tick on.
 fn set_slope_and_level(line: &mut Integrator, slope: i128, level: i64)
-    requires slope { IsWithin 88 slope }
-    requires level { IsWithin 43 level }
+    requires slope { IsSlope slope }
+    requires level { IsLevel level }
     ensures { line.new ≡ record line.old { slope = slope; level = level } }
 {
     line.slope = slope;
@@ -541,7 +541,7 @@ fn update_row_slopes<L: Ledger>(
 )
     requires ready { CanFollowLevel at.now state slopes.old lines.old touched.old.items
         (vec_capacity touched.old) }
-    requires old { IsWithin 43 old }
+    requires old { IsLevel old }
     ensures slopes { IsWritten (pos 0)
         (IsSumAfterLevelChange sum.Slope at.now.event.machine.now state old
         (int_at at.now.event.levels.now state) at.now.discretes.now slopes.old)

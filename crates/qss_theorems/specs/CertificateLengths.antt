@@ -1,5 +1,6 @@
 -- The written text of a certificate is short enough to be read and reads back as the certificate.
-use Rattle.std.specs.Prelude.{◌≡◌, ◌≤◌, ◌^◌, ◌*◌, length}
+use Rattle.std.specs.Prelude.{◌≡◌, ◌≤◌, ◌*◌, length}
+use Rattle.mu_num.specs.Limits.{certificate_length_limit}
 use Rattle.cert_check.specs.declared.certificate.Certificate.{Certificate}
 use Rattle.cert_check.specs.TextFaults.{IsFaultOf}
 use Rattle.cert_check.specs.CertificateTexts.{IsTextOf}
@@ -13,7 +14,7 @@ pub record WrittenCertificatesAreShort : Type 0 where
   -- it has at most 65 lines of at most 649 bytes each
   pub bytes : (c : Certificate) → length (certificate_text c) ≤ 65 * 649
   -- this is below the limit of the reader
-  pub short : (c : Certificate) → length (certificate_text c) ≤ 2 ^ 18
+  pub short : (c : Certificate) → length (certificate_text c) ≤ certificate_length_limit
   -- it is a text of the certificate, for each machine with this number of states
   pub text : (m : Machine) (c : Certificate) → c.n ≡ state_count m
       → IsTextOf m (certificate_text c) c

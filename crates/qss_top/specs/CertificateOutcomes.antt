@@ -1,5 +1,6 @@
 -- The tasks on a model and a second text, as the code executes them.
-use Rattle.std.specs.Prelude.{◌≡◌, ◌⊎◌, ◌<◌, ◌≤◌, ◌^◌, ℕ, List, [], ◌∷◌, ◌++◌, length}
+use Rattle.std.specs.Prelude.{◌≡◌, ◌⊎◌, ◌<◌, ◌≤◌, ℕ, List, [], ◌∷◌, ◌++◌, length}
+use Rattle.mu_num.specs.Limits.{model_length_limit}
 use Rattle.qss_machine.specs.declared.compiled_machine.Machine.{Machine}
 use Rattle.qss_rows.specs.declared.simulation_rows.RunResult.{RunResult}
 use Rattle.qss_rows.specs.declared.simulation_rows.RunResult.TheVariants as runs
@@ -72,8 +73,8 @@ IsTextRefused kind m text what =
 abbrev pub IsRefusedBefore : (share : ℕ) → (source : List ℕ) → FileKind → (text : List ℕ) → Outcome
     → Type 0
 IsRefusedBefore share source kind text what =
-    ((2 ^ 20 < length source) × (what ≡ outcome.TooLong))
-    ⊎ ((length source ≤ 2 ^ 20) × IsRefusedFor (IsRefused source) what)
+    ((model_length_limit < length source) × (what ≡ outcome.TooLong))
+    ⊎ ((length source ≤ model_length_limit) × IsRefusedFor (IsRefused source) what)
     ⊎ ((m : Machine) × IsSourceMachine share source m × IsTextRefused kind m text what)
 
 -- the outcome for the result of a certificate, a trace or a proposal

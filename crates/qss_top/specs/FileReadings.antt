@@ -1,7 +1,8 @@
 -- Reading a file of a command: the limits, and the outcome if the file is not read.
-use Rattle.std.specs.Prelude.{◌≡◌, ◌⊎◌, ◌≤◌, ◌^◌, ℕ, List, length, Option, Result, Ok, Err, IfOk, IfErr}
+use Rattle.std.specs.Prelude.{◌≡◌, ◌⊎◌, ◌≤◌, ℕ, List, length, Option, Result, Ok, Err, IfOk, IfErr}
 use Rattle.std.specs.Prelude.{Vec}
 use Rattle.std.specs.declared.alloc.Global.{Global}
+use Rattle.mu_num.specs.Limits.{model_length_limit}
 use Rattle.mu_io.specs.Files.{Files}
 use Rattle.mu_io.specs.Readings.{Reading, ReadsWhole, Exceeds, ReadFails, ReadsPart}
 use Rattle.qss_answers.specs.CertificateAnswers as Certificates
@@ -17,7 +18,7 @@ use Rattle.qss_top.specs.declared.status.Status.TheVariants as ends
 
 -- the greatest length, in bytes
 abbrev pub limit_of : FileKind → ℕ
-limit_of kinds.Model = 2 ^ 20
+limit_of kinds.Model = model_length_limit
 limit_of kinds.Certificate = Certificates.limit
 limit_of kinds.Trace = Traces.limit
 

@@ -1,8 +1,9 @@
 -- The answers to commands on a source, a machine or a model.
-use Rattle.std.specs.Prelude.{◌≡◌, ◌⊎◌, ℕ, zero, suc, ℤ, ◌+◌, ◌^◌, ◌≤◌, List, [], ◌∷◌, ◌++◌, length}
+use Rattle.std.specs.Prelude.{◌≡◌, ◌⊎◌, ℕ, zero, suc, ℤ, ◌+◌, ◌≤◌, List, [], ◌∷◌, ◌++◌, length}
 use Rattle.std.specs.Prelude.{nat_lt, codes, decimal, Option, Some, None, MatchBool}
 use Rattle.std.specs.Fmt.{signed_decimal}
 use Rattle.std.specs.List.{concat}
+use Rattle.mu_num.specs.Limits.{model_length_limit}
 use Rattle.mu_tree.specs.Canonical.{canonical_text}
 use Rattle.mu_tree.specs.ModelTree.{ModelTree}
 use Rattle.qss_machine.specs.Runs.{Run, run_rows}
@@ -107,7 +108,7 @@ model_answer tree = record { status = ends.Ok; out = canonical_text tree; line =
 -- the answer that rejects a source: it has more than 2^20 bytes, or is rejected for such a reason
 abbrev pub IsRefusalFor : (List ℕ → Refused → Type 0) → List ℕ → Answer → Type 0
 IsRefusalFor Refuses bytes answer =
-    MatchBool (nat_lt (2 ^ 20) (length bytes)) (answer ≡ refusal ends.ModelRefused too_long) ((r : Refused) × Refuses bytes r × (answer ≡ refusal ends.ModelRefused (refused bytes)))
+    MatchBool (nat_lt model_length_limit (length bytes)) (answer ≡ refusal ends.ModelRefused too_long) ((r : Refused) × Refuses bytes r × (answer ≡ refusal ends.ModelRefused (refused bytes)))
 
 -- the answer that rejects a source which does not compile
 abbrev pub IsSourceRefusal : List ℕ → Answer → Type 0
@@ -119,14 +120,14 @@ IsTreeRefusal bytes answer = IsRefusalFor IsParseRefusal bytes answer
 
 -- a source of at most 2^20 bytes compiles to this machine, with this relative quantum
 pub record IsSourceMachine (share : ℕ) (bytes : List ℕ) (m : Machine) : Type 0 where
-  pub short : length bytes ≤ 2 ^ 20
+  pub short : length bytes ≤ model_length_limit
   pub plain : Machine
   pub means : CompilesTo bytes plain
   pub shared : IsShared share plain m
 
 -- a source of at most 2^20 bytes parses as this model
 pub record IsSourceTree (bytes : List ℕ) (tree : ModelTree) : Type 0 where
-  pub short : length bytes ≤ 2 ^ 20
+  pub short : length bytes ≤ model_length_limit
   pub spelled : SourceParsesAs bytes tree
 
 -- the answer to a source: it is rejected, or this is the answer for its machine

@@ -2,6 +2,7 @@
 
 ghost use Rattle.std.specs.Prelude.{◌≡◌, ◌≤◌, false, List, ℕ, length, IfOk, OnOk, IfErr};
 ghost use Rattle.std.specs.Io.KnownBytes.{Appends};
+ghost use Rattle.mu_num.specs.Limits.{relative_limit};
 ghost use Rattle.cert_check.specs.Scope.{IsInScope};
 ghost use Rattle.cert_check.specs.declared.certificate.Certificate.{Certificate};
 ghost use Rattle.qss_answers.specs.AcceptedBounds.{IsSoundCertification};
@@ -65,7 +66,7 @@ pub fn answer_certificate<O: Sink>(
     text: &[u8],
     out: &mut O,
 ) -> Outcome
-    requires { share ≤ 2048 }
+    requires { share ≤ relative_limit }
     ensures answered { WritesAnswer O.written O.faults O.failed false
         (IsMachineAnswer share (λ m. IsCertifyAnswer m text.now) source.now) result out.old
         out.new }
@@ -142,7 +143,7 @@ fn machine_for_text(
     text: &[u8],
     kind: FileKind,
 ) -> Result<Machine, Outcome>
-    requires { share ≤ 2048 }
+    requires { share ≤ relative_limit }
     ensures machine { IfOk result (IsScopedMachine share source.now) }
     ensures short { IfOk result (λ m. length text.now ≤ Files.limit_of kind) }
     ensures refused { IfErr result (IsRefusedBefore share source.now kind text.now) }

@@ -1,6 +1,7 @@
 //! Parses the command line and executes the command.
 
-ghost use Rattle.std.specs.Prelude.{length, ◌≡◌, ◌≤◌, ◌⊎◌, ◌^◌, false, map, None, Some};
+ghost use Rattle.std.specs.Prelude.{length, ◌≡◌, ◌≤◌, ◌⊎◌, false, map, None, Some};
+ghost use Rattle.mu_num.specs.Limits.{model_length_limit};
 ghost use Rattle.mu_tree.specs.ModelTree.{model};
 ghost use Rattle.qss_top.specs.MachineAnswers.{IsPrintAnswer, model_answer};
 ghost use Rattle.qss_top.specs.CommandAnswers.{Answers};
@@ -100,7 +101,7 @@ fn print_file<S: Shelf, O: Sink>(alloc: Global, model: &str, shelf: &mut S, out:
 /// Parses a source and writes the canonical text of its model.
 #[inline(never)]
 pub(crate) fn print_source<O: Sink>(alloc: Global, bytes: &[u8], out: &mut O) -> Outcome
-    requires { length bytes.now ≤ 2 ^ 20 }
+    requires { length bytes.now ≤ model_length_limit }
     ensures { WritesAnswer O.written O.faults O.failed false (IsPrintAnswer bytes.now) result
         out.old out.new }
 {

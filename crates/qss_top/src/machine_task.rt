@@ -1,7 +1,8 @@
 //! Executes the tasks on the machine of a source: runs by a rule, second-order runs, coupled runs
 //! and proposals.
 
-ghost use Rattle.std.specs.Prelude.{length, ◌≡◌, ◌≤◌, ◌^◌, true, false, option_map, IfOk};
+ghost use Rattle.std.specs.Prelude.{length, ◌≡◌, ◌≤◌, true, false, option_map, IfOk};
+ghost use Rattle.mu_num.specs.Limits.{relative_limit, model_length_limit};
 ghost use Rattle.qss_top.specs.MachineAnswers.{IsProposeAnswer, printed_run_answer};
 ghost use Rattle.qss_top.specs.Tasks.{task_goes, task_share, IsSourceAnswer, IsTaskAnswer};
 ghost use Rattle.qss_cli.specs.Requests.{options_in};
@@ -20,7 +21,7 @@ use std::alloc::{AllocError, Global};
 
 /// Executes a task on the machine of a source.
 pub(crate) fn answer_task<O: Sink>(alloc: Global, task: Task, bytes: &[u8], out: &mut O) -> Outcome
-    requires { length bytes.now ≤ 2 ^ 20 }
+    requires { length bytes.now ≤ model_length_limit }
     ensures { WritesAnswer O.written O.faults O.failed (task_goes task.entry)
         (IsSourceAnswer task.entry bytes.now) result out.old out.new }
 {
@@ -33,7 +34,7 @@ pub(crate) fn answer_task<O: Sink>(alloc: Global, task: Task, bytes: &[u8], out:
 // The relative quantum of the task, in 4096ths.
 fn share_of(task: Task) -> u16
     ensures share { result ≡ task_share task.entry }
-    ensures within { result ≤ 2048 }
+    ensures within { result ≤ relative_limit }
 {
     match task {
         Task::Run(options) => options.share,

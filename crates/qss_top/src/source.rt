@@ -1,6 +1,7 @@
 //! Compiles the bytes of a source to a machine with a relative quantum.
 
-ghost use Rattle.std.specs.Prelude.{◌≤◌, ◌^◌, length, IfOk, IfErr};
+ghost use Rattle.std.specs.Prelude.{◌≤◌, length, IfOk, IfErr};
+ghost use Rattle.mu_num.specs.Limits.{relative_limit, model_length_limit};
 ghost use Rattle.qss_compile.specs.Compilation.{IsRefused};
 ghost use Rattle.qss_top.specs.MachineAnswers.{IsSourceMachine};
 ghost use Rattle.qss_top.specs.CommandOutcomes.{IsRefusedFor};
@@ -14,8 +15,8 @@ use std::alloc::Global;
 /// Error: the outcome for a source that is rejected.
 #[inline(never)]
 pub(crate) fn compile_source(alloc: Global, share: u16, bytes: &[u8]) -> Result<Machine, Outcome>
-    requires share { share ≤ 2048 }
-    requires short { length bytes.now ≤ 2 ^ 20 }
+    requires share { share ≤ relative_limit }
+    requires short { length bytes.now ≤ model_length_limit }
     ensures machine { IfOk result (IsSourceMachine share bytes.now) }
     ensures refused { IfErr result (IsRefusedFor (IsRefused bytes.now)) }
 {

@@ -1,6 +1,7 @@
 //! Executes the commands on a model and a second text: a certificate or a trace.
 
-ghost use Rattle.std.specs.Prelude.{length, ◌≡◌, ◌≤◌, ◌^◌, ◌∷◌, false};
+ghost use Rattle.std.specs.Prelude.{length, ◌≡◌, ◌≤◌, ◌∷◌, false};
+ghost use Rattle.mu_num.specs.Limits.{model_length_limit};
 ghost use Rattle.cert_check.specs.Scope.{IsInScope};
 ghost use Rattle.qss_top.specs.CommandAnswers.{Answers};
 ghost use Rattle.qss_top.specs.CertificateOutcomes.{files_after_text, kind_in};
@@ -51,7 +52,7 @@ fn on_model<S: Shelf, O: Sink>(
     shelf: &mut S,
     out: &mut O,
 ) -> Outcome
-    requires { length bytes.now ≤ 2 ^ 20 }
+    requires { length bytes.now ≤ model_length_limit }
     ensures { AnswersFromFiles S.files S.faults S.readings O.written O.faults O.failed false
         (files.entry.second.now ∷ files_after_text files.entry.task)
         (SourceAnswers files.entry.task bytes.now) result shelf.old shelf.new out.old out.new }

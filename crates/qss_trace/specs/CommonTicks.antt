@@ -1,7 +1,8 @@
 -- The comparison of two traces at their common times: the greatest V of their difference.
-use Rattle.std.specs.Prelude.{◌≡◌, ℕ, ◌+◌, ◌*◌, ◌^◌, ◌<◌, ◌≤◌, ◌⊎◌, Bool, List, ℤ, pos, ◌*ℤ◌, ◌≤ℤ◌}
+use Rattle.std.specs.Prelude.{◌≡◌, ℕ, ◌+◌, ◌*◌, ◌<◌, ◌≤◌, ◌⊎◌, Bool, List, ℤ, pos, ◌*ℤ◌, ◌≤ℤ◌}
 use Rattle.std.specs.Prelude.{◌<ℤ◌, unsigned_abs, count_by, ◌==◌}
 use Rattle.std.specs.List.{list_any, range_with_len}
+use Rattle.mu_num.specs.Limits.{sum_limit}
 use Rattle.cert_matrix.specs.Form.{Vector, form}
 use Rattle.cert_matrix.specs.Matrix.{table, IsFormInRange}
 use Rattle.cert_check.specs.Bounds.{scaled_difference}
@@ -35,7 +36,7 @@ value_of p t1 t2 i1 i2 = form t1.n (table p) (difference t1 t2 i1 i2)
 
 -- the sums that compute V at two places are in range
 pub record IsPairInRange (p : List (List ℤ)) (t1 t2 : Trace) (i1 i2 : ℕ) : Type 0 where
-  pub parts : (j : ℕ) → j < t1.n → t2.scale * unsigned_abs (entry_at (states_of t1) i1 j) + t1.scale * unsigned_abs (entry_at (states_of t2) i2 j) ≤ 2 ^ 126
+  pub parts : (j : ℕ) → j < t1.n → t2.scale * unsigned_abs (entry_at (states_of t1) i1 j) + t1.scale * unsigned_abs (entry_at (states_of t2) i2 j) ≤ sum_limit
   pub form : IsFormInRange t1.n (table p) (difference t1 t2 i1 i2)
 
 -- the size of a level in the common unit
@@ -48,10 +49,10 @@ bound_of c k t1 t2 = both_units t1 t2 k *ℤ both_units t1 t2 k *ℤ c
 
 -- the products that compute the bound, from the left, are at most 2^126 in absolute value
 pub record IsBoundInRange (c k : ℤ) (t1 t2 : Trace) : Type 0 where
-  pub scales : unsigned_abs (pos t1.scale) * unsigned_abs (pos t2.scale) ≤ 2 ^ 126
-  pub unit : unsigned_abs (pos t1.scale *ℤ pos t2.scale) * unsigned_abs k ≤ 2 ^ 126
-  pub square : unsigned_abs (both_units t1 t2 k) * unsigned_abs (both_units t1 t2 k) ≤ 2 ^ 126
-  pub whole : unsigned_abs (both_units t1 t2 k *ℤ both_units t1 t2 k) * unsigned_abs c ≤ 2 ^ 126
+  pub scales : unsigned_abs (pos t1.scale) * unsigned_abs (pos t2.scale) ≤ sum_limit
+  pub unit : unsigned_abs (pos t1.scale *ℤ pos t2.scale) * unsigned_abs k ≤ sum_limit
+  pub square : unsigned_abs (both_units t1 t2 k) * unsigned_abs (both_units t1 t2 k) ≤ sum_limit
+  pub whole : unsigned_abs (both_units t1 t2 k *ℤ both_units t1 t2 k) * unsigned_abs c ≤ sum_limit
 
 -- V is greatest at these places, and less at each earlier common time
 pub record AreGreatest (p : List (List ℤ)) (t1 t2 : Trace) (i1 i2 : ℕ) : Type 0 where

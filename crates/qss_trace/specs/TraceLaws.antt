@@ -1,7 +1,8 @@
 -- The theorems about traces.
-use Rattle.std.specs.Prelude.{◌≡◌, ℕ, ◌^◌, ◌<◌, ◌≤◌, ◌⊎◌, List, length, ℤ, ◌≤ℤ◌}
+use Rattle.std.specs.Prelude.{◌≡◌, ℕ, ◌<◌, ◌≤◌, ◌⊎◌, List, length, ℤ, ◌≤ℤ◌}
 use Rattle.qss_machine.specs.declared.compiled_machine.Machine.{Machine}
 use Rattle.mu_num.specs.IndexedSums.{int_at}
+use Rattle.mu_num.specs.Limits.{trace_length_limit}
 use Rattle.qss_machine.specs.Machines.{state_count, level_unit, start_states}
 use Rattle.cert_check.specs.CertificateLimits.{IsSize}
 use Rattle.cert_check.specs.declared.certificate.Certificate.{Certificate}
@@ -41,7 +42,7 @@ pub record ComparisonIsUnique : Type 0 where
 
 -- each text of at most 2^24 bytes is the text of exactly one trace or has exactly one first fault
 pub record TextsAreJudged : Type 0 where
-  pub judged : (n : ℕ) (bytes : List ℕ) → IsSize n → length bytes ≤ 2 ^ 24 → ((t : Trace) × IsTextOf n bytes t) ⊎ ((why : TextErr) × IsFaultOf n bytes why)
+  pub judged : (n : ℕ) (bytes : List ℕ) → IsSize n → length bytes ≤ trace_length_limit → ((t : Trace) × IsTextOf n bytes t) ⊎ ((why : TextErr) × IsFaultOf n bytes why)
   pub one_trace : (n : ℕ) (bytes : List ℕ) (a b : Trace) → IsTextOf n bytes a → IsTextOf n bytes b → a ≡ b
   pub one_fault : (n : ℕ) (bytes : List ℕ) (why other : TextErr) → IsFaultOf n bytes why → IsFaultOf n bytes other → why ≡ other
   pub not_both : (n : ℕ) (bytes : List ℕ) (why : TextErr) (t : Trace) → IsFaultOf n bytes why → IsTextOf n bytes t → ⊥

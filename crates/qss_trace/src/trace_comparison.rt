@@ -2,6 +2,7 @@
 //! greatest.
 
 ghost use Rattle.std.specs.Prelude.{◌≡◌, ℕ, ◌+◌, ◌*◌, ◌^◌, ◌<◌, ◌≤◌, ◌↔◌, ◌-ℤ◌, ◌*ℤ◌, ◌≤ℤ◌, pos, length, IsSome, IfSome, Some, None, unsigned_abs};
+ghost use Rattle.mu_num.specs.Limits.{tick_limit, sum_limit};
 ghost use Rattle.qss_trace.specs.Trace.{count_of};
 ghost use Rattle.qss_trace.specs.CommonTicks.{AreCommon, IsPairInRange, IsBoundInRange, bound_of, value_of, difference, IsGreatest};
 ghost use Rattle.qss_trace.specs.Comparing.{with_tick_of};
@@ -86,7 +87,7 @@ fn comparison_bound_at(c: i128, k: i128, t1: &Trace, t2: &Trace) -> Option<i128>
 
 // The product, or `None` if it exceeds 2^126 in absolute value.
 fn multiply_comparison_terms(a: i128, b: i128) -> Option<i128>
-    ensures in_range { IsSome result ↔ (unsigned_abs a * unsigned_abs b ≤ 2 ^ 126) }
+    ensures in_range { IsSome result ↔ (unsigned_abs a * unsigned_abs b ≤ sum_limit) }
     ensures value { IfSome result (λ value. value ≡ a *ℤ b) }
 {
     let sum = RangedSum::new().plus(a, b)?;
@@ -141,7 +142,7 @@ fn comparison_difference_at(t1: &Trace, t2: &Trace, i1: u32, i2: u32, j: u8) -> 
 
 // The search after one more common time.
 fn comparison_with_tick(search: &Search, place1: u32, place2: u32, value: &i128) -> Search
-    requires { search.now.common < 2 ^ 32 }
+    requires { search.now.common < tick_limit }
     ensures { result ≡ with_tick_of search.now place1 place2 value.now }
 {
     let common = search.common + 1;

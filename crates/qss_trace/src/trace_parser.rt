@@ -14,6 +14,7 @@ ghost use Rattle.qss_trace.specs.declared.trace.Trace.{Trace};
 ghost use Rattle.qss_trace.specs.TraceTexts.{AreRecordsOf, IsTextOf, IsRefusedFor};
 ghost use Rattle.std.specs.Option.{option_map};
 ghost use Rattle.std.specs.List.{position_from};
+ghost use Rattle.mu_num.specs.Limits.{trace_length_limit};
 ghost use Rattle.cert_check.specs.Layout.{keyword_of};
 ghost use Rattle.qss_trace.specs.TraceData.{AddsNumbers, HasShape};
 ghost use Rattle.cert_check.specs.CertificateLines.{line, ParsesAs};
@@ -57,7 +58,7 @@ pub(crate) enum Limit {
 /// Reads a trace for `n` states from its text of at most 2^24 bytes.
 /// Error: the first fault of the text, or out of memory.
 pub fn read_trace(alloc: Global, bytes: &[u8], n: u8) -> Result<Trace, TextErr>
-    requires short { length bytes.now ≤ 2 ^ 24 }
+    requires short { length bytes.now ≤ trace_length_limit }
     requires size { IsSize n }
     ensures read { IfOk result (λ t. IsTextOf n bytes.now t) }
     ensures refused { IfErr result (λ why. IsRefusedFor n bytes.now why) }
@@ -72,7 +73,7 @@ pub fn read_trace(alloc: Global, bytes: &[u8], n: u8) -> Result<Trace, TextErr>
 // Parses a trace for `n` states.
 #[inline(never)]
 fn parse_trace_text(alloc: Global, bytes: &[u8], n: u8) -> Result<Trace, TextErr>
-    requires short { length bytes.now ≤ 2 ^ 24 }
+    requires short { length bytes.now ≤ trace_length_limit }
     requires size { IsSize n }
     ensures read { IfOk result (λ t. IsTextOf n bytes.now t) }
     ensures refused { IfErr result (λ why. IsRefusedFor n bytes.now why) }

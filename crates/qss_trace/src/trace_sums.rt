@@ -2,6 +2,7 @@
 
 ghost use Rattle.std.specs.Prelude.{◌≡◌, ℕ, ◌^◌, ◌<◌, ◌≤◌, ◌+ℤ◌, ◌-ℤ◌, ◌*ℤ◌, ◌≤ℤ◌, pos, length, unsigned_abs, All};
 ghost use Rattle.mu_num.specs.Sizes.{IsWithin};
+ghost use Rattle.mu_num.specs.Limits.{IsLevel, IsState};
 ghost use Rattle.cert_matrix.specs.Form.{times};
 ghost use Rattle.cert_matrix.specs.Matrix.{table, vector};
 ghost use Rattle.cert_check.specs.CertificateData.{system};
@@ -31,7 +32,7 @@ pub fn trace_rise(a: &AffineSystem, scale: u32, levels: &[i128], j: u8) -> i128
 /// A start state of the machine in the trace's units.
 pub fn scale_trace_start(scale: u32, start: i128) -> i128
     requires scale { IsFactor scale }
-    requires start { IsWithin 88 start }
+    requires start { IsState start }
     ensures { result ≡ pos scale *ℤ start }
 {
     scale_trace_number(scale, start)
@@ -61,7 +62,7 @@ pub(crate) fn trace_distance(unit: i128, state: i128, level: i128) -> i128
 pub fn trace_reach(scale: u32, unit: i128, quantum: i128) -> i128
     requires scale { IsFactor scale }
     requires unit { IsWithin 44 unit }
-    requires quantum { IsWithin 43 quantum }
+    requires quantum { IsLevel quantum }
     ensures { result ≡ pos scale *ℤ unit *ℤ quantum }
 {
     scale_trace_unit(scale, unit) * quantum

@@ -10,7 +10,7 @@ overflow_sub-byte c = (digit-low c.args.digits.now c.loop-byte.byte-index c.requ
 pub loop-byte-preserved : goal.loop-byte-preserved
 loop-byte-preserved c = record {
   value = omega (arith, value-more c.args.digits.now c.loop-byte.byte-index c.requires c.loop-byte-test.true, c.from.ensures, c.loop-byte.invariant.value);
-  small = c.if-value-gt-LIMIT.false;
+  small = c.if-value-gt-SUM_LIMIT.false;
 }
 
 pub overflow_add-value : goal.overflow_add-value
@@ -31,9 +31,9 @@ returns-then-value c =
     (omega (arith, e, c.loop-byte.invariant.value, c.if-value.true)) in
     rw far refl
 
-pub returns-then-value-gt-LIMIT : goal.returns-then-value-gt-LIMIT
-returns-then-value-gt-LIMIT c =
+pub returns-then-value-gt-SUM_LIMIT : goal.returns-then-value-gt-SUM_LIMIT
+returns-then-value-gt-SUM_LIMIT c =
     let e = value-more c.args.digits.now c.loop-byte.byte-index c.requires c.loop-byte-test.true in
     let far = value-above c.args.digits.now (c.loop-byte.byte-index + 1) (digits_value 10 (take (c.loop-byte.byte-index + 1) c.args.digits.now)) refl
-    (omega (arith, e, c.loop-byte.invariant.value, c.from.ensures, c.if-value-gt-LIMIT.true)) in
+    (omega (arith, e, c.loop-byte.invariant.value, c.from.ensures, c.if-value-gt-SUM_LIMIT.true)) in
     rw far refl
