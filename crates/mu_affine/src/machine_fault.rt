@@ -1,7 +1,7 @@
 //! The errors of the rounding of affine forms to a machine: the first limit that is exceeded.
 
 use mu_num::Ratio;
-use mu_tree::tree::SettingName;
+use mu_tree::SettingName;
 use std::alloc::{AllocError, AllocFailed};
 
 /// The first limit that is exceeded, in the order of these variants.

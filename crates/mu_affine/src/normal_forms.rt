@@ -27,7 +27,7 @@ ghost use Rattle.mu_affine.specs.FormOf.{form_of};
 use crate::affine_fault::AffineErr;
 use crate::exact_form::{ExactForm, Forms, Place, Sizes};
 use crate::expression_form::{expression_form, form_of_action, form_of_condition};
-use mu_causal::causal_outcome::Order;
+use mu_causal::Order;
 use mu_io::Items;
 use mu_num::Ratio;
 use mu_tree::{FlatBranch, FlatClause, FlatEquation, FlatModel, FlatRole, FlatStatement, FlatVar};

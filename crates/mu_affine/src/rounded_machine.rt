@@ -27,8 +27,7 @@ use crate::machine_fault::MachineErr;
 use crate::rounded_form::{check_start_row_sums, round_form, round_form_number, round_form_number_down, round_form_number_up, round_form_rows};
 use mu_io::Items;
 use mu_num::{LEVEL_BITS, STATE_BITS, Ratio, exceeds_power_of_two, floor_div, unit};
-use mu_tree::tree::{Rel as ReadRel, SettingName};
-use mu_tree::{FlatBranch, FlatClause, FlatModel, FlatRole, FlatStatement, FlatVar, Settings};
+use mu_tree::{FlatBranch, FlatClause, FlatModel, FlatRole, FlatStatement, FlatVar, Rel as ReadRel, SettingName, Settings};
 use qss_machine::{
     Action, BranchInfo, ClauseInfo, Condition, DiscreteInfo, Form, Machine, Rel, SlopeRow,
     StateInfo,

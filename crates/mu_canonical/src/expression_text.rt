@@ -17,7 +17,7 @@ ghost use Rattle.mu_tree.specs.Canonical.{
 };
 
 use itoa::Buffer;
-use mu_tree::expr::{Expr, Factor, Ref, Term};
+use mu_tree::{Expr, Factor, Ref, Term};
 use std::alloc::AllocError;
 
 // Appends a token and its separator: a line feed after a semicolon, else a space.

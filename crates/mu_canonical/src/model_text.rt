@@ -46,10 +46,7 @@ ghost use Rattle.mu_tree.specs.Canonical.{
 
 use crate::expression_text::{write_expression, write_reference, write_token_text};
 use mu_io::Name;
-use mu_tree::expr::Expr;
-use mu_tree::tree::{
-    Branch, Clause, Cond, Decl, Equation, Model, Prefix, Rel, SettingItem, SettingName, Statement,
-};
+use mu_tree::{Branch, Clause, Cond, Decl, Equation, Expr, Model, Prefix, Rel, SettingItem, SettingName, Statement};
 use std::alloc::{AllocError, Global};
 
 /// Returns the canonical text of a model. It accepts every tree, and takes linear time in the

@@ -1,10 +1,13 @@
 //! Causalization: the order in which the algebraic variables of a flat model can be computed.
-//! Main items: `causal_order::order`, which returns a `causal_outcome::Order` or a
-//! `causal_outcome::CausalErr`.
+//! Main items: `order`, which returns a `Order` or a
+//! `CausalErr`.
 //! Depends on `mu_io` (lists) and `mu_tree` (flat models).
 #![tactic(auto)]
 
-pub mod causal_order;
-pub mod causal_outcome;
+mod causal_order;
+mod causal_outcome;
 mod dependency_graph;
 mod equation_counts;
+
+pub use causal_order::{order, order_excludes_chains, order_excludes_cycle, order_is_unique};
+pub use causal_outcome::{CausalErr, Order};

@@ -7,8 +7,7 @@ ghost use Rattle.mu_tree.specs.ModelTree.{branch, clause, condition, declaration
 ghost use Rattle.mu_tree.specs.ModelTree.{setting, statement};
 
 use crate::copied::Copied;
-use mu_tree::expr::{Expr, Factor, Ref, Term};
-use mu_tree::tree::{Branch, Clause, Cond, Decl, Equation, Model, SettingItem, Statement};
+use mu_tree::{Branch, Clause, Cond, Decl, Equation, Expr, Factor, Model, Ref, SettingItem, Statement, Term};
 use std::alloc::{AllocError, Global};
 
 impl Copied for Equation {

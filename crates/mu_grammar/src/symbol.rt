@@ -8,7 +8,7 @@ ghost use Rattle.mu_grammar.specs.SymbolViews.{symbol_view};
 ghost use Rattle.mu_grammar.specs.Shapes.{is_fixed, is_same};
 ghost use Rattle.mu_grammar.specs.Skipped.{is_named};
 
-use mu_lexer::token::{Kind, Mark, Word};
+use mu_lexer::{Kind, Mark, Word};
 
 /// A token: its text if the grammar depends on it, and the byte offset of its first byte.
 #[derive(Clone, Copy, Drop)]

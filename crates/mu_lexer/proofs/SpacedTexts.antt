@@ -8,10 +8,10 @@ use Rattle.std.proofs.Math.Seq.{take-append_seam, drop-append_seam, get_or-appen
 use Rattle.mu_lexer.specs.declared.token.Mark.{Mark}
 use Rattle.mu_lexer.specs.declared.token.Mark.TheVariants as mark
 use Rattle.mu_lexer.specs.declared.token.Kind.{Kind}
-use Rattle.mu_lexer.specs.declared.lex.Phase.{Phase}
-use Rattle.mu_lexer.specs.declared.lex.Phase.TheVariants as phase
+use Rattle.mu_lexer.specs.declared.lexer.Phase.{Phase}
+use Rattle.mu_lexer.specs.declared.lexer.Phase.TheVariants as phase
 use Rattle.mu_lexer.specs.declared.token.Kind.TheVariants as kind
-use Rattle.mu_lexer.specs.declared.lex.NextItem.TheVariants as standing
+use Rattle.mu_lexer.specs.declared.lexer.NextItem.TheVariants as standing
 use Rattle.mu_lexer.specs.Spelling.{SpellsToken}
 use Rattle.mu_lexer.specs.Automaton.{after_mark, begin, next, ending, run, kind_from, named, kind_of}
 use Rattle.mu_lexer.specs.Tokens.{is_blank, begins_blank, begins_slash, begins_comment, IsLongest, BeginsWith, Reads, stay, blank, token, AreTokens}

@@ -4,8 +4,8 @@ use Rattle.std.proofs.lemmas.Bool.{eqb-true}
 use Rattle.std.specs.Option.{option_and_then}
 use Rattle.mu_lexer.specs.declared.token.Kind.{Kind}
 use Rattle.mu_lexer.specs.declared.token.Kind.TheVariants as kind
-use Rattle.mu_lexer.specs.declared.lex.Phase.{Phase}
-use Rattle.mu_lexer.specs.declared.lex.Phase.TheVariants as phase
+use Rattle.mu_lexer.specs.declared.lexer.Phase.{Phase}
+use Rattle.mu_lexer.specs.declared.lexer.Phase.TheVariants as phase
 use Rattle.mu_lexer.specs.Spelling.{is_digit, is_letter, is_exponent_mark, is_sign, is_digits, is_some_digits, is_quoted, is_name_rest}
 use Rattle.mu_lexer.proofs.Numbers.{is_exponent, is_fraction, is_whole}
 use Rattle.mu_lexer.specs.Automaton.{ending, run, kind_from}

@@ -11,8 +11,8 @@ use Rattle.mu_lexer.specs.declared.token.Mark.{Mark}
 use Rattle.mu_lexer.specs.declared.token.Mark.TheVariants as mark
 use Rattle.mu_lexer.specs.declared.token.Kind.{Kind}
 use Rattle.mu_lexer.specs.declared.token.Kind.TheVariants as kind
-use Rattle.mu_lexer.specs.declared.lex.Phase.{Phase}
-use Rattle.mu_lexer.specs.declared.lex.Phase.TheVariants as phase
+use Rattle.mu_lexer.specs.declared.lexer.Phase.{Phase}
+use Rattle.mu_lexer.specs.declared.lexer.Phase.TheVariants as phase
 use Rattle.mu_lexer.specs.Spelling.{is_digit, is_letter, is_quoted, is_string, is_name, is_name_rest, word_text, mark_text, SpellsToken}
 use Rattle.mu_lexer.specs.Automaton.{begin, kind_from, lookup, single_marks, phase_of, word_among, kind_named, named, kind_of}
 use Rattle.mu_lexer.proofs.Numbers.{is_fraction, is_whole, is_point, is_number, tested_number, number_tested}

@@ -16,7 +16,7 @@ ghost use Rattle.mu_names.specs.Constant.{product_faults, reference_faults, prev
 
 use crate::name_fault::{NameErr, keep_least_fault};
 use mu_num::{NumErr, Ratio, decimal};
-use mu_tree::expr::{Expr, Factor, Ref, Term};
+use mu_tree::{Expr, Factor, Ref, Term};
 
 /// The denotation of names in constant expressions.
 pub trait Meanings {

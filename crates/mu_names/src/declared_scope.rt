@@ -28,9 +28,7 @@ use crate::name_kind::{NameKind, Role};
 use crate::name_table::{add, find};
 use mu_io::{Items, Name};
 use mu_num::Ratio;
-use mu_tree::Settings;
-use mu_tree::expr::Expr;
-use mu_tree::tree::{Decl, Equation, Model, Prefix, SettingItem, SettingName};
+use mu_tree::{Decl, Equation, Expr, Model, Prefix, SettingItem, SettingName, Settings};
 use std::alloc::{AllocError, Global};
 use std::collections::BTreeMap;
 

@@ -27,8 +27,7 @@ use crate::name_fault::{NameErr, keep_least_fault};
 use crate::name_kind::{NameContext, NameKind, NameRequirement};
 use crate::name_table::find;
 use mu_io::{Items, Name};
-use mu_tree::expr::{Expr, Factor, Ref, Term};
-use mu_tree::tree::{Branch, Clause, Equation, Model, Statement};
+use mu_tree::{Branch, Clause, Equation, Expr, Factor, Model, Ref, Statement, Term};
 use std::alloc::{AllocError, Global};
 use std::collections::BTreeMap;
 

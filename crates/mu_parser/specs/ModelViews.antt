@@ -1,7 +1,7 @@
 -- The logical view of the parser's configuration.
 use Rattle.mu_tree.specs.ModelTree.{ModelTree, model}
-use Rattle.mu_parser.specs.declared.parse.Next.{Next}
-use Rattle.mu_parser.specs.declared.parse.Next.TheVariants as nexts
+use Rattle.mu_parser.specs.declared.parser.Next.{Next}
+use Rattle.mu_parser.specs.declared.parser.Next.TheVariants as nexts
 use Rattle.mu_grammar.specs.ReaderMachines as machines
 use Rattle.mu_grammar.specs.States as states
 use Rattle.mu_parser.specs.SectionViews.{state_of}

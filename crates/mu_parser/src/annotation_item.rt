@@ -26,11 +26,11 @@ ghost use Rattle.mu_parser.specs.ItemViews.{settings_of};
 ghost use Rattle.mu_parser.specs.SectionViews.{component_of, draft_of, effect_of, owner_of, place_of, settled_of, state_of};
 ghost use Rattle.mu_grammar.specs.SymbolViews.{symbol_view};
 
-use crate::parse::parse_with_kept;
+use crate::parser::parse_with_kept;
 use crate::section::state::{Component, Draft, Effect, Owner, Place, State, Then, Waiting};
-use mu_grammar::symbol::{Bracket, Fixed, Symbol, is_named_symbol};
-use mu_lexer::token::{Mark, Word};
-use mu_tree::tree::{SettingItem, SettingName};
+use mu_grammar::{Bracket, Fixed, Symbol, is_named_symbol};
+use mu_lexer::{Mark, Word};
+use mu_tree::{SettingItem, SettingName};
 use std::alloc::{AllocError, Global};
 
 /// Parses the first token of the first item, or the bracket that closes an empty list.

@@ -22,16 +22,15 @@ ghost use Rattle.mu_grammar.specs.SymbolViews.{symbol_view};
 use crate::annotation_item::follow_item;
 use crate::declaration::follow_declaration_value;
 use crate::expression::machine::{Frame, Move, Position, expression_depth_at, step_expression};
-use crate::parse::parse_with_kept;
+use crate::parser::parse_with_kept;
 use crate::section::body::{body_level, close_body_loop_first, close_body_loop_last};
 use crate::section::equation::equation_level;
 use crate::section::state::{Aim, Component, Effect, LoopRange, Place, State, Waiting};
 use crate::section::target::{close_target_index, close_target_value, target_aim_level};
-use mu_grammar::symbol::Symbol;
+use mu_grammar::Symbol;
 use mu_io::Name;
-use mu_lexer::token::Mark;
-use mu_tree::expr::{Expr, Ref};
-use mu_tree::tree::{SettingItem, SettingName};
+use mu_lexer::Mark;
+use mu_tree::{Expr, Ref, SettingItem, SettingName};
 use std::alloc::{AllocError, Global};
 
 /// Parses a token of an expression.

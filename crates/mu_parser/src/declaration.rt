@@ -24,10 +24,10 @@ ghost use Rattle.mu_grammar.specs.SymbolViews.{symbol_view};
 use crate::expression::machine::Position;
 use crate::section::follow_section::follow_section;
 use crate::section::state::{Component, Draft, Effect, Place, State, Then, Waiting};
-use mu_grammar::symbol::{Fixed, Symbol};
+use mu_grammar::{Fixed, Symbol};
 use mu_io::Name;
-use mu_lexer::token::{Mark, Word};
-use mu_tree::tree::{Decl, Prefix};
+use mu_lexer::{Mark, Word};
+use mu_tree::{Decl, Prefix};
 use std::alloc::{AllocError, Global};
 
 /// Parses the token after a component's name.

@@ -7,5 +7,7 @@ mod annotation_item;
 mod awaited_expression;
 mod declaration;
 mod expression;
-pub mod parse;
+mod parser;
 mod section;
+
+pub use parser::{Next, parse};

@@ -1,14 +1,16 @@
 //! The data types of models: syntax trees, flat models and settings, and the canonical text of a
 //! model.
-//! Main items: `tree::Model`, `FlatModel`, `Settings`.
+//! Main items: `Model`, `FlatModel`, `Settings`.
 //! Depends on `mu_io` (names) and `mu_num` (fractions).
 #![tactic(auto)]
 
-pub mod expr;
+mod expr;
 mod flat;
-pub mod tree;
+mod tree;
 
+pub use expr::{Expr, Factor, Ref, Term};
 pub use flat::{
     FlatBranch, FlatClause, FlatEquation, FlatExpr, FlatFactor, FlatModel, FlatRole, FlatStatement,
     FlatTerm, FlatVar, Settings,
 };
+pub use tree::{Branch, Clause, Cond, Decl, Equation, Model, Prefix, Rel, SettingItem, SettingName, Statement};

@@ -11,7 +11,7 @@ use Rattle.mu_tree.specs.declared.tree.Clause.{Clause}
 use Rattle.mu_tree.specs.declared.tree.Equation.{Equation}
 use Rattle.mu_tree.specs.declared.tree.Statement.{Statement}
 use Rattle.mu_unroll.specs.declared.environment.Environment.{Environment}
-use Rattle.mu_unroll.specs.declared.unroll.Output.{Output}
+use Rattle.mu_unroll.specs.declared.unroller.Output.{Output}
 use Rattle.mu_unroll.specs.declared.unroll_fault.UnrollErr.{UnrollErr}
 use Rattle.mu_unroll.specs.Environments.{progress_of}
 use Rattle.mu_unroll.specs.Unrolling.{Progress, unrolled_clauses, unrolled_equations}

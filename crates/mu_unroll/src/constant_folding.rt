@@ -15,10 +15,9 @@ use crate::unroll_fault::UnrollErr;
 use crate::unrolled_values::{unrolled_constant_value, unrolled_literal_value};
 use mu_copies::Copied;
 use mu_io::Name;
-use mu_names::name_table::find;
-use mu_names::{combine_constant_factors, combine_constant_terms};
+use mu_names::{combine_constant_factors, combine_constant_terms, find};
 use mu_num::Ratio;
-use mu_tree::expr::{Expr, Factor, Ref, Term};
+use mu_tree::{Expr, Factor, Ref, Term};
 use std::alloc::{AllocError, Global};
 use std::collections::BTreeMap;
 

@@ -9,7 +9,7 @@ ghost use Rattle.mu_unroll.specs.VariableTables.{denoted};
 
 use crate::unroll_fault::UnrollErr;
 use mu_io::Name;
-use mu_names::name_table::find;
+use mu_names::find;
 use mu_num::Ratio;
 use mu_tree::FlatRole;
 use std::alloc::Global;

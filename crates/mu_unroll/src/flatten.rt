@@ -16,8 +16,7 @@ use crate::unrolled_values::{
     constant_value, unrolled_index_value, unrolled_literal_value, unrolled_whole_value,
 };
 use mu_num::Ratio;
-use mu_tree::expr::{Expr, Factor, Ref, Term};
-use mu_tree::{FlatExpr, FlatFactor, FlatRole, FlatTerm};
+use mu_tree::{Expr, Factor, FlatExpr, FlatFactor, FlatRole, FlatTerm, Ref, Term};
 use std::alloc::Global;
 
 /// Resolves a reference. Errors: an invalid index.

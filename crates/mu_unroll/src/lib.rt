@@ -1,5 +1,5 @@
 //! Flattening: unrolls arrays and loops and replaces constants by their values.
-//! Main function: `unroll::unroll`, which returns the flat model or an `unroll_fault::UnrollErr`.
+//! Main function: `unroll`, which returns the flat model or an `UnrollErr`.
 //! Depends on `mu_io`, `mu_num`, `mu_tree`, `mu_causal`, `mu_copies` and `mu_names`.
 #![tactic(auto)]
 
@@ -10,7 +10,10 @@ mod flatten;
 mod long_constants;
 mod loop_folding;
 mod start_values;
-pub mod unroll;
 mod unroll_counts;
-pub mod unroll_fault;
+mod unroll_fault;
 mod unrolled_values;
+mod unroller;
+
+pub use unroll_fault::UnrollErr;
+pub use unroller::{Output, unroll};

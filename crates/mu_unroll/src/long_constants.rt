@@ -1,8 +1,7 @@
 //! Tests for long constant expressions in loops and in `when` clauses. Short ones are not folded,
 //! because a copy of the list costs more than their evaluation.
 
-use mu_tree::expr::{Expr, Factor, Ref, Term};
-use mu_tree::tree::{Branch, Clause, Equation, Statement};
+use mu_tree::{Branch, Clause, Equation, Expr, Factor, Ref, Statement, Term};
 
 /// The maximum number of nodes of a short constant expression.
 const SHORT: u32 = 16;

@@ -13,7 +13,7 @@ ghost use Rattle.mu_unroll.specs.FoldedLists.{AreFoldedStarts, AreFoldedStatemen
 use crate::constant_folding::{declares_constant, fold_constant, fold_expression, fold_reference};
 use crate::environment::NameDenotation;
 use mu_copies::Copied;
-use mu_tree::tree::{Branch, Clause, Cond, Equation, Statement};
+use mu_tree::{Branch, Clause, Cond, Equation, Statement};
 use std::alloc::{AllocError, Global};
 use std::collections::BTreeMap;
 

@@ -16,14 +16,12 @@ ghost use Rattle.mu_unroll.specs.ListUnrolling.{UnrollsStarts, starts_from};
 
 use crate::environment::{Environment, ResolvedReference};
 use crate::flatten::found;
-use crate::unroll::Output;
+use crate::unroller::Output;
 use crate::unroll_counts::{count_round, count_start};
 use crate::unroll_fault::UnrollErr;
 use crate::unrolled_values::{constant_value, unrolled_bound_values};
 use mu_num::Ratio;
-use mu_tree::expr::{Expr, Ref};
-use mu_tree::tree::Statement;
-use mu_tree::{FlatRole, FlatVar};
+use mu_tree::{Expr, FlatRole, FlatVar, Ref, Statement};
 use std::alloc::Global;
 
 /// Executes start assignments inside loops. The last assignment to a variable takes effect.

@@ -5,7 +5,7 @@ ghost use Rattle.mu_tree.specs.Expression.{expression, signed, scaled, terms_of,
 ghost use Rattle.mu_unroll.specs.Counting.{no_counts, node_count, term_nodes, factor_nodes, with_item, with_total, with_round};
 
 use crate::unroll_fault::UnrollErr;
-use mu_tree::expr::{Expr, Factor, Term};
+use mu_tree::{Expr, Factor, Term};
 
 /// The maximum number of items.
 const ITEMS: u32 = 1 << 14;

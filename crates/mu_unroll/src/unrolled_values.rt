@@ -15,7 +15,7 @@ use crate::environment::{Environment, NameDenotation};
 use crate::unroll_fault::UnrollErr;
 use mu_names::{combine_constant_factors, combine_constant_terms};
 use mu_num::{NumErr, Ratio, decimal};
-use mu_tree::expr::{Expr, Factor, Ref, Term};
+use mu_tree::{Expr, Factor, Ref, Term};
 
 /// The remaining rounds of a loop: the values of its variable in the next and in the last round.
 #[derive(Clone, Copy, Drop)]

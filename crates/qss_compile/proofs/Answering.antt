@@ -13,8 +13,8 @@ use Rattle.mu_grammar.specs.Symbols.{symbols}
 use Rattle.mu_grammar.specs.declared.parse_fault.ParseErr.{ParseErr}
 use Rattle.mu_grammar.specs.declared.parse_fault.ParseErr.TheVariants as parsing
 use Rattle.mu_lexer.specs.Tokens.{AreTokens, IsFirstFault}
-use Rattle.mu_lexer.specs.declared.lex.LexErr.{LexErr}
-use Rattle.mu_lexer.specs.declared.lex.LexErr.TheVariants as lexing
+use Rattle.mu_lexer.specs.declared.lexer.LexErr.{LexErr}
+use Rattle.mu_lexer.specs.declared.lexer.LexErr.TheVariants as lexing
 use Rattle.mu_lexer.specs.declared.token.Token.{Token}
 use Rattle.mu_affine.specs.MachineChecks.{machine_checks, IsRefusal as IsLimit}
 use Rattle.mu_affine.specs.declared.machine_fault.MachineErr.{MachineErr}

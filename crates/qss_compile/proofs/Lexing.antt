@@ -11,10 +11,10 @@ use Rattle.mu_lexer.specs.Tokens.{BeginsWith, StopsReading, Reads, stay as at_en
 use Rattle.mu_lexer.specs.Tokens.{blank as over_space, comment as over_remark, token as over_word}
 use Rattle.mu_lexer.specs.Tokens.{AreTokens, IsFirstFault}
 use Rattle.mu_lexer.specs.Spelling.{SpellsToken}
-use Rattle.mu_lexer.specs.declared.lex.LexErr.{LexErr}
-use Rattle.mu_lexer.specs.declared.lex.NextItem.{NextItem}
-use Rattle.mu_lexer.specs.declared.lex.NextItem.TheVariants as standing
-use Rattle.mu_lexer.specs.declared.lex.Phase.TheVariants as phase
+use Rattle.mu_lexer.specs.declared.lexer.LexErr.{LexErr}
+use Rattle.mu_lexer.specs.declared.lexer.NextItem.{NextItem}
+use Rattle.mu_lexer.specs.declared.lexer.NextItem.TheVariants as standing
+use Rattle.mu_lexer.specs.declared.lexer.Phase.TheVariants as phase
 use Rattle.mu_lexer.specs.declared.token.Kind.{Kind}
 use Rattle.mu_lexer.specs.declared.token.Kind.TheVariants as kind
 use Rattle.mu_lexer.specs.declared.token.Token.{Token}

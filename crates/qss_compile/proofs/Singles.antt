@@ -24,7 +24,7 @@ use Rattle.mu_grammar.proofs.Fronts.{unique}
 use Rattle.mu_grammar.proofs.Judged.{judged_once}
 use Rattle.mu_grammar.proofs.ModelDecides.{model_decides}
 use Rattle.mu_lexer.specs.Tokens.{AreTokens, IsFirstFault}
-use Rattle.mu_lexer.specs.declared.lex.LexErr.{LexErr}
+use Rattle.mu_lexer.specs.declared.lexer.LexErr.{LexErr}
 use Rattle.mu_lexer.specs.declared.token.Token.{Token}
 use Rattle.mu_lexer.proofs.Progress.{one_list}
 use Rattle.mu_affine.specs.MachineChecks.{machine_fault}

@@ -1,7 +1,7 @@
 -- The errors of each phase as errors of the compiler.
 use Rattle.std.specs.Prelude.{[], map, Bool, true, false}
-use Rattle.mu_lexer.specs.declared.lex.LexErr.{LexErr}
-use Rattle.mu_lexer.specs.declared.lex.LexErr.TheVariants as lexing
+use Rattle.mu_lexer.specs.declared.lexer.LexErr.{LexErr}
+use Rattle.mu_lexer.specs.declared.lexer.LexErr.TheVariants as lexing
 use Rattle.mu_grammar.specs.declared.parse_fault.ParseErr.{ParseErr}
 use Rattle.mu_grammar.specs.declared.parse_fault.ParseErr.TheVariants as parsing
 use Rattle.mu_names.specs.declared.name_fault.NameErr.{NameErr}

@@ -14,7 +14,7 @@ use Rattle.mu_grammar.specs.Symbols.{symbols}
 use Rattle.mu_grammar.specs.declared.parse_fault.ParseErr.{ParseErr}
 use Rattle.mu_grammar.specs.declared.parse_fault.ParseErr.TheVariants as parsing
 use Rattle.mu_lexer.specs.Tokens.{IsFirstFault}
-use Rattle.mu_lexer.specs.declared.lex.LexErr.{LexErr}
+use Rattle.mu_lexer.specs.declared.lexer.LexErr.{LexErr}
 use Rattle.mu_lexer.specs.declared.token.Token.{Token}
 use Rattle.mu_affine.specs.MachineChecks.{machine_fault}
 use Rattle.mu_affine.specs.declared.machine_fault.MachineErr.{MachineErr}

@@ -7,8 +7,8 @@ use Rattle.mu_causal.specs.declared.causal_outcome.CausalErr.{CausalErr}
 use Rattle.mu_causal.specs.declared.causal_outcome.CausalErr.TheVariants as ordering
 use Rattle.mu_grammar.specs.declared.parse_fault.ParseErr.{ParseErr}
 use Rattle.mu_grammar.specs.declared.parse_fault.ParseErr.TheVariants as parsing
-use Rattle.mu_lexer.specs.declared.lex.LexErr.{LexErr}
-use Rattle.mu_lexer.specs.declared.lex.LexErr.TheVariants as lexing
+use Rattle.mu_lexer.specs.declared.lexer.LexErr.{LexErr}
+use Rattle.mu_lexer.specs.declared.lexer.LexErr.TheVariants as lexing
 use Rattle.mu_affine.specs.declared.machine_fault.MachineErr.{MachineErr}
 use Rattle.mu_affine.specs.declared.machine_fault.MachineErr.TheVariants as rounding
 use Rattle.mu_names.specs.declared.name_fault.NameErr.{NameErr}

@@ -12,16 +12,14 @@ ghost use Rattle.qss_compile.specs.Flats.{flat_source};
 ghost use Rattle.qss_compile.specs.Causes.{with_names, without_names};
 
 use crate::model_refusal::{ModelErr, Refused};
-use mu_affine::normal_forms::normal;
-use mu_affine::to_machine;
-use mu_causal::causal_order::order;
+use mu_affine::{normal, to_machine};
+use mu_causal::order;
 use mu_io::{Items, Name};
-use mu_lexer::lex::lex;
-use mu_names::name_checks::roles;
-use mu_parser::parse::parse;
-use mu_tree::tree::Model;
-use mu_tree::{FlatModel, FlatVar, Settings};
-use mu_unroll::unroll::unroll;
+use mu_lexer::lex;
+use mu_names::roles;
+use mu_parser::parse;
+use mu_tree::{FlatModel, FlatVar, Model, Settings};
+use mu_unroll::unroll;
 use qss_machine::Machine;
 use std::alloc::{AllocError, Global};
 

@@ -6,16 +6,15 @@ ghost use Rattle.std.specs.Fmt.{signed_decimal};
 ghost use Rattle.qss_compile.specs.RefusalLines as Spec;
 ghost use Rattle.qss_compile.specs.Fields.{field_text};
 
-use mu_affine::MachineErr;
-use mu_affine::affine_fault::AffineErr;
-use mu_causal::causal_outcome::CausalErr;
-use mu_grammar::parse_fault::ParseErr;
+use mu_affine::{AffineErr, MachineErr};
+use mu_causal::CausalErr;
+use mu_grammar::ParseErr;
 use mu_io::{Items, Name};
-use mu_lexer::lex::LexErr;
-use mu_names::name_fault::NameErr;
+use mu_lexer::LexErr;
+use mu_names::NameErr;
 use mu_num::{NumErr, Ratio};
-use mu_tree::tree::SettingName;
-use mu_unroll::unroll_fault::UnrollErr;
+use mu_tree::SettingName;
+use mu_unroll::UnrollErr;
 use std::alloc::{AllocError, Global};
 
 /// A field of an error's line.

@@ -1,7 +1,6 @@
 //! Tests of the token table.
 
-use mu_lexer::lex::lex;
-use mu_lexer::token::{Kind, Mark, Token, Word};
+use mu_lexer::{Kind, Mark, Token, Word, lex};
 use std::alloc::Global;
 use std::process::Abort;
 use std::test::Fail;

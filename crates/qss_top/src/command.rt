@@ -20,7 +20,7 @@ use crate::machine_task::answer_task;
 use crate::two_file_command::execute_two_file_task;
 use mu_canonical::write_model;
 use mu_io::{Items, Shelf, Sink};
-use mu_tree::tree::Model;
+use mu_tree::Model;
 use qss_cli::{Request, Task, read_words};
 use qss_compile::{Refused, compile_source_to_tree};
 use std::alloc::Global;

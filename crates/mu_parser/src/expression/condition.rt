@@ -24,10 +24,9 @@ use crate::expression::machine::{
     Frame, Move, Position, begin_expression_sum, expression_depth_at, first_expression_part,
     step_expression,
 };
-use mu_grammar::symbol::Symbol;
-use mu_lexer::token::{Mark, Word};
-use mu_tree::expr::Expr;
-use mu_tree::tree::{Cond, Rel};
+use mu_grammar::Symbol;
+use mu_lexer::{Mark, Word};
+use mu_tree::{Cond, Expr, Rel};
 use std::alloc::{AllocError, Global};
 
 /// The position in a condition: before it or in its left expression, with the offsets of the open

@@ -30,11 +30,11 @@ ghost use Rattle.mu_parser.specs.declared.expression.machine.Frame.{Frame};
 ghost use Rattle.mu_parser.specs.ExpressionViews.{frame_of, frames_of, move_of, part_of, position_of, use_of};
 ghost use Rattle.mu_grammar.specs.SymbolViews.{symbol_view};
 
-use crate::parse::parse_with_kept;
-use mu_grammar::symbol::Symbol;
+use crate::parser::parse_with_kept;
+use mu_grammar::Symbol;
 use mu_io::Name;
-use mu_lexer::token::{Mark, Word};
-use mu_tree::expr::{Expr, Factor, Ref, Term};
+use mu_lexer::{Mark, Word};
+use mu_tree::{Expr, Factor, Ref, Term};
 use std::alloc::{AllocError, Global};
 
 /// An incomplete sum: its complete terms, and the factors of its last term. `minus` and `at` are

@@ -16,7 +16,7 @@ ghost use Rattle.mu_parser.specs.SectionViews.{body_of, effect_of, range_of};
 ghost use Rattle.mu_grammar.specs.SymbolViews.{symbol_view};
 
 use crate::expression::machine::Position;
-use crate::parse::parse_with_kept;
+use crate::parser::parse_with_kept;
 use crate::section::clause::{begin_clause, clause_level};
 use crate::section::equation::{begin_equation, equation_level};
 use crate::section::state::{
@@ -25,10 +25,10 @@ use crate::section::state::{
 use crate::section::statement::{
     begin_start_statement, begin_statement, start_statement_level, statement_level,
 };
-use mu_grammar::symbol::{Fixed, Symbol};
+use mu_grammar::{Fixed, Symbol};
 use mu_io::Name;
-use mu_lexer::token::{Mark, Word};
-use mu_tree::expr::Expr;
+use mu_lexer::{Mark, Word};
+use mu_tree::Expr;
 use std::alloc::{AllocError, Global};
 
 /// Parses the first token of an item, or the token after the last item. `Err` is an allocation

@@ -20,14 +20,14 @@ ghost use Rattle.mu_parser.specs.SectionViews.{body_of, branch_of, clause_loop, 
 ghost use Rattle.mu_grammar.specs.SymbolViews.{symbol_view};
 
 use crate::expression::condition::{Stage, Turn, condition_depth, read_condition_token};
-use crate::parse::parse_with_kept;
+use crate::parser::parse_with_kept;
 use crate::section::follow_section::{end_section_loop, follow_section};
 use crate::section::state::{
     Body, ClauseLoop, Draft, Effect, LoopRange, OpenBranch, OpenWhen, State, Then,
 };
-use mu_grammar::symbol::{Fixed, Symbol};
-use mu_lexer::token::Word;
-use mu_tree::tree::{Branch, Clause, Cond};
+use mu_grammar::{Fixed, Symbol};
+use mu_lexer::Word;
+use mu_tree::{Branch, Clause, Cond};
 use std::alloc::{AllocError, Global};
 
 /// Parses the first token of a clause, or the token after the last clause. `Err` is an allocation

@@ -7,13 +7,13 @@ ghost use Rattle.mu_grammar.specs.States.{in_equations, level};
 ghost use Rattle.mu_parser.specs.SectionViews.{body_of, draft_of, effect_of, equation_loop, equation_loops};
 ghost use Rattle.mu_grammar.specs.SymbolViews.{symbol_view};
 
-use crate::parse::parse_with_kept;
+use crate::parser::parse_with_kept;
 use crate::section::follow_section::{end_section_loop, follow_section};
 use crate::section::state::{Aim, Body, Draft, Effect, EquationLoop, LoopRange, State, Then};
-use mu_grammar::symbol::{Fixed, Symbol};
+use mu_grammar::{Fixed, Symbol};
 use mu_io::Name;
-use mu_lexer::token::Word;
-use mu_tree::tree::Equation;
+use mu_lexer::Word;
+use mu_tree::Equation;
 use std::alloc::{AllocError, Global};
 
 /// Parses the first token of an equation, or the token after the last equation. `Err` is an

@@ -7,8 +7,8 @@ ghost use Rattle.mu_parser.specs.SectionViews.{body_of, draft_of, effect_of};
 ghost use Rattle.mu_grammar.specs.SymbolViews.{symbol_view};
 
 use crate::section::state::{Body, Draft, Effect, Place, State, Then};
-use mu_grammar::symbol::{Fixed, Symbol};
-use mu_lexer::token::Word;
+use mu_grammar::{Fixed, Symbol};
+use mu_lexer::Word;
 use std::alloc::Global;
 
 /// Parses a token after the head of a model, after a section header or after the last item of a

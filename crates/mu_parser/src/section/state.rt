@@ -2,12 +2,9 @@
 
 use crate::expression::condition::Stage;
 use crate::expression::machine::{Frame, Position};
-use mu_grammar::symbol::{Bracket, Fixed};
+use mu_grammar::{Bracket, Fixed};
 use mu_io::Name;
-use mu_tree::expr::{Expr, Ref};
-use mu_tree::tree::{
-    Branch, Clause, Decl, Equation, Model, Prefix, SettingItem, SettingName, Statement,
-};
+use mu_tree::{Branch, Clause, Decl, Equation, Expr, Model, Prefix, Ref, SettingItem, SettingName, Statement};
 
 /// A model whose name, components and sections so far are parsed.
 #[derive(Drop)]

@@ -13,16 +13,16 @@ ghost use Rattle.mu_grammar.specs.States.{branch_level, in_branch, in_starts, le
 ghost use Rattle.mu_parser.specs.SectionViews.{body_of, branch_of, draft_of, effect_of, statement_loop, statement_loops};
 ghost use Rattle.mu_grammar.specs.SymbolViews.{symbol_view};
 
-use crate::parse::parse_with_kept;
+use crate::parser::parse_with_kept;
 use crate::section::clause::{clause_level, end_clause_branch};
 use crate::section::follow_section::{end_section_loop, follow_section};
 use crate::section::state::{
     Aim, Body, Draft, Effect, LoopRange, OpenBranch, State, StatementLoop, Then,
 };
-use mu_grammar::symbol::{Fixed, Symbol};
+use mu_grammar::{Fixed, Symbol};
 use mu_io::Name;
-use mu_lexer::token::Word;
-use mu_tree::tree::Statement;
+use mu_lexer::Word;
+use mu_tree::Statement;
 use std::alloc::{AllocError, Global};
 
 /// Parses the first token of a statement, or the token after the last one. `Err` is an allocation

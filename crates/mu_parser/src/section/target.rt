@@ -23,7 +23,7 @@ ghost use Rattle.mu_parser.specs.SectionViews.{aim_of, body_of, branch_of, draft
 ghost use Rattle.mu_grammar.specs.SymbolViews.{symbol_view};
 
 use crate::expression::machine::{Position, whole};
-use crate::parse::parse_with_kept;
+use crate::parser::parse_with_kept;
 use crate::section::equation::{equation_level, put_equation};
 use crate::section::state::{
     Aim, Body, Draft, Effect, EquationLoop, OpenBranch, State, StatementLoop, Then, Waiting,
@@ -31,11 +31,10 @@ use crate::section::state::{
 use crate::section::statement::{
     put_start_statement, put_statement, start_statement_level, statement_level,
 };
-use mu_grammar::symbol::{Fixed, Symbol};
+use mu_grammar::{Fixed, Symbol};
 use mu_io::Name;
-use mu_lexer::token::Mark;
-use mu_tree::expr::{Expr, Ref};
-use mu_tree::tree::{Equation, Statement};
+use mu_lexer::Mark;
+use mu_tree::{Equation, Expr, Ref, Statement};
 use std::alloc::{AllocError, Global};
 
 /// Parses the token after the right-hand side that belongs to a reference. `Err` is an allocation

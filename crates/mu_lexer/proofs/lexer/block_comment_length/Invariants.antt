@@ -1,0 +1,11 @@
+use Rattle.std.proofs.Common.{◌≡◌, ◌+◌, ◌-◌, ◌≤◌, drop, length}
+use Rattle.std.specs.Option.{option_map}
+use Rattle.mu_lexer.specs.Tokens.{block_length}
+use Rattle.mu_lexer.proofs.lexer.block_comment_length.Given as goal
+
+-- no star and slash stand below i
+abbrev pub invariant-loop-i : goal.invariant-loop-i
+invariant-loop-i l = (l.i ≤ length l.rest) × (block_length l.rest ≡ option_map (λ n. n + l.i) (block_length (drop l.i l.rest)))
+
+abbrev pub decreases-loop-i : goal.decreases-loop-i
+decreases-loop-i l = length l.rest - l.i
