@@ -1,3 +1,5 @@
+pub mod Words
+pub mod Prelude
 pub mod Inequalities
 pub mod CertificateData
 pub mod FirstFailures

@@ -2,16 +2,13 @@
 //! its own rows. An older form of the text leaves out the rows of starts and quanta, which are then
 //! those of the machine.
 
-ghost use Rattle.std.specs.Prelude.{◌≡◌, ◌+◌, ◌*◌, ◌<◌, ◌≤◌, IfOk, length, take, drop, All, []};
-ghost use Rattle.std.specs.Prelude.{slice_index_or, ◌++◌, ◌∷◌, ℕ, OnOk};
+ghost use Rattle.std.specs.Prelude.{◌≡◌, ◌+◌, ◌*◌, ◌<◌, ◌≤◌, [], ◌++◌, ◌∷◌, IfOk, length, take, drop, All, slice_index_or, ℕ, OnOk};
+ghost use Rattle.cert_check.specs.Prelude.{vector, table, IsSquare, start_states, quanta};
 ghost use Rattle.cert_check.specs.CertificateLimits.{IsSize, IsVector};
-ghost use Rattle.cert_check.specs.MatrixRows.{AreAllRows, due_at, lines_from, left_out};
-ghost use Rattle.cert_check.specs.CertificateParts.{IsRow, IsSingle, IsBlock, IsBound, AreRoots};
-ghost use Rattle.cert_check.specs.CertificateParts.{IsBasin, IsEllipsoid};
-ghost use Rattle.cert_matrix.specs.Matrix.{vector, table, IsSquare};
 ghost use Rattle.cert_check.specs.CertificateLines.{lines};
+ghost use Rattle.cert_check.specs.CertificateParts.{IsRow, IsSingle, IsBlock, IsBound, AreRoots, IsBasin, IsEllipsoid};
 ghost use Rattle.cert_check.specs.Layout.{layout};
-ghost use Rattle.qss_machine.specs.Machines.{start_states, quanta};
+ghost use Rattle.cert_check.specs.MatrixRows.{AreAllRows, due_at, lines_from, left_out};
 
 use crate::certificate::Certificate;
 use cert_matrix::{HeapMatrix, Matrix};

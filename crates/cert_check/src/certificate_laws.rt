@@ -2,8 +2,8 @@
 //! that does nothing.
 
 ghost use Rattle.cert_check.specs.Bounds.{CertificatesAreSound, SmallerQuantaAreLegitimate};
-ghost use Rattle.cert_check.specs.TextFaults.{TextsAreJudged};
 ghost use Rattle.cert_check.specs.CheckVerdicts.{VerdictsAreOne};
+ghost use Rattle.cert_check.specs.TextFaults.{TextsAreJudged};
 
 /// If the inequalities hold, any two certified runs stay within the bounds of the certificate.
 /// If one of its starts is the machine's, the machine's own runs are certified runs.

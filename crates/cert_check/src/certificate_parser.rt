@@ -2,34 +2,16 @@
 //! must have the keyword and the count of numbers that its line requires. The first fault is
 //! reported with its line and field.
 
-ghost use Rattle.std.specs.Prelude.{◌≡◌, ◌+◌, ◌*◌, ◌<◌, ◌≤◌, length, ◌≢◌, ◌^◌, IfOk, IfErr, true};
-ghost use Rattle.std.specs.Prelude.{map, Some, None, IfSome, unsigned_abs, nat_le, if◌then◌else◌};
-ghost use Rattle.std.specs.Prelude.{◌⊎◌, ℕ, List, [], false, drop, take, slice_index_or, pos, All};
-ghost use Rattle.std.specs.Prelude.{bytes_eq};
-ghost use Rattle.cert_check.specs.CertificateLimits.{IsSize, IsVector};
-ghost use Rattle.cert_check.specs.CertificateLines.{line_count};
-ghost use Rattle.cert_check.specs.MatrixRows.{due_at, IsReadAs, AreReadAs, TakesMemory};
-ghost use Rattle.cert_check.specs.MatrixRows.{FirstTakesMemory};
-ghost use Rattle.cert_check.specs.declared.certificate.Certificate.{Certificate};
-ghost use Rattle.cert_check.specs.Scope.{IsInScope};
-ghost use Rattle.cert_check.specs.CertificateTexts.{IsTextOf, IsRefusedFor, IsCutInto};
-ghost use Rattle.csv.specs.Reading.{error_kind, stops_reader};
-ghost use Rattle.csv.specs.Records.{fields_of};
-ghost use Rattle.std.specs.Str.{all_ascii_digits};
-ghost use Rattle.std.specs.Str.Parse.{digits_value};
-ghost use Rattle.cert_check.specs.FieldNumbers.{magnitude_in, number_in};
-ghost use Rattle.std.specs.Option.{option_map};
-ghost use Rattle.std.specs.List.{position_from};
-ghost use Rattle.mu_num.specs.Limits.{sum_limit, certificate_length_limit};
-ghost use Rattle.cert_check.specs.Layout.{expected, keyword_of, is_no_number, record_fault};
-ghost use Rattle.cert_check.specs.Layout.{first_fault, first_number, form_in, layout, text_fault};
+ghost use Rattle.std.specs.Prelude.{◌≡◌, ◌+◌, ◌*◌, ◌<◌, ◌≤◌, ◌≢◌, ◌^◌, if◌then◌else◌, ◌⊎◌, [], length, IfOk, IfErr, true, map, Some, None, IfSome, unsigned_abs, nat_le, ℕ, List, false, drop, take, slice_index_or, pos, All, bytes_eq};
+ghost use Rattle.cert_check.specs.Prelude.{error_kind, stops_reader, fields_of, all_ascii_digits, digits_value, option_map, position_from, sum_limit, certificate_length_limit};
+ghost use Rattle.cert_check.specs.Words.{IsSize, IsVector, line_count, due_at, IsReadAs, AreReadAs, TakesMemory, FirstTakesMemory, Certificate, IsInScope, IsTextOf, IsRefusedFor, IsCutInto, magnitude_in, number_in, expected, keyword_of, is_no_number, record_fault, first_fault, first_number, form_in, layout, text_fault};
 
-use mu_num::SUM_LIMIT;
 use crate::certificate::Certificate;
 use crate::certificate_assembly::{assemble_certificate, complete_certificate_rows};
 use crate::text_err::TextErr;
 use csv::{ByteRecord, Error, ReaderBuilder};
 use mu_io::Items;
+use mu_num::SUM_LIMIT;
 use qss_machine::Machine;
 use std::alloc::{AllocError, Global};
 

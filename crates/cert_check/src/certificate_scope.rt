@@ -1,7 +1,7 @@
 //! The machines that can have a certificate: those without clauses and with 1 to 16 states.
 
 ghost use Rattle.std.specs.Prelude.{◌≡◌, ◌↔◌, IsOk, IfOk, IfErr};
-ghost use Rattle.qss_machine.specs.Machines.{state_count};
+ghost use Rattle.cert_check.specs.Prelude.{state_count};
 ghost use Rattle.cert_check.specs.Scope.{IsInScope, IsOutsideBy};
 
 use qss_machine::Machine;

@@ -1,13 +1,10 @@
 //! Writes the text of a certificate in form 3, line by line, as the library `csv` formats records.
 
-ghost use Rattle.std.specs.Prelude.{◌≡◌, ◌++◌, ◌∷◌, [], ℕ, ℤ, List, IfOk, OnOk, pos, length, slice_index_or, ◌<◌};
-ghost use Rattle.csv.specs.Records.{fields_of};
-ghost use Rattle.csv.specs.Writing.{default_writer, row_text};
+ghost use Rattle.std.specs.Prelude.{◌≡◌, ◌++◌, ◌∷◌, [], ◌<◌, ℕ, ℤ, List, IfOk, OnOk, pos, length, slice_index_or};
+ghost use Rattle.cert_check.specs.Prelude.{fields_of, default_writer, row_text, Machine, state_count};
 ghost use Rattle.cert_check.specs.CertificateLines.{line, lines, row_lines};
-ghost use Rattle.cert_check.specs.Written.{fields_of_line, line_text, lines_text, form_lines, bound_lines, second_lines, root_lines, basin_lines, ellipsoid_lines};
 ghost use Rattle.cert_check.specs.CertificateTexts.{IsTextOf};
-ghost use Rattle.qss_machine.specs.declared.compiled_machine.Machine.{Machine};
-ghost use Rattle.qss_machine.specs.Machines.{state_count};
+ghost use Rattle.cert_check.specs.Written.{fields_of_line, line_text, lines_text, form_lines, bound_lines, second_lines, root_lines, basin_lines, ellipsoid_lines};
 
 use crate::certificate::Certificate;
 use cert_matrix::HeapMatrix;

@@ -2,7 +2,7 @@
 //! read at any index: after its end the number is 0.
 
 ghost use Rattle.std.specs.Prelude.{◌≡◌};
-ghost use Rattle.cert_matrix.specs.Matrix.{vector};
+ghost use Rattle.cert_check.specs.Prelude.{vector};
 
 use mu_io::Items;
 use std::marker::Model;
@@ -26,7 +26,7 @@ impl Model for Column {
 
 impl Column {
     ghost use Rattle.std.specs.Prelude.{◌≡◌, ◌<◌, [], ◌∷◌, ◌++◌, length};
-    ghost use Rattle.cert_matrix.specs.Matrix.{vector};
+    ghost use Rattle.cert_check.specs.Prelude.{vector};
 
     /// The empty list.
     pub fn new() -> Self

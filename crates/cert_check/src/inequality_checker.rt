@@ -1,18 +1,9 @@
 //! Checks the inequalities of a certificate in order, each at all of its places. The verdict
 //! reports the first inequality that fails or has a sum out of range.
 
-ghost use Rattle.std.specs.Prelude.{◌≡◌, ◌*ℤ◌, ◌↔◌, Option, IsSome, IfSome, ◌<◌, ◌≤◌, ℕ, pos};
-ghost use Rattle.cert_check.specs.FirstFailures.{fails_by, judgement};
-ghost use Rattle.cert_check.specs.Ranges.{IsProductInRange};
-ghost use Rattle.cert_check.specs.CertificateData.{certificate_data, system};
-ghost use Rattle.cert_check.specs.InequalityTable.{AreSumsInRange, IsFaultOf, IsFirstFaultOf};
-ghost use Rattle.cert_check.specs.InequalityTable.{IsWellFormed, inequalities, fault_of, number_of};
-ghost use Rattle.cert_check.specs.InequalityTable.{places_of, relation_of, start_of};
-ghost use Rattle.cert_check.specs.Inequalities.{Holds};
-ghost use Rattle.cert_check.specs.Scope.{IsInScope};
-ghost use Rattle.cert_check.specs.Systems.{system_of};
-ghost use Rattle.cert_check.specs.Bounds.{BoundsAreGuaranteed, CoversOwnRuns};
-ghost use Rattle.qss_machine.specs.Machines.{state_count};
+ghost use Rattle.std.specs.Prelude.{◌≡◌, ◌*ℤ◌, ◌↔◌, ◌<◌, ◌≤◌, Option, IsSome, IfSome, ℕ, pos};
+ghost use Rattle.cert_check.specs.Prelude.{state_count};
+ghost use Rattle.cert_check.specs.Words.{fails_by, judgement, IsProductInRange, certificate_data, system, AreSumsInRange, IsFaultOf, IsFirstFaultOf, IsWellFormed, inequalities, fault_of, number_of, places_of, relation_of, start_of, Holds, IsInScope, system_of, BoundsAreGuaranteed, CoversOwnRuns};
 
 use crate::affine_data::AffineSystem;
 use crate::certificate::Certificate;

@@ -1,32 +1,13 @@
 //! The inequalities of a certificate, the two sides of each at a place, and the sums that several
 //! inequalities share. A result is `None` if one of its sums is out of range.
 
-ghost use Rattle.std.specs.Prelude.{◌≡◌, ◌*ℤ◌, ◌↔◌, ◌<◌, pos, length, IsSome, IfSome, ◌≤◌, ◌+◌};
-ghost use Rattle.std.specs.Prelude.{◌*◌, ℕ, unsigned_abs, ◌+ℤ◌};
-ghost use Rattle.mu_num.specs.IndexedSums.{sum_below};
-ghost use Rattle.mu_num.specs.Limits.{relative_unit, sum_limit};
-ghost use Rattle.cert_matrix.specs.Matrix.{vector, IsInRange, table, weight};
+ghost use Rattle.std.specs.Prelude.{◌≡◌, ◌*ℤ◌, ◌↔◌, ◌<◌, ◌≤◌, ◌+◌, ◌*◌, ◌+ℤ◌, pos, length, IsSome, IfSome, ℕ, unsigned_abs};
+ghost use Rattle.cert_check.specs.Prelude.{sum_below, relative_unit, sum_limit, vector, IsInRange, table, weight, minus_gram, off_diagonal_sum, form, diagonal, matrix_product, times, total_of, weight_of};
 ghost use Rattle.cert_check.specs.CertificateData.{certificate_data, system};
-ghost use Rattle.cert_check.specs.Ranges.{IsSquareInRange, IsSumBoundInRange, IsShareInRange};
-ghost use Rattle.cert_check.specs.Ranges.{IsSlopeSidesInRange, IsCentreSidesInRange};
-ghost use Rattle.cert_check.specs.Ranges.{IsPairSidesInRange, IsPartInRange, IsDecayPartInRange};
-ghost use Rattle.cert_check.specs.Ranges.{ArePartsInRange, AreProductsInRange, IsStageInRange};
-ghost use Rattle.cert_check.specs.Ranges.{IsGapInRange, matrix_of, factor_of, root_of};
-ghost use Rattle.cert_check.specs.Ranges.{IsSumInRange, IsRestInRange, IsWidthInRange};
-ghost use Rattle.cert_check.specs.Ranges.{IsProductEntryInRange, IsReachSumInRange, IsSlopeInRange};
-ghost use Rattle.cert_check.specs.Ranges.{IsWeightedRestInRange, IsWidthSumInRange};
-ghost use Rattle.cert_check.specs.Ranges.{IsCentreGainInRange, IsPairGainInRange};
-ghost use Rattle.cert_check.specs.Ranges.{IsLevelReachInRange};
-ghost use Rattle.cert_check.specs.Inequalities.{level_range, diagonal_surplus, decrease_matrix};
-ghost use Rattle.cert_check.specs.Inequalities.{scaled_offset, level_error, weighted_level_error};
-ghost use Rattle.cert_check.specs.Inequalities.{centre_slope, slope_limit, centre_disturbance};
-ghost use Rattle.cert_check.specs.Inequalities.{pair_disturbance};
-ghost use Rattle.cert_check.specs.InequalityTable.{IsPlaceInRange, left_of, right_of, places_of};
-ghost use Rattle.cert_check.specs.InequalityTable.{IsWellFormed, is_same_below};
-ghost use Rattle.cert_matrix.specs.Form.{minus_gram, off_diagonal_sum, form, diagonal};
-ghost use Rattle.cert_matrix.specs.Form.{product as matrix_product, times};
+ghost use Rattle.cert_check.specs.Inequalities.{level_range, diagonal_surplus, decrease_matrix, scaled_offset, level_error, weighted_level_error, centre_slope, slope_limit, centre_disturbance, pair_disturbance};
+ghost use Rattle.cert_check.specs.InequalityTable.{IsPlaceInRange, left_of, right_of, places_of, IsWellFormed, is_same_below};
 ghost use Rattle.cert_check.specs.Pairs.{pairs, pair_of};
-ghost use Rattle.cert_matrix.specs.RangedSums.{total_of, weight_of};
+ghost use Rattle.cert_check.specs.Ranges.{IsSquareInRange, IsSumBoundInRange, IsShareInRange, IsSlopeSidesInRange, IsCentreSidesInRange, IsPairSidesInRange, IsPartInRange, IsDecayPartInRange, ArePartsInRange, AreProductsInRange, IsStageInRange, IsGapInRange, matrix_of, factor_of, root_of, IsSumInRange, IsRestInRange, IsWidthInRange, IsProductEntryInRange, IsReachSumInRange, IsSlopeInRange, IsWeightedRestInRange, IsWidthSumInRange, IsCentreGainInRange, IsPairGainInRange, IsLevelReachInRange};
 
 use crate::affine_data::AffineSystem;
 use crate::certificate::Certificate;

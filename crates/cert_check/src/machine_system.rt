@@ -2,12 +2,10 @@
 //! parts and the quanta.
 
 ghost use Rattle.std.specs.Prelude.{◌≡◌, ◌<◌, ℕ, length};
-ghost use Rattle.qss_machine.specs.Machines.{state_count, quanta};
-ghost use Rattle.qss_machine.specs.Legitimate.{start_coefficient, start_constant_part};
-ghost use Rattle.cert_matrix.specs.Matrix.{table, IsSquare};
+ghost use Rattle.cert_check.specs.Prelude.{state_count, quanta, start_coefficient, start_constant_part, table, IsSquare};
+ghost use Rattle.cert_check.specs.CertificateData.{system};
 ghost use Rattle.cert_check.specs.Scope.{IsInScope};
 ghost use Rattle.cert_check.specs.Systems.{start_matrix, start_drives, system_of};
-ghost use Rattle.cert_check.specs.CertificateData.{system};
 
 use crate::affine_data::AffineSystem;
 use crate::column::Column;

@@ -2,11 +2,7 @@
 //! Each value is read from the machine, so that no list of them is on the stack.
 
 ghost use Rattle.std.specs.Prelude.{◌≡◌, ◌<◌, ◌≤◌, ◌+◌, ◌-◌, ◌^◌, ◌*ℤ◌, unsigned_abs};
-ghost use Rattle.mu_num.specs.Sizes.{IsWithin};
-ghost use Rattle.mu_num.specs.IndexedSums.{int_at};
-ghost use Rattle.qss_machine.specs.MachineLimits.{IsRow};
-ghost use Rattle.qss_machine.specs.Machines.{state_count, discrete_count, start_discretes};
-ghost use Rattle.qss_machine.specs.Slopes.{products_of, mode_coefficient, constant_part};
+ghost use Rattle.cert_check.specs.Prelude.{IsWithin, int_at, IsRow, state_count, discrete_count, start_discretes, products_of, mode_coefficient, constant_part};
 
 use mu_num::{near_div, unit};
 use qss_machine::{Machine, SlopeRow, entry_coefficient, slope_term};

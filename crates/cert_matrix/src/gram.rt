@@ -1,11 +1,11 @@
 //! The Gram test: a sufficient condition for a positive semidefinite matrix, in whole numbers. It
 //! tests row by row whether h m - g^T g is diagonally dominant.
 
-ghost use Rattle.std.specs.Prelude.{◌≡◌, ℕ, ℤ, ◌+◌, ◌*◌, ◌<◌, ◌≤◌, ◌≤ℤ◌, ◌↔◌, pos, length, unsigned_abs, IsSome, IfSome};
+ghost use Rattle.std.specs.Prelude.{◌≡◌, ◌+◌, ◌*◌, ◌<◌, ◌≤◌, ◌≤ℤ◌, ◌↔◌, ℕ, ℤ, pos, length, unsigned_abs, IsSome, IfSome};
 ghost use Rattle.mu_num.specs.Limits.{sum_limit};
 ghost use Rattle.cert_matrix.specs.Form.{off_diagonal_sum, off_diagonal_abs, minus_gram, IsSymmetric, IsNeverNegative};
-ghost use Rattle.cert_matrix.specs.Matrix.{table};
 ghost use Rattle.cert_matrix.specs.Gram.{entry_weight, IsRowInRange, IsVerdict};
+ghost use Rattle.cert_matrix.specs.Matrix.{table};
 
 use crate::matrix::Matrix;
 use crate::ranged_sum::RangedSum;

@@ -1,6 +1,6 @@
 //! Square matrices of 1 to 16 rows, stored without allocation, and their quadratic forms.
 
-ghost use Rattle.std.specs.Prelude.{◌≡◌, ℕ, ℤ, ◌+◌, ◌*◌, ◌^◌, ◌<◌, ◌≤◌, ◌↔◌, List, length, IsSome, IfSome};
+ghost use Rattle.std.specs.Prelude.{◌≡◌, ◌+◌, ◌*◌, ◌^◌, ◌<◌, ◌≤◌, ◌↔◌, ℕ, ℤ, List, length, IsSome, IfSome};
 ghost use Rattle.cert_matrix.specs.Form.{form, times};
 ghost use Rattle.cert_matrix.specs.Matrix.{rows_of, vector, table, zeros, with_entry, IsSquare, IsInRange, IsFormInRange};
 

@@ -1,13 +1,11 @@
 //! Step 5 of the proposal: the invariant set V(x - c) <= R of one run, and the bounds that follow
 //! from R. The computation begins with the least R that contains the start, and has 64 rounds.
 
-ghost use Rattle.std.specs.Prelude.{◌≡◌, ◌<◌, ◌≤◌, ◌^◌, pos, ◌≤ℤ◌, length, ℕ, IfSome};
-ghost use Rattle.mu_num.specs.Rounding.{ceiling_of};
-ghost use Rattle.cert_matrix.specs.Matrix.{table, vector};
-ghost use Rattle.cert_check.specs.CertificateData.{system};
+ghost use Rattle.std.specs.Prelude.{◌≡◌, ◌<◌, ◌≤◌, ◌^◌, ◌≤ℤ◌, pos, length, ℕ, IfSome};
+ghost use Rattle.cert_propose.specs.Prelude.{ceiling_of, table, vector, system};
+ghost use Rattle.cert_propose.specs.ProposalLimits.{IsFormed, IsBound, AreBounds, ArePositive};
 ghost use Rattle.cert_propose.specs.RangedSums.{root_up_of};
 ghost use Rattle.cert_propose.specs.Candidate as Step;
-ghost use Rattle.cert_propose.specs.ProposalLimits.{IsFormed, IsBound, AreBounds, ArePositive};
 
 use crate::candidate_bounds::Bounds;
 use crate::candidate_centre::centre_rest_slopes;

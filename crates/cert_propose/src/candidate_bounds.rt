@@ -1,11 +1,10 @@
 //! Step 4 of the proposal: the lower bounds p of V, and the bounds mu and lambda of the decrease of
 //! V.
 
-ghost use Rattle.std.specs.Prelude.{◌≡◌, ◌<◌, ◌≤◌, pos, ◌≤ℤ◌, length};
-ghost use Rattle.cert_matrix.specs.Matrix.{table, vector};
-ghost use Rattle.cert_check.specs.CertificateData.{system};
-ghost use Rattle.cert_propose.specs.Candidate as Step;
+ghost use Rattle.std.specs.Prelude.{◌≡◌, ◌<◌, ◌≤◌, ◌≤ℤ◌, pos, length};
+ghost use Rattle.cert_propose.specs.Prelude.{table, vector, system};
 ghost use Rattle.cert_propose.specs.ProposalLimits.{IsFormed};
+ghost use Rattle.cert_propose.specs.Candidate as Step;
 
 use crate::candidate_matrices::{
     add_candidate_negatives, candidate_column_of, candidate_diagonal_surpluses,

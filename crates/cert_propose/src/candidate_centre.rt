@@ -2,11 +2,9 @@
 //! the centre.
 
 ghost use Rattle.std.specs.Prelude.{◌≡◌, ◌<◌, ◌≤◌, ◌^◌, pos};
-ghost use Rattle.mu_num.specs.Rounding.{nearest_of};
-ghost use Rattle.cert_matrix.specs.Matrix.{vector};
-ghost use Rattle.cert_check.specs.CertificateData.{system};
-ghost use Rattle.cert_propose.specs.Candidate as Step;
+ghost use Rattle.cert_propose.specs.Prelude.{nearest_of, vector, system};
 ghost use Rattle.cert_propose.specs.ProposalLimits.{IsFormed};
+ghost use Rattle.cert_propose.specs.Candidate as Step;
 
 use crate::candidate_exponent::power_of_exponent;
 use crate::candidate_matrices::{

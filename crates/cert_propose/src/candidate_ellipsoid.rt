@@ -1,9 +1,9 @@
 //! Step 6 of the proposal: the ellipsoid V <= C of the difference of two runs.
 
 ghost use Rattle.std.specs.Prelude.{◌≡◌, ◌≤◌, length};
-ghost use Rattle.cert_matrix.specs.Matrix.{vector};
-ghost use Rattle.cert_propose.specs.Candidate as Step;
+ghost use Rattle.cert_propose.specs.Prelude.{vector};
 ghost use Rattle.cert_propose.specs.ProposalLimits.{AreBounds};
+ghost use Rattle.cert_propose.specs.Candidate as Step;
 
 use crate::candidate_basin::{basin_gains, basin_roots};
 use crate::candidate_bounds::Bounds;

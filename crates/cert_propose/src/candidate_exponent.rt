@@ -2,7 +2,7 @@
 //! of the machine's matrix.
 
 ghost use Rattle.std.specs.Prelude.{◌≡◌, ◌<◌, ◌^◌, ◌*ℤ◌, int_le, pos, length};
-ghost use Rattle.cert_matrix.specs.Matrix.{table};
+ghost use Rattle.cert_propose.specs.Prelude.{table};
 ghost use Rattle.cert_propose.specs.Candidate as Step;
 
 use crate::candidate_matrices::candidate_row_size;

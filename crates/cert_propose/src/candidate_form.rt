@@ -2,13 +2,10 @@
 //! equation.
 
 ghost use Rattle.std.specs.Prelude.{◌≡◌, ◌<◌, ◌≤◌, ◌^◌, ◌*◌, ◌+ℤ◌, pos, length};
-ghost use Rattle.mu_num.specs.Rounding.{nearest_of};
-ghost use Rattle.cert_matrix.specs.Matrix.{table, zeros};
-ghost use Rattle.cert_check.specs.CertificateData.{system};
-ghost use Rattle.cert_propose.specs.RangedSums.{ranged_sum, product_of, repeated};
-ghost use Rattle.std.specs.Option.{option_and_then};
-ghost use Rattle.cert_propose.specs.Candidate as Step;
+ghost use Rattle.cert_propose.specs.Prelude.{nearest_of, table, zeros, system, option_and_then};
 ghost use Rattle.cert_propose.specs.ProposalLimits.{IsFormed, AreSmall};
+ghost use Rattle.cert_propose.specs.RangedSums.{ranged_sum, product_of, repeated};
+ghost use Rattle.cert_propose.specs.Candidate as Step;
 
 use crate::candidate_exponent::power_of_exponent;
 use crate::candidate_matrices::{

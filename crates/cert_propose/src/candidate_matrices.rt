@@ -1,17 +1,11 @@
 //! Arithmetic on the numbers, columns and matrices of a candidate. A result is `None` if one of its
 //! sums is out of range.
 
-ghost use Rattle.std.specs.Prelude.{◌≡◌, ◌<◌, ◌≤◌, ℕ, ℤ, pos, neg_ℤ, length, ◌+◌, ◌+ℤ◌, ◌*ℤ◌};
-ghost use Rattle.std.specs.Prelude.{Option, IfOk, true, false, Some, None};
-ghost use Rattle.cert_matrix.specs.Matrix.{table, vector, weight, IsSquare};
-ghost use Rattle.mu_num.specs.IndexedSums.{abs_of, sum_below, tabulate};
+ghost use Rattle.std.specs.Prelude.{◌≡◌, ◌<◌, ◌≤◌, ◌+◌, ◌+ℤ◌, ◌*ℤ◌, ℕ, ℤ, pos, neg_ℤ, length, Option, IfOk, true, false, Some, None};
+ghost use Rattle.cert_propose.specs.Prelude.{table, vector, weight, IsSquare, abs_of, sum_below, tabulate, Vector, Table, total_of, weight_of, IsVector};
+ghost use Rattle.cert_propose.specs.RangedSums.{where_in_range, ranged, ranged_sum, ranged_product, ranged_less, vector_by, table_by};
 ghost use Rattle.cert_propose.specs.RangedSums as Spec;
 ghost use Rattle.cert_propose.specs.Candidate as Step;
-ghost use Rattle.cert_matrix.specs.Form.{Vector, Table};
-ghost use Rattle.cert_matrix.specs.RangedSums.{total_of, weight_of};
-ghost use Rattle.cert_propose.specs.RangedSums.{where_in_range, ranged, ranged_sum, ranged_product};
-ghost use Rattle.cert_propose.specs.RangedSums.{ranged_less, vector_by, table_by};
-ghost use Rattle.cert_check.specs.CertificateLimits.{IsVector};
 
 use cert_check::Column;
 use cert_matrix::{Matrix, RangedSum};

@@ -3,15 +3,10 @@
 //! a sum out of range.
 
 ghost use Rattle.std.specs.Prelude.{◌≡◌, Ok, IfOk, IfErr, length};
-ghost use Rattle.qss_machine.specs.Machines.{state_count, start_states, quanta};
-ghost use Rattle.cert_check.specs.Systems.{system_of};
-ghost use Rattle.cert_check.specs.CertificateLimits.{IsSize, IsVector};
-ghost use Rattle.cert_check.specs.Scope.{IsInScope};
+ghost use Rattle.cert_propose.specs.Prelude.{state_count, start_states, quanta, system_of, IsSize, IsVector, IsInScope, vector, zeros, system};
 ghost use Rattle.cert_propose.specs.Candidate.{candidate_of};
 ghost use Rattle.cert_propose.specs.ProposalLimits.{AreFit, IsFormed, AreSmall};
 ghost use Rattle.cert_propose.specs.Proposals.{IsCandidate, IsProposal, IsKept, HasCandidate};
-ghost use Rattle.cert_matrix.specs.Matrix.{vector, zeros};
-ghost use Rattle.cert_check.specs.CertificateData.{system};
 ghost use Rattle.cert_propose.specs.Candidate as Step;
 
 use crate::candidate_basin::{Basin, search_basin};

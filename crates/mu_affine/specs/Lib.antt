@@ -1,3 +1,5 @@
+pub mod Words
+pub mod Prelude
 pub mod FormOf
 pub mod Solution
 pub mod FormSequence

@@ -2,14 +2,11 @@
 //! a function with an empty body.
 
 ghost use Rattle.std.specs.Prelude.{◌≡◌, ℕ, List, Ok};
-ghost use Rattle.mu_tree.specs.FlatExpression.{FlatModelTree};
-ghost use Rattle.mu_tree.specs.FlatModels.{IsFlatModel};
-ghost use Rattle.mu_causal.specs.Causality.{IsOrder};
-ghost use Rattle.mu_causal.specs.Dependencies.{EachHasOneEquation, IsAlgebraic, DependsOn};
+ghost use Rattle.mu_affine.specs.Prelude.{FlatModelTree, IsFlatModel, IsOrder, EachHasOneEquation, IsAlgebraic, DependsOn};
 ghost use Rattle.mu_affine.specs.AffineForm.{AffineForm};
-ghost use Rattle.mu_affine.specs.Solution.{sizes_of, IsSolution};
 ghost use Rattle.mu_affine.specs.FormSequence.{FormsSoFar, forms_of};
 ghost use Rattle.mu_affine.specs.MachineLaws.{FinishedFormsAreLaidOut, MachinesAreUnique};
+ghost use Rattle.mu_affine.specs.Solution.{sizes_of, IsSolution};
 
 /// The forms that are solved along a causal order are a solution: each algebraic variable has the
 /// form of the right-hand side of its equation.

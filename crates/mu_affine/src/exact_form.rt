@@ -3,8 +3,8 @@
 
 ghost use Rattle.std.specs.Prelude.{◌≡◌, ◌<◌, ◌^◌, IfOk};
 ghost use Rattle.mu_affine.specs.AffineForm.{constant_form, name_form, time_form};
-ghost use Rattle.mu_affine.specs.declared.exact_form.Place.{Place};
 ghost use Rattle.mu_affine.specs.FinishedForms.{form_meaning, IsFinished, MayStand};
+ghost use Rattle.mu_affine.specs.declared.exact_form.Place.{Place};
 
 use mu_io::Items;
 use mu_num::Ratio;

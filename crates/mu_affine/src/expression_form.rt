@@ -1,21 +1,9 @@
 //! Computes the affine form of an expression, by recursion on its structure, and the forms of
 //! conditions and statements.
 
-ghost use Rattle.std.specs.Prelude.{◌≡◌, ◌<◌, ◌+◌, ◌^◌, false, pos, map, length, Ok, Err};
-ghost use Rattle.std.specs.Prelude.{if◌then◌else◌, true};
-ghost use Rattle.mu_tree.specs.FlatExpression.{Variable, flat_expression, flat_terms_of};
-ghost use Rattle.mu_tree.specs.FlatExpression.{flat_factors_of, flat_signed, flat_scaled};
-ghost use Rattle.mu_tree.specs.FlatExpression.{flat_branch, flat_action};
-ghost use Rattle.mu_num.specs.Fraction.{whole};
-ghost use Rattle.mu_affine.specs.declared.affine_fault.AffineErr.TheVariants.{TimeHere};
-ghost use Rattle.mu_affine.specs.AffineForm.{constant_form, name_form, time_form, none};
-ghost use Rattle.mu_affine.specs.FinishedForms.{form_meaning, sum_meaning, IsOver, IsFinished};
-ghost use Rattle.mu_affine.specs.FinishedForms.{IsReducedSum};
-ghost use Rattle.mu_affine.specs.FormParts.{join_forms, multiply_forms, IsAnswer};
-ghost use Rattle.mu_affine.specs.FormOf.{form_of, sum_form, product_of};
-ghost use Rattle.mu_affine.specs.Walks.{context_of, AreSolved, IsNumbered, AreNumbered};
-ghost use Rattle.mu_affine.specs.Walks.{AreNumberedFactors, JoinsTerm, IsNumberedAction};
-ghost use Rattle.mu_affine.specs.FormSequence.{condition_form, action_form};
+ghost use Rattle.std.specs.Prelude.{◌≡◌, ◌<◌, ◌+◌, ◌^◌, if◌then◌else◌, false, pos, map, length, Ok, Err, true};
+ghost use Rattle.mu_affine.specs.Prelude.{Variable, flat_expression, flat_terms_of, flat_factors_of, flat_signed, flat_scaled, flat_branch, flat_action, whole};
+ghost use Rattle.mu_affine.specs.Words.{TimeHere, constant_form, name_form, time_form, none, form_meaning, sum_meaning, IsOver, IsFinished, IsReducedSum, join_forms, multiply_forms, IsAnswer, form_of, sum_form, product_of, context_of, AreSolved, IsNumbered, AreNumbered, AreNumberedFactors, JoinsTerm, IsNumberedAction, condition_form, action_form};
 
 use crate::affine_fault::AffineErr;
 use crate::exact_form::{ExactForm, Place};

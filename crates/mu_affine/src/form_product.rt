@@ -1,18 +1,9 @@
 //! Products, quotients and powers of affine forms. A product has at least one factor without
 //! coefficients, or is a product of states and discrete variables in an equation.
 
-ghost use Rattle.std.specs.Prelude.{◌≡◌, ◌<◌, ◌≤◌, false, true, IfOk, OnOk, map, ◌↔◌, ◌+◌, ◌^◌};
-ghost use Rattle.std.specs.Prelude.{IsTrue, All};
-ghost use Rattle.mu_affine.specs.declared.exact_form.Place.{Place};
-ghost use Rattle.mu_affine.specs.AffineForm.{is_nonzero, product_form, checked_form};
-ghost use Rattle.mu_affine.specs.FinishedForms.{form_meaning, IsFinished};
-ghost use Rattle.mu_affine.specs.Kinds.{IsVariable, IsOfStates, IsOfDiscretes, IsConstant};
-ghost use Rattle.mu_affine.specs.Scaling.{scaled_form, IsCheckedAnswer, scaled, ScalesList};
-ghost use Rattle.mu_affine.specs.FormParts.{placed, multiply_forms, raise_form, IsAnswer};
-ghost use Rattle.std.specs.Ordering.{nat_cmp};
-ghost use Rattle.mu_affine.specs.FormRows.{named, pair_cmp, ChangesAt, IsRising, paired};
-ghost use Rattle.mu_affine.specs.ProductRows.{SetsList, SetsTable, Crosses, beside};
-ghost use Rattle.mu_num.specs.Fraction.{checked};
+ghost use Rattle.std.specs.Prelude.{◌≡◌, ◌<◌, ◌≤◌, ◌↔◌, ◌+◌, ◌^◌, false, true, IfOk, OnOk, map, IsTrue, All};
+ghost use Rattle.mu_affine.specs.Prelude.{nat_cmp, checked};
+ghost use Rattle.mu_affine.specs.Words.{Place, is_nonzero, product_form, checked_form, form_meaning, IsFinished, IsVariable, IsOfStates, IsOfDiscretes, IsConstant, scaled_form, IsCheckedAnswer, scaled, ScalesList, placed, multiply_forms, raise_form, IsAnswer, named, pair_cmp, ChangesAt, IsRising, paired, SetsList, SetsTable, Crosses, beside};
 
 use crate::affine_fault::AffineErr;
 use crate::exact_form::{ExactEntry, ExactForm, ExactProduct, Place, Sizes};

@@ -2,13 +2,10 @@
 //! variable, to coefficients. These coefficients may be 0 until the sum is complete.
 
 ghost use Rattle.std.specs.Prelude.{◌≡◌, [], IfOk, map, filter};
+ghost use Rattle.mu_affine.specs.Prelude.{nat_cmp, checked};
 ghost use Rattle.mu_affine.specs.AffineForm.{constant_form, none, is_nonzero};
-ghost use Rattle.mu_affine.specs.FinishedForms.{sum_meaning, IsCanonical, IsReducedSum, JoinsForm};
-ghost use Rattle.mu_affine.specs.FinishedForms.{Finishes};
-ghost use Rattle.std.specs.Ordering.{nat_cmp};
-ghost use Rattle.mu_num.specs.Fraction.{checked};
-ghost use Rattle.mu_affine.specs.FormRows.{value_at, joined, pair_cmp, named, paired, JoinsAt};
-ghost use Rattle.mu_affine.specs.FormRows.{JoinsList, IsRising, AreReduced};
+ghost use Rattle.mu_affine.specs.FinishedForms.{sum_meaning, IsCanonical, IsReducedSum, JoinsForm, Finishes};
+ghost use Rattle.mu_affine.specs.FormRows.{value_at, joined, pair_cmp, named, paired, JoinsAt, JoinsList, IsRising, AreReduced};
 
 use crate::exact_form::{ExactEntry, ExactForm, ExactProduct};
 use mu_io::Items;

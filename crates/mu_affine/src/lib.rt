@@ -15,7 +15,10 @@ mod rounded_form;
 mod rounded_machine;
 
 pub use affine_fault::AffineErr;
-pub use affine_laws::{affine_forms_are_solution, affine_forms_have_layout, affine_machines_are_unique, affine_solutions_are_unique};
+pub use affine_laws::{
+    affine_forms_are_solution, affine_forms_have_layout, affine_machines_are_unique,
+    affine_solutions_are_unique,
+};
 pub use exact_form::{ExactEntry, ExactForm, ExactProduct, Forms, Place, Sizes};
 pub use form_sum::RunningForm;
 pub use machine_fault::MachineErr;

@@ -2,27 +2,9 @@
 //! Algebraic variables are eliminated along the causal order. The number of nonzero coefficients of
 //! all forms is limited.
 
-ghost use Rattle.std.specs.Prelude.{◌≡◌, ◌≤◌, ◌^◌, IfOk, IfErr, ◌<◌, ◌+◌, [], length, map, All};
-ghost use Rattle.mu_affine.specs.declared.exact_form.Place.{Place};
-ghost use Rattle.mu_affine.specs.AffineForm.{is_nonzero};
-ghost use Rattle.mu_affine.specs.FinishedForms.{form_meaning, IsFinished};
-ghost use Rattle.mu_affine.specs.FormSequence.{counted, keep_states, keep_actions, keep_branches};
-ghost use Rattle.mu_affine.specs.FormSequence.{keep_clauses, right_side, solve, solve_all};
-ghost use Rattle.mu_affine.specs.FormSequence.{nothing_taken};
-ghost use Rattle.mu_affine.specs.Takings.{with_more, Keeps, of_equations, of_clauses, AreFirsts};
-ghost use Rattle.mu_affine.specs.Takings.{kept_so_far, IsKept, KeepsAll, IsNumberedBranch};
-ghost use Rattle.mu_affine.specs.Takings.{AreZeros, solved_so_far, IsSolved, Solves, SolvesAll};
-ghost use Rattle.mu_tree.specs.FlatExpression.{flat_model, flat_equation, flat_action, flat_branch};
-ghost use Rattle.mu_tree.specs.FlatExpression.{flat_clause, flat_variable};
-ghost use Rattle.mu_tree.specs.FlatModels.{IsFlatModel};
-ghost use Rattle.mu_causal.specs.Causality.{IsOrder};
-ghost use Rattle.mu_causal.specs.Dependencies.{IsAlgebraic, DependsOn};
-ghost use Rattle.mu_affine.specs.KeptForms.{AreForms, IsAffineFault};
-ghost use Rattle.mu_affine.specs.Solution.{sizes_of, count_of_role, equation_context};
-ghost use Rattle.mu_affine.specs.Walks.{AreSolved, IsNumbered, IsNumberedAction, forms_in};
-ghost use Rattle.mu_tree.specs.declared.flat.FlatRole.TheVariants.{State, Discrete};
-ghost use Rattle.mu_affine.specs.FormParts.{IsAnswer};
-ghost use Rattle.mu_affine.specs.FormOf.{form_of};
+ghost use Rattle.std.specs.Prelude.{◌≡◌, ◌≤◌, ◌^◌, ◌<◌, ◌+◌, [], IfOk, IfErr, length, map, All};
+ghost use Rattle.mu_affine.specs.Prelude.{flat_model, flat_equation, flat_action, flat_branch, flat_clause, flat_variable, IsFlatModel, IsOrder, IsAlgebraic, DependsOn, State, Discrete};
+ghost use Rattle.mu_affine.specs.Words.{Place, is_nonzero, form_meaning, IsFinished, counted, keep_states, keep_actions, keep_branches, keep_clauses, right_side, solve, solve_all, nothing_taken, with_more, Keeps, of_equations, of_clauses, AreFirsts, kept_so_far, IsKept, KeepsAll, IsNumberedBranch, AreZeros, solved_so_far, IsSolved, Solves, SolvesAll, AreForms, IsAffineFault, sizes_of, count_of_role, equation_context, AreSolved, IsNumbered, IsNumberedAction, forms_in, IsAnswer, form_of};
 
 use crate::affine_fault::AffineErr;
 use crate::exact_form::{ExactForm, Forms, Place, Sizes};

@@ -1,17 +1,10 @@
 //! Rounds right-hand sides and affine forms to the units of a machine, and checks the limits of the
 //! rounded numbers.
 
-ghost use Rattle.std.specs.Prelude.{◌≡◌, ◌+◌, ◌^◌, ◌<◌, ◌≤◌, ◌++◌, [], ◌∷◌, not, true, false};
-ghost use Rattle.std.specs.Prelude.{length, if◌then◌else◌, None, map, IfOk, IfErr, IfNone, IfSome};
-ghost use Rattle.std.specs.Prelude.{OnOk, sum_by, unsigned_abs, All};
-ghost use Rattle.std.specs.List.{list_all};
-ghost use Rattle.mu_num.specs.Sizes.{exceeds};
-ghost use Rattle.mu_num.specs.Limits.{variable_limit, AreLevels};
-ghost use Rattle.mu_affine.specs.Rounded.{is_some_number, rounded_entries, rounded_products};
-ghost use Rattle.mu_affine.specs.Rounded.{rounded_row, rounded_form, rounded, rounded_down};
-ghost use Rattle.mu_affine.specs.Rounded.{rounded_up};
-ghost use Rattle.mu_affine.specs.MachineChecks.{IsRefusal, checks, first_failed, form_fits};
-ghost use Rattle.mu_affine.specs.MachineChecks.{row_fits, row_fits_at_start};
+ghost use Rattle.std.specs.Prelude.{◌≡◌, ◌+◌, ◌^◌, ◌<◌, ◌≤◌, ◌++◌, [], ◌∷◌, if◌then◌else◌, not, true, false, length, None, map, IfOk, IfErr, IfNone, IfSome, OnOk, sum_by, unsigned_abs, All};
+ghost use Rattle.mu_affine.specs.Prelude.{list_all, exceeds, variable_limit, AreLevels};
+ghost use Rattle.mu_affine.specs.MachineChecks.{IsRefusal, checks, first_failed, form_fits, row_fits, row_fits_at_start};
+ghost use Rattle.mu_affine.specs.Rounded.{is_some_number, rounded_entries, rounded_products, rounded_row, rounded_form, rounded, rounded_down, rounded_up};
 ghost use Rattle.mu_affine.specs.RoundedMachines.{IsRightSide};
 ghost use Rattle.mu_affine.specs.declared.machine_fault.MachineErr.TheVariants.{Start, Coefficient};
 

@@ -1,33 +1,26 @@
 //! Builds the machine of a flat model from its exact forms and its settings. It computes the units,
 //! and converts states, discrete variables and clauses to them. Each number is rounded once.
 
-ghost use Rattle.std.specs.Prelude.{◌≡◌, ◌+◌, ◌^◌, ◌<◌, ◌≤◌, None, length, map, sum_by, IfOk};
-ghost use Rattle.std.specs.Prelude.{IfErr, ◌&&◌, true, false, Some, IfNone, IfSome, pos, ◌≤ℤ◌};
-ghost use Rattle.std.specs.Prelude.{int_lt, nat_le};
-ghost use Rattle.mu_tree.specs.FlatExpression.{flat_action, flat_branch, flat_clause};
-ghost use Rattle.mu_tree.specs.FlatExpression.{flat_variable, flat_model};
-ghost use Rattle.mu_affine.specs.Rounded.{rounded_form, rounded_up, rounded, rounded_down};
-ghost use Rattle.mu_affine.specs.Rounded.{rounded_state, rounded_discrete};
-ghost use Rattle.mu_affine.specs.FormPlaces.{action_of, actions_of, branch_forms, branch_of};
-ghost use Rattle.mu_affine.specs.FormPlaces.{clause_forms, clauses_of, form_at, placed, rel_of};
-ghost use Rattle.mu_affine.specs.FormPlaces.{is_state, is_discrete, state_count, discrete_count};
-ghost use Rattle.mu_affine.specs.FormPlaces.{states_of, discretes_of};
-ghost use Rattle.mu_affine.specs.MachineChecks.{IsRefusal, first_failed, form_checks, bits_of};
-ghost use Rattle.mu_affine.specs.MachineChecks.{is_bits, last_of, setting_checks, checks};
-ghost use Rattle.mu_affine.specs.MachineChecks.{is_quantum, is_start, is_value, start_level};
-ghost use Rattle.mu_affine.specs.MachineChecks.{machine_checks};
-ghost use Rattle.qss_machine.specs.MachineLimits.{HasUnits, AreVariables, AreRows, AreClauses};
-ghost use Rattle.mu_num.specs.Limits.{variable_limit, tick_limit, IsLevel, AreLevels};
-ghost use Rattle.mu_affine.specs.declared.machine_fault.MachineErr.TheVariants.{Start, Quantum};
-ghost use Rattle.mu_tree.specs.FlatModels.{IsFlatModel};
+ghost use Rattle.std.specs.Prelude.{◌≡◌, ◌+◌, ◌^◌, ◌<◌, ◌≤◌, ◌&&◌, ◌≤ℤ◌, None, length, map, sum_by, IfOk, IfErr, true, false, Some, IfNone, IfSome, pos, int_lt, nat_le};
+ghost use Rattle.mu_affine.specs.Prelude.{flat_action, flat_branch, flat_clause, flat_variable, flat_model, HasUnits, AreVariables, AreRows, AreClauses, variable_limit, tick_limit, IsLevel, AreLevels, IsFlatModel};
+ghost use Rattle.mu_affine.specs.FormPlaces.{action_of, actions_of, branch_forms, branch_of, clause_forms, clauses_of, form_at, placed, rel_of, is_state, is_discrete, state_count, discrete_count, states_of, discretes_of};
+ghost use Rattle.mu_affine.specs.MachineChecks.{IsRefusal, first_failed, form_checks, bits_of, is_bits, last_of, setting_checks, checks, is_quantum, is_start, is_value, start_level, machine_checks};
+ghost use Rattle.mu_affine.specs.Rounded.{rounded_form, rounded_up, rounded, rounded_down, rounded_state, rounded_discrete};
 ghost use Rattle.mu_affine.specs.RoundedMachines.{AreFormsFor, IsMachineOf};
+ghost use Rattle.mu_affine.specs.declared.machine_fault.MachineErr.TheVariants.{Start, Quantum};
 
 use crate::exact_form::{ExactForm, Forms};
 use crate::machine_fault::MachineErr;
-use crate::rounded_form::{check_start_row_sums, round_form, round_form_number, round_form_number_down, round_form_number_up, round_form_rows};
+use crate::rounded_form::{
+    check_start_row_sums, round_form, round_form_number, round_form_number_down,
+    round_form_number_up, round_form_rows,
+};
 use mu_io::Items;
-use mu_num::{LEVEL_BITS, STATE_BITS, Ratio, exceeds_power_of_two, floor_div, unit};
-use mu_tree::{FlatBranch, FlatClause, FlatModel, FlatRole, FlatStatement, FlatVar, Rel as ReadRel, SettingName, Settings};
+use mu_num::{LEVEL_BITS, Ratio, STATE_BITS, exceeds_power_of_two, floor_div, unit};
+use mu_tree::{
+    FlatBranch, FlatClause, FlatModel, FlatRole, FlatStatement, FlatVar, Rel as ReadRel,
+    SettingName, Settings,
+};
 use qss_machine::{
     Action, BranchInfo, ClauseInfo, Condition, DiscreteInfo, Form, Machine, Rel, SlopeRow,
     StateInfo,

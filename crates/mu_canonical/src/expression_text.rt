@@ -1,20 +1,8 @@
 //! Writes the canonical text of expressions, with the brackets that the grammar requires.
 
 ghost use Rattle.std.specs.Prelude.{◌≡◌, ◌++◌, [], ◌∷◌, map, OnOk, true};
+ghost use Rattle.mu_tree.specs.Canonical.{bracketed_if, factor_sign, is_compound, is_sum, is_sum_or_product, joined, sign, written, written_factors, written_reference, written_terms};
 ghost use Rattle.mu_tree.specs.Expression.{expression, factors_of, reference, scaled, signed, terms_of};
-ghost use Rattle.mu_tree.specs.Canonical.{
-  bracketed_if,
-  factor_sign,
-  is_compound,
-  is_sum,
-  is_sum_or_product,
-  joined,
-  sign,
-  written,
-  written_factors,
-  written_reference,
-  written_terms,
-};
 
 use itoa::Buffer;
 use mu_tree::{Expr, Factor, Ref, Term};

@@ -1,52 +1,18 @@
 //! Writes the canonical text of a model: its declarations, equations, clauses and settings.
 
 ghost use Rattle.std.specs.Prelude.{◌≡◌, ◌++◌, [], ◌∷◌, codes, map, IfOk, OnOk, true};
-ghost use Rattle.std.specs.Option.{option_map};
 ghost use Rattle.std.specs.List.{flat_map};
+ghost use Rattle.std.specs.Option.{option_map};
+ghost use Rattle.mu_tree.specs.Canonical.{branch_word, canonical_text, comma, end_for, joined, optional, relation, section, setting_name, type, written_annotation, written_branches, written_clause, written_clauses, written_condition, written_declaration, written_equation, written_equations, written_kind, written_range, written_settings, written_statement, written_statements};
 ghost use Rattle.mu_tree.specs.Expression.{expression};
-ghost use Rattle.mu_tree.specs.ModelTree.{
-  branch,
-  clause,
-  clauses_of,
-  condition,
-  declaration,
-  equation,
-  equations_of,
-  model,
-  range,
-  setting,
-  statement,
-  statements_of,
-};
-ghost use Rattle.mu_tree.specs.Canonical.{
-  branch_word,
-  canonical_text,
-  comma,
-  end_for,
-  joined,
-  optional,
-  relation,
-  section,
-  setting_name,
-  type,
-  written_annotation,
-  written_branches,
-  written_clause,
-  written_clauses,
-  written_condition,
-  written_declaration,
-  written_equation,
-  written_equations,
-  written_kind,
-  written_range,
-  written_settings,
-  written_statement,
-  written_statements,
-};
+ghost use Rattle.mu_tree.specs.ModelTree.{branch, clause, clauses_of, condition, declaration, equation, equations_of, model, range, setting, statement, statements_of};
 
 use crate::expression_text::{write_expression, write_reference, write_token_text};
 use mu_io::Name;
-use mu_tree::{Branch, Clause, Cond, Decl, Equation, Expr, Model, Prefix, Rel, SettingItem, SettingName, Statement};
+use mu_tree::{
+    Branch, Clause, Cond, Decl, Equation, Expr, Model, Prefix, Rel, SettingItem, SettingName,
+    Statement,
+};
 use std::alloc::{AllocError, Global};
 
 /// Returns the canonical text of a model. It accepts every tree, and takes linear time in the

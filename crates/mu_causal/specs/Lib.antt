@@ -1,3 +1,5 @@
+pub mod Words
+pub mod Prelude
 pub mod Causality
 pub mod Graphs
 pub mod VisitMarks

@@ -2,7 +2,7 @@
 //! model with an order has no algebraic loop, and that the order is unique.
 
 ghost use Rattle.std.specs.Prelude.{◌≡◌, ℕ, List, IfOk, IfErr};
-ghost use Rattle.mu_tree.specs.FlatExpression.{flat_model, FlatModelTree};
+ghost use Rattle.mu_causal.specs.Prelude.{flat_model, FlatModelTree};
 ghost use Rattle.mu_causal.specs.Causality.{Chain, IsOrder, IsCycle};
 ghost use Rattle.mu_causal.specs.Dependencies.{IsNumbered, EachHasOneEquation, IsAlgebraic, DependsOn};
 ghost use Rattle.mu_causal.specs.OrderResults.{IsCausalFault};

@@ -1,20 +1,9 @@
 //! Builds the dependency graph of a flat model from the variables that right sides read. Sorts the
 //! graph topologically, or finds a cycle in it.
 
-ghost use Rattle.std.specs.Prelude.{◌≡◌, ℕ, Bool, true, false, ◌<◌, ◌≤◌, ◌^◌, List, length};
-ghost use Rattle.std.specs.Prelude.{slice_index_or, Contains, All, MatchOption, IfOk, IfSome};
-ghost use Rattle.std.specs.Prelude.{IfNone, slice_index, [], ◌++◌, map, OnOk};
-ghost use Rattle.mu_causal.specs.Graphs.{Graph, HasEdge, IsClosed};
-ghost use Rattle.mu_causal.specs.OrderResults.{IsCausality};
-ghost use Rattle.mu_causal.specs.VisitMarks.{IsMarked, IsUnmarked, IsBlocked, IsUnblocked};
-ghost use Rattle.mu_causal.specs.VisitMarks.{AreFirstReaders, ArePassed, IsListing, Needs};
-ghost use Rattle.mu_causal.specs.Causality.{IsCycle};
-ghost use Rattle.mu_causal.specs.Rounds.{IsTurned};
-ghost use Rattle.mu_tree.specs.FlatExpression.{flat_expression, flat_terms_of, flat_factors_of};
-ghost use Rattle.mu_tree.specs.FlatExpression.{flat_signed, flat_scaled, flat_equation};
-ghost use Rattle.mu_tree.specs.FlatExpression.{flat_variable, flat_model};
-ghost use Rattle.mu_causal.specs.Dependencies.{names_of, names_of_terms, names_of_factors};
-ghost use Rattle.mu_causal.specs.Flat.{row_at, AddsEquation, is_known, IsGraphOf};
+ghost use Rattle.std.specs.Prelude.{◌≡◌, ◌<◌, ◌≤◌, ◌^◌, [], ◌++◌, ℕ, Bool, true, false, List, length, slice_index_or, Contains, All, MatchOption, IfOk, IfSome, IfNone, slice_index, map, OnOk};
+ghost use Rattle.mu_causal.specs.Prelude.{flat_expression, flat_terms_of, flat_factors_of, flat_signed, flat_scaled, flat_equation, flat_variable, flat_model};
+ghost use Rattle.mu_causal.specs.Words.{Graph, HasEdge, IsClosed, IsCausality, IsMarked, IsUnmarked, IsBlocked, IsUnblocked, AreFirstReaders, ArePassed, IsListing, Needs, IsCycle, IsTurned, names_of, names_of_terms, names_of_factors, row_at, AddsEquation, is_known, IsGraphOf};
 
 use mu_tree::{FlatEquation, FlatExpr, FlatFactor, FlatModel, FlatRole, FlatTerm, FlatVar};
 use std::alloc::{AllocError, Global};

@@ -1,11 +1,11 @@
 //! Counts the equations of each variable, and checks that each state and each algebraic variable
 //! has exactly one.
 
-ghost use Rattle.std.specs.Prelude.{◌≡◌, ℕ, ◌<◌, ◌^◌, List, [], ◌∷◌, ◌++◌, length, map, slice_index_or, OnOk, IfOk, IfErr};
-ghost use Rattle.mu_tree.specs.FlatExpression.{flat_equation, flat_model};
-ghost use Rattle.mu_causal.specs.declared.equation_counts.Given.TheVariants.{Never};
-ghost use Rattle.mu_causal.specs.OrderResults.{IsGiven, IsCausalFault};
+ghost use Rattle.std.specs.Prelude.{◌≡◌, ◌<◌, ◌^◌, [], ◌∷◌, ◌++◌, ℕ, List, length, map, slice_index_or, OnOk, IfOk, IfErr};
+ghost use Rattle.mu_causal.specs.Prelude.{flat_equation, flat_model};
 ghost use Rattle.mu_causal.specs.Dependencies.{numbers_from, EachHasOneEquation, IsNumbered, wants_equation};
+ghost use Rattle.mu_causal.specs.OrderResults.{IsGiven, IsCausalFault};
+ghost use Rattle.mu_causal.specs.declared.equation_counts.Given.TheVariants.{Never};
 
 use crate::causal_outcome::CausalErr;
 use mu_tree::{FlatEquation, FlatModel, FlatRole};

@@ -1,17 +1,7 @@
 //! Copies flat models and their parts. The only error is allocation failure.
 
 ghost use Rattle.std.specs.Prelude.{◌≡◌, IfOk, map};
-ghost use Rattle.mu_tree.specs.FlatExpression.{
-  flat_action,
-  flat_branch,
-  flat_clause,
-  flat_equation,
-  flat_expression,
-  flat_model,
-  flat_scaled,
-  flat_signed,
-  flat_variable,
-};
+ghost use Rattle.mu_tree.specs.FlatExpression.{flat_action, flat_branch, flat_clause, flat_equation, flat_expression, flat_model, flat_scaled, flat_signed, flat_variable};
 
 use crate::copied::Copied;
 use mu_tree::{

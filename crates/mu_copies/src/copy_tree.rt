@@ -3,11 +3,12 @@
 ghost use Rattle.std.specs.Prelude.{◌≡◌, IfOk, map};
 ghost use Rattle.std.specs.Option.{option_map};
 ghost use Rattle.mu_tree.specs.Expression.{expression, reference, signed, scaled};
-ghost use Rattle.mu_tree.specs.ModelTree.{branch, clause, condition, declaration, equation, model};
-ghost use Rattle.mu_tree.specs.ModelTree.{setting, statement};
+ghost use Rattle.mu_tree.specs.ModelTree.{branch, clause, condition, declaration, equation, model, setting, statement};
 
 use crate::copied::Copied;
-use mu_tree::{Branch, Clause, Cond, Decl, Equation, Expr, Factor, Model, Ref, SettingItem, Statement, Term};
+use mu_tree::{
+    Branch, Clause, Cond, Decl, Equation, Expr, Factor, Model, Ref, SettingItem, Statement, Term,
+};
 use std::alloc::{AllocError, Global};
 
 impl Copied for Equation {

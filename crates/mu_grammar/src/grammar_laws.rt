@@ -3,10 +3,10 @@
 
 ghost use Rattle.std.specs.Prelude.{ℕ, List, All};
 ghost use Rattle.mu_tree.specs.ModelTree.{ModelTree};
-ghost use Rattle.mu_grammar.specs.Prefixes.{ParseOrFail, Decides, IsToken, ParseFaultsAreUnique};
 ghost use Rattle.mu_grammar.specs.Grammar.{Symbol};
-ghost use Rattle.mu_grammar.specs.ModelMachine.{model_machine};
 ghost use Rattle.mu_grammar.specs.ModelGrammar.{GrammarIsUnambiguous, SpellsModel};
+ghost use Rattle.mu_grammar.specs.ModelMachine.{model_machine};
+ghost use Rattle.mu_grammar.specs.Prefixes.{ParseOrFail, Decides, IsToken, ParseFaultsAreUnique};
 ghost use Rattle.mu_grammar.specs.ReadBack.{ReadsBack};
 ghost use Rattle.mu_grammar.specs.SourceTokens.{TokensAreTokens};
 

@@ -3,10 +3,10 @@
 
 ghost use Rattle.std.specs.Prelude.{◌≡◌, bytes_eq};
 ghost use Rattle.mu_grammar.specs.Grammar.{place};
-ghost use Rattle.mu_grammar.specs.Symbols.{symbol_with};
-ghost use Rattle.mu_grammar.specs.SymbolViews.{symbol_view};
 ghost use Rattle.mu_grammar.specs.Shapes.{is_fixed, is_same};
 ghost use Rattle.mu_grammar.specs.Skipped.{is_named};
+ghost use Rattle.mu_grammar.specs.SymbolViews.{symbol_view};
+ghost use Rattle.mu_grammar.specs.Symbols.{symbol_with};
 
 use mu_lexer::{Kind, Mark, Word};
 

@@ -1,9 +1,9 @@
 //! A ghost record of the calls to the operating system's files and streams, and a writer of std
 //! that records the bytes it has accepted.
 
-ghost use Rattle.std.specs.Prelude.{◌≡◌, List, [], ◌∷◌};
+ghost use Rattle.std.specs.Prelude.{◌≡◌, [], ◌∷◌, List};
+ghost use Rattle.mu_io.specs.Prelude.{ftrue};
 ghost use Rattle.mu_io.specs.Events.{Event};
-ghost use Rattle.std.specs.Borrow.{ftrue};
 
 use std::io;
 use std::io::Write;
@@ -77,8 +77,7 @@ impl<W: Write + Drop> LoggedWriter<W> {
 
 impl<W: Write + Drop> Write for LoggedWriter<W> {
     ghost use Rattle.std.specs.Prelude.{Some};
-    ghost use Rattle.std.specs.Io.{WritesAtMost};
-    ghost use Rattle.std.specs.Io.KnownBytes.{WriteAppends, Keeps};
+    ghost use Rattle.mu_io.specs.Prelude.{WritesAtMost, WriteAppends, Keeps};
     ghost use Rattle.mu_io.specs.Events.{taken};
 
     ghost contents = { λ s. Some (taken s.log.events) };

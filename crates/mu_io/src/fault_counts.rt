@@ -1,6 +1,6 @@
 //! Fault counts by file name, and the numbers of the calls at which a test double fails.
 
-ghost use Rattle.std.specs.Prelude.{◌≡◌, ◌≤◌, [], true, OnOk, ℕ, List, ◌↔◌, IsTrue, Contains};
+ghost use Rattle.std.specs.Prelude.{◌≡◌, ◌≤◌, [], ◌↔◌, true, OnOk, ℕ, List, IsTrue, Contains};
 ghost use Rattle.mu_io.specs.FaultCounts.{HasOneMoreFault, OnlyCounts};
 ghost use Rattle.mu_io.specs.Files.{count_of, is_counted};
 

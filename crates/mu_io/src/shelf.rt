@@ -2,8 +2,7 @@
 //! read as a whole, up to a limit of its length.
 
 ghost use Rattle.std.specs.Prelude.{◌≡◌, ◌≢◌, ◌≤◌, ◌<◌, ◌∷◌, ℕ, List, length, Option, Some, None, IsSome, IfSome, IsSomeAnd, IfOk, OnOk, OnErr, MatchResult};
-ghost use Rattle.std.specs.Io.{ReadsAtMost};
-ghost use Rattle.std.specs.Io.KnownBytes.{ReadConsumes};
+ghost use Rattle.mu_io.specs.Prelude.{ReadsAtMost, ReadConsumes};
 ghost use Rattle.mu_io.specs.FaultCounts.{HasOneMoreFault, OnlyCounts};
 ghost use Rattle.mu_io.specs.Files.{Files, Place, file_of, advanced, bytes_left};
 ghost use Rattle.mu_io.specs.Readings.{Reading, started, unopened, AreOfKnown, ReadGains, ReadsWhole, Exceeds, ReadFails, ReadsPart};

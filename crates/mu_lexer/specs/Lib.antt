@@ -1,3 +1,4 @@
+pub mod Words
 pub mod Automaton
 pub mod Tokens
 pub mod Spaced

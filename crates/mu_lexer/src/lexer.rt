@@ -1,19 +1,8 @@
 //! Splits the bytes of a source into tokens. A finite automaton finds the longest prefix that is a
 //! token. Blanks and comments are skipped.
 
-ghost use Rattle.std.specs.Prelude.{◌≡◌, ◌==◌, ◌&&◌, ◌≢◌, ℕ, ◌^◌, ◌≤◌, List, [], ◌⊎◌, All, length};
-ghost use Rattle.std.specs.Prelude.{vec_len, IfOk, IfErr, IsTrue};
-ghost use Rattle.mu_lexer.specs.Automaton.{word_among, named, after_mark, begin, better, ending};
-ghost use Rattle.mu_lexer.specs.Automaton.{lookup, next, single_marks, BestUpTo};
-ghost use Rattle.mu_lexer.specs.Tokens.{is_blank, begins_blank, begins_slash};
-ghost use Rattle.mu_lexer.specs.Tokens.{begins_quote, line_length, block_length};
-ghost use Rattle.mu_lexer.specs.Tokens.{AreTokens, GivesFault, GivesTokens, IsFirstFault, IsWithin};
-ghost use Rattle.mu_lexer.specs.Tokens.{BeginsWith};
-ghost use Rattle.mu_lexer.specs.Spaced.{IsSpelled, Piece, spaced_text, spaced_tokens};
-ghost use Rattle.mu_lexer.specs.declared.token.Token.{Token};
-ghost use Rattle.mu_lexer.specs.declared.token.TheConstants.{WORDS};
-ghost use Rattle.mu_lexer.specs.declared.lexer.LexErr.{LexErr};
-ghost use Rattle.mu_lexer.specs.Spelling.{is_digit, is_letter, is_exponent_mark, is_sign};
+ghost use Rattle.std.specs.Prelude.{◌≡◌, ◌==◌, ◌&&◌, ◌≢◌, ◌^◌, ◌≤◌, [], ◌⊎◌, ℕ, List, All, length, vec_len, IfOk, IfErr, IsTrue};
+ghost use Rattle.mu_lexer.specs.Words.{word_among, named, after_mark, begin, better, ending, lookup, next, single_marks, BestUpTo, is_blank, begins_blank, begins_slash, begins_quote, line_length, block_length, AreTokens, GivesFault, GivesTokens, IsFirstFault, IsWithin, BeginsWith, IsSpelled, Piece, spaced_text, spaced_tokens, Token, WORDS, LexErr, is_digit, is_letter, is_exponent_mark, is_sign};
 
 use crate::token::{Kind, Mark, Token, WORDS, Word};
 use std::alloc::{AllocError, AllocFailed, Global};

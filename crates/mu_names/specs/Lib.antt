@@ -1,3 +1,4 @@
+pub mod Prelude
 pub mod Constant
 pub mod LeastFaults
 pub mod NameTables

@@ -1,18 +1,11 @@
 //! Evaluates constant expressions. A trait specifies what names denote in them, and the faults of
 //! their parts are recorded.
 
-ghost use Rattle.std.specs.Prelude.{◌≡◌, map, ℕ, List, [], ◌∷◌, Result, Option, pos};
-ghost use Rattle.mu_num.specs.Fraction.{Fraction, whole};
-ghost use Rattle.mu_num.specs.declared.NumErr.{NumErr};
-ghost use Rattle.mu_tree.specs.Expression.{expression, reference, signed, scaled, terms_of};
-ghost use Rattle.mu_tree.specs.Expression.{factors_of};
-ghost use Rattle.mu_names.specs.declared.constant_values.Meaning.{Meaning};
+ghost use Rattle.std.specs.Prelude.{◌≡◌, [], ◌∷◌, map, ℕ, List, Result, Option, pos};
+ghost use Rattle.mu_names.specs.Prelude.{Fraction, whole, NumErr, expression, reference, signed, scaled, terms_of, factors_of};
+ghost use Rattle.mu_names.specs.Constant.{value_of, faults_of, both, both_faults, joined, multiplied, one, one_faults, raised, constant_of, name_faults, indexed_faults, value, sum_value, product_value, reference_value, faults, sum_faults, product_faults, reference_faults, previous_faults};
 ghost use Rattle.mu_names.specs.LeastFaults.{least_of};
-ghost use Rattle.mu_names.specs.Constant.{value_of, faults_of, both, both_faults, joined};
-ghost use Rattle.mu_names.specs.Constant.{multiplied, one, one_faults, raised, constant_of};
-ghost use Rattle.mu_names.specs.Constant.{name_faults, indexed_faults, value, sum_value};
-ghost use Rattle.mu_names.specs.Constant.{product_value, reference_value, faults, sum_faults};
-ghost use Rattle.mu_names.specs.Constant.{product_faults, reference_faults, previous_faults};
+ghost use Rattle.mu_names.specs.declared.constant_values.Meaning.{Meaning};
 
 use crate::name_fault::{NameErr, keep_least_fault};
 use mu_num::{NumErr, Ratio, decimal};

@@ -1,25 +1,14 @@
 //! The declared names of a model with their roles, array sizes and values, and the model's
 //! settings. Faults of declarations and settings are recorded.
 
-ghost use Rattle.std.specs.Prelude.{◌≡◌, pos, ℕ, List, [], ◌∷◌, ◌<◌, ◌||◌, nat_eq, if◌then◌else◌};
-ghost use Rattle.std.specs.Prelude.{map, length, IfOk, OnOk};
-ghost use Rattle.std.specs.Option.{option_map};
-ghost use Rattle.mu_tree.specs.Expression.{expression};
-ghost use Rattle.mu_tree.specs.ModelTree.{declaration, equation, equations_of, model, setting};
-ghost use Rattle.mu_names.specs.DeclarationFaults.{all_valued, binding_faults, constants_after};
-ghost use Rattle.mu_names.specs.DeclarationFaults.{constants_with, declaration_faults};
-ghost use Rattle.mu_names.specs.DeclarationFaults.{declarations_faults, is_constant, is_size};
-ghost use Rattle.mu_names.specs.DeclarationFaults.{meaning_after, meaning_of, optional_faults};
-ghost use Rattle.mu_names.specs.DeclarationFaults.{optional_value, repeated_faults, size_faults};
-ghost use Rattle.mu_names.specs.DeclarationFaults.{size_of, valued, whole_faults};
-ghost use Rattle.mu_names.specs.DeclaredRoles.{declared_in, derived, derived_all, derived_in};
-ghost use Rattle.mu_names.specs.DeclaredRoles.{is_among, role_by};
+ghost use Rattle.std.specs.Prelude.{◌≡◌, [], ◌∷◌, ◌<◌, ◌||◌, if◌then◌else◌, pos, ℕ, List, nat_eq, map, length, IfOk, OnOk};
+ghost use Rattle.mu_names.specs.Prelude.{option_map, expression, declaration, equation, equations_of, model, setting};
+ghost use Rattle.mu_names.specs.DeclarationFaults.{all_valued, binding_faults, constants_after, constants_with, declaration_faults, declarations_faults, is_constant, is_size, meaning_after, meaning_of, optional_faults, optional_value, repeated_faults, size_faults, size_of, valued, whole_faults};
+ghost use Rattle.mu_names.specs.DeclaredRoles.{declared_in, derived, derived_all, derived_in, is_among, role_by};
 ghost use Rattle.mu_names.specs.LeastFaults.{least_of};
-ghost use Rattle.mu_names.specs.declared.name_fault.NameErr.TheVariants.{Duplicate};
-ghost use Rattle.mu_names.specs.Roles.{all_known, known_as, default_settings, role_value};
-ghost use Rattle.mu_names.specs.Roles.{setting_number, settings_faults, settings_from};
-ghost use Rattle.mu_names.specs.Roles.{with_setting};
 ghost use Rattle.mu_names.specs.NameTables.{added_at, entry_at, name_kind_at, is_entry};
+ghost use Rattle.mu_names.specs.Roles.{all_known, known_as, default_settings, role_value, setting_number, settings_faults, settings_from, with_setting};
+ghost use Rattle.mu_names.specs.declared.name_fault.NameErr.TheVariants.{Duplicate};
 
 use crate::constant_values::{Meaning, Meanings, evaluate_constant};
 use crate::name_checks::{check_declared_standing, check_name_taken};

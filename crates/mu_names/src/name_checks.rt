@@ -1,23 +1,14 @@
 //! Checks the use of names in equations, clauses and start assignments. The result is the scope of
 //! the model, or the fault with the least offset in the source.
 
-ghost use Rattle.std.specs.Prelude.{◌≡◌, ℕ, List, [], ◌∷◌, ◌++◌, map, OnOk, IfOk, bytes_eq};
-ghost use Rattle.std.specs.Prelude.{if◌then◌else◌, IfErr};
-ghost use Rattle.mu_tree.specs.Expression.{expression, reference, signed, scaled, terms_of};
-ghost use Rattle.mu_tree.specs.Expression.{factors_of};
-ghost use Rattle.mu_tree.specs.ModelTree.{branch, clause, clauses_of, condition, equation};
-ghost use Rattle.mu_tree.specs.ModelTree.{equations_of, range, statement, statements_of, model};
+ghost use Rattle.std.specs.Prelude.{◌≡◌, [], ◌∷◌, ◌++◌, if◌then◌else◌, ℕ, List, map, OnOk, IfOk, bytes_eq, IfErr};
+ghost use Rattle.mu_names.specs.Prelude.{expression, reference, signed, scaled, terms_of, factors_of, branch, clause, clauses_of, condition, equation, equations_of, range, statement, statements_of, model};
 ghost use Rattle.mu_names.specs.DeclaredRoles.{name_kind_in, is_among};
 ghost use Rattle.mu_names.specs.LeastFaults.{least_of};
-ghost use Rattle.mu_names.specs.Naming.{named_faults, time_faults, taken_faults, expression_faults};
-ghost use Rattle.mu_names.specs.Naming.{reference_faults, terms_faults, factors_faults};
-ghost use Rattle.mu_names.specs.Naming.{range_faults, sides_faults, equation_faults};
-ghost use Rattle.mu_names.specs.Naming.{equations_faults, statement_faults, statements_faults};
-ghost use Rattle.mu_names.specs.Naming.{start_faults, starts_faults, branch_faults};
-ghost use Rattle.mu_names.specs.Naming.{branches_faults, clause_faults, clauses_faults};
 ghost use Rattle.mu_names.specs.NameTables.{name_kind_at};
-ghost use Rattle.mu_names.specs.declared.name_fault.NameErr.TheVariants.{EndName};
+ghost use Rattle.mu_names.specs.Naming.{named_faults, time_faults, taken_faults, expression_faults, reference_faults, terms_faults, factors_faults, range_faults, sides_faults, equation_faults, equations_faults, statement_faults, statements_faults, start_faults, starts_faults, branch_faults, branches_faults, clause_faults, clauses_faults};
 ghost use Rattle.mu_names.specs.Roles.{model_faults, scope_of, IsRefusal};
+ghost use Rattle.mu_names.specs.declared.name_fault.NameErr.TheVariants.{EndName};
 
 use crate::declared_scope::{
     Scope, declared_names, derived_names, evaluate_declarations, known_declared_names,

@@ -1,10 +1,10 @@
 //! The first step at which a discrete parabola reaches a bound. The parabola has at most one
 //! extremum, so two binary searches are enough.
 
-ghost use Rattle.std.specs.Prelude.{◌≡◌, ℕ, pos, ◌^◌, ◌<◌, ◌≤◌, ◌+ℤ◌, ◌*ℤ◌, ◌<ℤ◌, ◌≤ℤ◌, neg_ℤ, unsigned_abs};
-ghost use Rattle.mu_num.specs.Sizes.{IsWithin};
+ghost use Rattle.std.specs.Prelude.{◌≡◌, ◌^◌, ◌<◌, ◌≤◌, ◌+ℤ◌, ◌*ℤ◌, ◌<ℤ◌, ◌≤ℤ◌, ℕ, pos, neg_ℤ, unsigned_abs};
 ghost use Rattle.mu_num.specs.Curves.{sum_to, curve_at, FirstUpTo, FirstReaching};
 ghost use Rattle.mu_num.specs.Limits.{look_span, IsSecondState};
+ghost use Rattle.mu_num.specs.Sizes.{IsWithin};
 
 use crate::ticks::first_tick_beyond;
 

@@ -15,7 +15,10 @@ mod ticks;
 
 pub use curves::first_curve;
 pub use division::{ceil_div, floor_div, near_div};
-pub use limits::{LEVEL_BITS, LOOK_SPAN, SECOND_LEVEL_BITS, SECOND_WEIGHT_BITS, SLOPE_BITS, STATE_BITS, SUM_LIMIT, WEIGHT_BITS};
+pub use limits::{
+    LEVEL_BITS, LOOK_SPAN, SECOND_LEVEL_BITS, SECOND_WEIGHT_BITS, SLOPE_BITS, STATE_BITS,
+    SUM_LIMIT, WEIGHT_BITS,
+};
 pub use literal::decimal;
 pub use number_laws::{
     decimals_are_right, lowest_terms_are_right, quotients_are_right, rounding_rules_are_near,

@@ -1,10 +1,10 @@
 //! Theorems about quotients, fractions, number tokens and levels, each stated by the contract of an
 //! empty function.
 
-ghost use Rattle.mu_num.specs.Rounding.{QuotientsAreRight};
+ghost use Rattle.mu_num.specs.Decimal.{DecimalsAreRight};
 ghost use Rattle.mu_num.specs.Fraction.{LowestTermsAreRight};
 ghost use Rattle.mu_num.specs.Levels.{RulesStayWithinOneLevel};
-ghost use Rattle.mu_num.specs.Decimal.{DecimalsAreRight};
+ghost use Rattle.mu_num.specs.Rounding.{QuotientsAreRight};
 
 /// The rounding functions satisfy their defining inequalities, and no other integers do.
 pub fn quotients_are_right()

@@ -1,8 +1,8 @@
 //! Powers of 2 as units of numbers, and comparisons of absolute values with powers of 2.
 
-ghost use Rattle.std.specs.Prelude.{◌≡◌, ◌^◌, ◌≤◌, pos, ◌*ℤ◌, ◌<ℤ◌, ◌≤ℤ◌, unsigned_abs, IsTrue, ◌↔◌};
-ghost use Rattle.mu_num.specs.Sizes.{exceeds};
+ghost use Rattle.std.specs.Prelude.{◌≡◌, ◌^◌, ◌≤◌, ◌*ℤ◌, ◌<ℤ◌, ◌≤ℤ◌, ◌↔◌, pos, unsigned_abs, IsTrue};
 ghost use Rattle.mu_num.specs.Limits.{sum_limit};
+ghost use Rattle.mu_num.specs.Sizes.{exceeds};
 
 /// Returns a number of absolute value at most 2^62 in units of 2^-bits: num * 2^bits.
 pub fn times_power_of_two(num: i128, bits: u8) -> i128

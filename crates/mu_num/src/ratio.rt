@@ -1,9 +1,9 @@
 //! Fractions in lowest terms, and their arithmetic. It is an error if a term exceeds 2^62.
 
-ghost use Rattle.std.specs.Prelude.{◌≡◌, ◌<◌, ◌≤◌, ◌^◌, ℤ, ℕ, pos, unsigned_abs, int_div, ◌*ℤ◌};
+ghost use Rattle.std.specs.Prelude.{◌≡◌, ◌<◌, ◌≤◌, ◌^◌, ◌*ℤ◌, ℤ, ℕ, pos, unsigned_abs, int_div};
 ghost use Rattle.std.specs.Int.{IsGcd};
-ghost use Rattle.mu_num.specs.Rounding.{IsNearest, nearest_of};
 ghost use Rattle.mu_num.specs.Fraction.{lowest, checked, sum, difference, product, quotient, power, sign, checked_quotient, whole, IsReduced};
+ghost use Rattle.mu_num.specs.Rounding.{IsNearest, nearest_of};
 
 use crate::NumErr;
 use crate::division::near_div;

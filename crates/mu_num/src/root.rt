@@ -1,8 +1,8 @@
 //! Computes integer square roots, rounded up.
 
-ghost use Rattle.std.specs.Prelude.{◌≤◌, ◌^◌, pos, ◌≤ℤ◌, unsigned_abs};
-ghost use Rattle.mu_num.specs.Roots.{IsRootUp};
+ghost use Rattle.std.specs.Prelude.{◌≤◌, ◌^◌, ◌≤ℤ◌, pos, unsigned_abs};
 ghost use Rattle.mu_num.specs.Limits.{sum_limit};
+ghost use Rattle.mu_num.specs.Roots.{IsRootUp};
 
 /// Returns the square root rounded up: the least natural number whose square is at least v. v is
 /// from 0 to 2^126.

@@ -1,8 +1,8 @@
 //! The first tick at which a distance is covered at a constant speed.
 
-ghost use Rattle.std.specs.Prelude.{◌≡◌, ℕ, pos, ◌+◌, ◌*◌, ◌/◌, ◌<◌, ◌≤◌, ◌*ℤ◌, ◌<ℤ◌, ◌≤ℤ◌};
-ghost use Rattle.mu_num.specs.Ticks.{FirstAfter, later_tick};
+ghost use Rattle.std.specs.Prelude.{◌≡◌, ◌+◌, ◌*◌, ◌/◌, ◌<◌, ◌≤◌, ◌*ℤ◌, ◌<ℤ◌, ◌≤ℤ◌, ℕ, pos};
 ghost use Rattle.mu_num.specs.Limits.{tick_limit};
+ghost use Rattle.mu_num.specs.Ticks.{FirstAfter, later_tick};
 
 use crate::powers_of_two::is_below_u64_power;
 

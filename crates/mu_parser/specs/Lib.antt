@@ -1,3 +1,4 @@
+pub mod Prelude
 pub mod ConditionViews
 pub mod ExpressionViews
 pub mod ItemViews

@@ -2,29 +2,10 @@
 //! annotations.
 
 ghost use Rattle.std.specs.Prelude.{◌≡◌, ◌≤◌, IfOk, List, ℕ, bytes_eq, reverse};
-ghost use Rattle.mu_grammar.specs.DeclarationGrammar.{setting_of};
-ghost use Rattle.mu_grammar.specs.Closing.{is_close};
-ghost use Rattle.mu_grammar.specs.DeclarationMachine.{
-  begin_argument,
-  begin_bare_mod,
-  begin_first_item,
-  begin_item,
-  begin_mod,
-  begin_own,
-  begin_setting,
-  begin_skipped,
-  closed,
-  follow_item,
-  open_experiment,
-  skip_first,
-  skip_shape,
-};
-ghost use Rattle.mu_grammar.specs.declared.symbol.Shape.TheVariants as shapes;
-ghost use Rattle.mu_grammar.specs.Shapes.{shape_of};
-ghost use Rattle.mu_grammar.specs.States.{level, place_level, settings};
+ghost use Rattle.mu_parser.specs.Prelude.{setting_of, is_close, begin_argument, begin_bare_mod, begin_first_item, begin_item, begin_mod, begin_own, begin_setting, begin_skipped, closed, follow_item, open_experiment, skip_first, skip_shape, shape_of, level, place_level, settings, symbol_view};
 ghost use Rattle.mu_parser.specs.ItemViews.{settings_of};
 ghost use Rattle.mu_parser.specs.SectionViews.{component_of, draft_of, effect_of, owner_of, place_of, settled_of, state_of};
-ghost use Rattle.mu_grammar.specs.SymbolViews.{symbol_view};
+ghost use Rattle.mu_grammar.specs.declared.symbol.Shape.TheVariants as shapes;
 
 use crate::parser::parse_with_kept;
 use crate::section::state::{Component, Draft, Effect, Owner, Place, State, Then, Waiting};

@@ -2,22 +2,10 @@
 //! part of the model that takes the complete expression.
 
 ghost use Rattle.std.specs.Prelude.{◌≡◌, ◌<◌, ◌^◌, IfOk, List, ℕ};
-ghost use Rattle.mu_tree.specs.Expression.{Element, expression, reference};
-ghost use Rattle.mu_grammar.specs.DeclarationMachine.{
-  close_size,
-  with_quantum,
-  with_size,
-  with_start,
-  with_value,
-};
-ghost use Rattle.mu_grammar.specs.DeclarationGrammar.{with_setting};
-ghost use Rattle.mu_grammar.specs.ModelMachine.{receive, sum_move};
-ghost use Rattle.mu_grammar.specs.States.{outside, side_level};
-ghost use Rattle.mu_grammar.specs.SumMachine.{depth_at, step};
-ghost use Rattle.mu_parser.specs.ItemViews.{settings_of};
+ghost use Rattle.mu_parser.specs.Prelude.{Element, expression, reference, close_size, with_quantum, with_size, with_start, with_value, with_setting, receive, sum_move, outside, side_level, depth_at, step, symbol_view};
 ghost use Rattle.mu_parser.specs.ExpressionViews.{frames_of, move_of, position_of};
+ghost use Rattle.mu_parser.specs.ItemViews.{settings_of};
 ghost use Rattle.mu_parser.specs.SectionViews.{aim_of, component_of, effect_of, waiting_of};
-ghost use Rattle.mu_grammar.specs.SymbolViews.{symbol_view};
 
 use crate::annotation_item::follow_item;
 use crate::declaration::follow_declaration_value;

@@ -1,25 +1,8 @@
 //! Transitions of the parser in the head of a model, in import lines and in declarations.
 
 ghost use Rattle.std.specs.Prelude.{◌≡◌, IfOk, List, ℕ};
-ghost use Rattle.mu_grammar.specs.Closing.{is_open_square};
-ghost use Rattle.mu_grammar.specs.DeclarationMachine.{
-  component_token,
-  follow_component,
-  follow_modifications,
-  follow_name,
-  follow_size,
-  follow_string,
-  follow_title,
-  follow_value,
-  head,
-  import_token,
-  new_component,
-  type_token,
-  with_component,
-};
-ghost use Rattle.mu_grammar.specs.States.{begin};
+ghost use Rattle.mu_parser.specs.Prelude.{is_open_square, component_token, follow_component, follow_modifications, follow_name, follow_size, follow_string, follow_title, follow_value, head, import_token, new_component, type_token, with_component, begin, symbol_view};
 ghost use Rattle.mu_parser.specs.SectionViews.{component_of, draft_of, effect_of, state_of, waiting_of};
-ghost use Rattle.mu_grammar.specs.SymbolViews.{symbol_view};
 
 use crate::expression::machine::Position;
 use crate::section::follow_section::follow_section;

@@ -1,22 +1,11 @@
 //! Parses the tokens of a source as a model. The transition function of the parser is applied to
 //! one token after the other. Nesting is limited to 64 levels.
 
-ghost use Rattle.std.specs.Prelude.{◌≡◌, IfOk, List, ℕ, ◌<◌, ◌≤◌, ◌^◌, All, IfErr, Ok, Err, length};
-ghost use Rattle.mu_tree.specs.ModelTree.{model, ModelTree};
-ghost use Rattle.mu_grammar.specs.DeclarationMachine.{new_draft};
-ghost use Rattle.mu_grammar.specs.ReaderMachines.{allow, go, step_on};
-ghost use Rattle.mu_grammar.specs.ModelMachine.{end_name_token, last_token, meets};
-ghost use Rattle.mu_grammar.specs.ModelMachine.{model_machine, model_turn, title_token};
-ghost use Rattle.mu_grammar.specs.Shapes.{is_fixed};
-ghost use Rattle.mu_parser.specs.ModelViews.{next_of};
+ghost use Rattle.std.specs.Prelude.{◌≡◌, ◌<◌, ◌≤◌, ◌^◌, IfOk, List, ℕ, All, IfErr, Ok, Err, length};
+ghost use Rattle.mu_parser.specs.Prelude.{model, ModelTree, new_draft, allow, go, step_on, end_name_token, last_token, meets, model_machine, model_turn, title_token, is_fixed, symbol_view, IsWithin, ParseErr, Gives, IsFault, SpellsModel, symbols};
 ghost use Rattle.mu_parser.specs.ItemViews.{settings_of};
+ghost use Rattle.mu_parser.specs.ModelViews.{next_of};
 ghost use Rattle.mu_parser.specs.SectionViews.{draft_of, effect_of, state_of, then_of};
-ghost use Rattle.mu_grammar.specs.SymbolViews.{symbol_view};
-ghost use Rattle.mu_lexer.specs.Tokens.{IsWithin};
-ghost use Rattle.mu_grammar.specs.declared.parse_fault.ParseErr.{ParseErr};
-ghost use Rattle.mu_grammar.specs.Prefixes.{Gives, IsFault};
-ghost use Rattle.mu_grammar.specs.ModelGrammar.{SpellsModel};
-ghost use Rattle.mu_grammar.specs.Symbols.{symbols};
 
 use crate::annotation_item::{
     begin_bare_item, begin_first_item, begin_item, follow_item, skip_item_token,

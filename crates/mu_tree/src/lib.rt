@@ -13,4 +13,6 @@ pub use flat::{
     FlatBranch, FlatClause, FlatEquation, FlatExpr, FlatFactor, FlatModel, FlatRole, FlatStatement,
     FlatTerm, FlatVar, Settings,
 };
-pub use tree::{Branch, Clause, Cond, Decl, Equation, Model, Prefix, Rel, SettingItem, SettingName, Statement};
+pub use tree::{
+    Branch, Clause, Cond, Decl, Equation, Model, Prefix, Rel, SettingItem, SettingName, Statement,
+};

@@ -1,3 +1,5 @@
+pub mod Words
+pub mod Prelude
 pub mod ConstantValues
 pub mod UnrollFaults
 pub mod VariablePlaces

@@ -2,13 +2,11 @@
 //! quotient of two literals. Then a loop does not evaluate the expression in every round.
 
 ghost use Rattle.std.specs.Prelude.{◌≡◌, is_some, map, IfOk, IfSome, IsTrue};
-ghost use Rattle.mu_tree.specs.Expression.{Variable, Sum, Product, expression, reference, signed};
-ghost use Rattle.mu_tree.specs.Expression.{scaled, terms_of, factors_of};
-ghost use Rattle.mu_unroll.specs.ConstantFolding.{HasConstantValue, IsSameConstant};
-ghost use Rattle.mu_unroll.specs.ConstantFolding.{IsSameExpression, IsSameReference};
+ghost use Rattle.mu_unroll.specs.Prelude.{Variable, Sum, Product, expression, reference, signed, scaled, terms_of, factors_of};
+ghost use Rattle.mu_unroll.specs.ConstantFolding.{HasConstantValue, IsSameConstant, IsSameExpression, IsSameReference};
+ghost use Rattle.mu_unroll.specs.FoldedLists.{AreFoldedFactors, AreFoldedTerms};
 ghost use Rattle.mu_unroll.specs.VariablePlaces.{constant_of};
 ghost use Rattle.mu_unroll.specs.VariableTables.{meant_at};
-ghost use Rattle.mu_unroll.specs.FoldedLists.{AreFoldedFactors, AreFoldedTerms};
 
 use crate::environment::NameDenotation;
 use crate::unroll_fault::UnrollErr;

@@ -2,10 +2,10 @@
 //! the loops around the place.
 
 ghost use Rattle.std.specs.Prelude.{◌≡◌, ◌≤◌, ◌^◌, ◌-◌, length, take, unsigned_abs, IfErr, OnOk};
-ghost use Rattle.mu_unroll.specs.declared.unroll_fault.UnrollErr.TheVariants.{Memory};
 ghost use Rattle.mu_unroll.specs.Unrolling.{inside};
 ghost use Rattle.mu_unroll.specs.VariablePlaces.{loop_value};
 ghost use Rattle.mu_unroll.specs.VariableTables.{denoted};
+ghost use Rattle.mu_unroll.specs.declared.unroll_fault.UnrollErr.TheVariants.{Memory};
 
 use crate::unroll_fault::UnrollErr;
 use mu_io::Name;

@@ -2,12 +2,11 @@
 //! denote.
 
 ghost use Rattle.std.specs.Prelude.{◌≡◌, ◌+◌, ◌^◌, ◌++◌, ◌≤◌, map, min, nat_lt, OnOk, IfOk};
-ghost use Rattle.mu_num.specs.Limits.{variable_limit};
-ghost use Rattle.mu_tree.specs.FlatExpression.{flat_variable};
-ghost use Rattle.mu_unroll.specs.VariablePlaces.{ArePlaced, count_of_kind, elements_from, element_name, has_kind, is_kind, kind_of, scalar, scalar_count, scalars_in, scalars_of, scalars_of_kind, width};
+ghost use Rattle.mu_unroll.specs.Prelude.{variable_limit, flat_variable};
 ghost use Rattle.mu_unroll.specs.Nexts.{HasRoom, after_known, meant_at_next, next_after, next_number};
-ghost use Rattle.mu_unroll.specs.VariableTables.{meant_at};
 ghost use Rattle.mu_unroll.specs.Unrolling.{declared_in};
+ghost use Rattle.mu_unroll.specs.VariablePlaces.{ArePlaced, count_of_kind, elements_from, element_name, has_kind, is_kind, kind_of, scalar, scalar_count, scalars_in, scalars_of, scalars_of_kind, width};
+ghost use Rattle.mu_unroll.specs.VariableTables.{meant_at};
 
 use crate::environment::NameDenotation;
 use crate::flatten::is_flattened_kind;

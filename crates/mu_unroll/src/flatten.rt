@@ -2,11 +2,9 @@
 //! replaced by their values.
 
 ghost use Rattle.std.specs.Prelude.{◌≡◌, map, Ok, IfOk, IfErr};
-ghost use Rattle.mu_num.specs.Limits.{variable_limit};
-ghost use Rattle.mu_tree.specs.Expression.{expression, reference, signed, scaled, terms_of, factors_of};
-ghost use Rattle.mu_tree.specs.FlatExpression.{flat_expression, flat_signed, flat_scaled};
-ghost use Rattle.mu_unroll.specs.UnrollFaults.{IsFault};
+ghost use Rattle.mu_unroll.specs.Prelude.{variable_limit, expression, reference, signed, scaled, terms_of, factors_of, flat_expression, flat_signed, flat_scaled};
 ghost use Rattle.mu_unroll.specs.Flattening.{element_found, flattened, flattened_factors, flattened_terms, found, literal_part, number_of_kind, part_of, place_of, previous_part, whole_found};
+ghost use Rattle.mu_unroll.specs.UnrollFaults.{IsFault};
 ghost use Rattle.mu_unroll.specs.VariablePlaces.{ArePlaced, IsPlaced, is_kind};
 ghost use Rattle.mu_unroll.specs.VariableTables.{denoted, meant_at};
 

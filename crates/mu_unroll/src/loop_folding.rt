@@ -1,14 +1,10 @@
 //! Copies of loops in which constant expressions without loop variables are short.
 
 ghost use Rattle.std.specs.Prelude.{◌≡◌, IfOk};
-ghost use Rattle.mu_tree.specs.ModelTree.{branch, clause, equation};
-ghost use Rattle.mu_tree.specs.ModelTree.{statement};
-ghost use Rattle.mu_unroll.specs.ConstantFolding.{IsSameBranch, IsSameClause};
-ghost use Rattle.mu_unroll.specs.ConstantFolding.{IsSameEquation};
-ghost use Rattle.mu_unroll.specs.ConstantFolding.{IsSameStart, IsSameStatement};
+ghost use Rattle.mu_unroll.specs.Prelude.{branch, clause, equation, statement};
+ghost use Rattle.mu_unroll.specs.ConstantFolding.{IsSameBranch, IsSameClause, IsSameEquation, IsSameStart, IsSameStatement};
+ghost use Rattle.mu_unroll.specs.FoldedLists.{AreFoldedBranches, AreFoldedClauses, AreFoldedEquations, AreFoldedStarts, AreFoldedStatements};
 ghost use Rattle.mu_unroll.specs.VariableTables.{meant_at};
-ghost use Rattle.mu_unroll.specs.FoldedLists.{AreFoldedBranches, AreFoldedClauses, AreFoldedEquations};
-ghost use Rattle.mu_unroll.specs.FoldedLists.{AreFoldedStarts, AreFoldedStatements};
 
 use crate::constant_folding::{declares_constant, fold_constant, fold_expression, fold_reference};
 use crate::environment::NameDenotation;

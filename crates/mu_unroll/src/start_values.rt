@@ -2,24 +2,20 @@
 //! variables.
 
 ghost use Rattle.std.specs.Prelude.{◌≡◌, map, Ok, IfOk, IfErr, OnOk};
-ghost use Rattle.mu_num.specs.Limits.{variable_limit};
-ghost use Rattle.mu_tree.specs.Expression.{expression, reference};
-ghost use Rattle.mu_tree.specs.FlatExpression.{flat_variable};
-ghost use Rattle.mu_tree.specs.ModelTree.{statement};
+ghost use Rattle.mu_unroll.specs.Prelude.{variable_limit, expression, reference, flat_variable, statement};
 ghost use Rattle.mu_unroll.specs.Environments.{HasSameNames, progress_of};
+ghost use Rattle.mu_unroll.specs.ListUnrolling.{UnrollsStarts, starts_from};
 ghost use Rattle.mu_unroll.specs.UnrollFaults.{IsFault};
+ghost use Rattle.mu_unroll.specs.Unrolling.{one_start, start_at, unrolled_start, with_start};
 ghost use Rattle.mu_unroll.specs.VariablePlaces.{ArePlaced};
 ghost use Rattle.mu_unroll.specs.VariableTables.{denoted, meant_at};
-ghost use Rattle.mu_unroll.specs.Unrolling.{one_start, start_at, unrolled_start};
-ghost use Rattle.mu_unroll.specs.Unrolling.{with_start};
-ghost use Rattle.mu_unroll.specs.ListUnrolling.{UnrollsStarts, starts_from};
 
 use crate::environment::{Environment, ResolvedReference};
 use crate::flatten::found;
-use crate::unroller::Output;
 use crate::unroll_counts::{count_round, count_start};
 use crate::unroll_fault::UnrollErr;
 use crate::unrolled_values::{constant_value, unrolled_bound_values};
+use crate::unroller::Output;
 use mu_num::Ratio;
 use mu_tree::{Expr, FlatRole, FlatVar, Ref, Statement};
 use std::alloc::Global;

@@ -1,7 +1,7 @@
 //! Counts of items, loop rounds and nodes during unrolling, and their limits.
 
 ghost use Rattle.std.specs.Prelude.{◌≡◌, ◌+◌, ◌^◌, map, min};
-ghost use Rattle.mu_tree.specs.Expression.{expression, signed, scaled, terms_of, factors_of};
+ghost use Rattle.mu_unroll.specs.Prelude.{expression, signed, scaled, terms_of, factors_of};
 ghost use Rattle.mu_unroll.specs.Counting.{no_counts, node_count, term_nodes, factor_nodes, with_item, with_total, with_round};
 
 use crate::unroll_fault::UnrollErr;

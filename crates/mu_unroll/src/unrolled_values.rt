@@ -1,15 +1,13 @@
 //! Evaluates constant expressions inside loops, which specify the rounds of loops and the elements
 //! of arrays.
 
-ghost use Rattle.std.specs.Prelude.{◌≡◌, pos, map, ◌≤◌, ◌^◌, ◌+ℤ◌, ◌≤ℤ◌, int_le, nat_eq, unsigned_abs, IfOk};
-ghost use Rattle.mu_num.specs.Decimal.{decimal_value};
-ghost use Rattle.mu_num.specs.Fraction.{whole};
-ghost use Rattle.mu_tree.specs.Expression.{expression, reference, signed, scaled, terms_of, factors_of};
-ghost use Rattle.mu_unroll.specs.LoopBounds.{AreRoundsBounded, bounds_of};
+ghost use Rattle.std.specs.Prelude.{◌≡◌, ◌≤◌, ◌^◌, ◌+ℤ◌, ◌≤ℤ◌, pos, map, int_le, nat_eq, unsigned_abs, IfOk};
+ghost use Rattle.mu_unroll.specs.Prelude.{decimal_value, whole, expression, reference, signed, scaled, terms_of, factors_of};
+ghost use Rattle.mu_unroll.specs.ConstantValues.{constant_value, placed, product_value, reference_value, sum_value, whole_at, zero_value};
 ghost use Rattle.mu_unroll.specs.Flattening.{bound_of, constants_in, index_in};
+ghost use Rattle.mu_unroll.specs.LoopBounds.{AreRoundsBounded, bounds_of};
 ghost use Rattle.mu_unroll.specs.VariablePlaces.{constant_of};
 ghost use Rattle.mu_unroll.specs.VariableTables.{denoted};
-ghost use Rattle.mu_unroll.specs.ConstantValues.{constant_value, placed, product_value, reference_value, sum_value, whole_at, zero_value};
 
 use crate::environment::{Environment, NameDenotation};
 use crate::unroll_fault::UnrollErr;

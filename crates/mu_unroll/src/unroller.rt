@@ -2,21 +2,8 @@
 //! equations, clauses and statements.
 
 ghost use Rattle.std.specs.Prelude.{◌≡◌, [], map, Ok, IfOk, IfErr, OnOk};
-ghost use Rattle.mu_num.specs.Limits.{variable_limit};
-ghost use Rattle.mu_tree.specs.Expression.{expression, reference};
-ghost use Rattle.mu_tree.specs.FlatExpression.{flat_action, flat_branch, flat_clause, flat_equation, flat_model, flat_variable};
-ghost use Rattle.mu_tree.specs.FlatModels.{IsFlatModel, target_role};
-ghost use Rattle.mu_tree.specs.ModelTree.{branch, clause, equation, model, statement, statements_of};
-ghost use Rattle.mu_causal.specs.Dependencies.{IsNumbered};
-ghost use Rattle.mu_unroll.specs.Environments.{HasSameNames, progress_of};
-ghost use Rattle.mu_unroll.specs.UnrollFaults.{IsFault};
-ghost use Rattle.mu_unroll.specs.VariablePlaces.{ArePlaced};
-ghost use Rattle.mu_unroll.specs.VariableTables.{denoted, meant_at};
-ghost use Rattle.mu_unroll.specs.Unrolling.{assign_to, one_action, one_equation, restart_of, one_clause, unrolled, unrolled_branch, unrolled_branches, unrolled_clause, unrolled_equation, unrolled_statement, unrolled_statements, unrolled_with};
-ghost use Rattle.mu_unroll.specs.Listing.{listed};
-ghost use Rattle.mu_unroll.specs.WellFormed.{IsWellFormed};
-ghost use Rattle.mu_unroll.specs.ListUnrolling.{UnrollsClauses, UnrollsEquations, UnrollsStarts};
-ghost use Rattle.mu_unroll.specs.ListUnrolling.{clauses_from, equations_from, starts_from};
+ghost use Rattle.mu_unroll.specs.Prelude.{variable_limit, expression, reference, flat_action, flat_branch, flat_clause, flat_equation, flat_model, flat_variable, IsFlatModel, target_role, branch, clause, equation, model, statement, statements_of, IsNumbered};
+ghost use Rattle.mu_unroll.specs.Words.{HasSameNames, progress_of, IsFault, ArePlaced, denoted, meant_at, assign_to, one_action, one_equation, restart_of, one_clause, unrolled, unrolled_branch, unrolled_branches, unrolled_clause, unrolled_equation, unrolled_statement, unrolled_statements, unrolled_with, listed, IsWellFormed, UnrollsClauses, UnrollsEquations, UnrollsStarts, clauses_from, equations_from, starts_from};
 
 use crate::environment::{Environment, NameDenotation};
 use crate::flat_variables::{are_too_many_variables, list_denotations, list_scalar_variables};
@@ -28,7 +15,10 @@ use crate::unroll_counts::{Counts, count_expression, count_round, count_sides, z
 use crate::unroll_fault::UnrollErr;
 use crate::unrolled_values::unrolled_bound_values;
 use mu_names::Scope;
-use mu_tree::{Branch, Clause, Equation, Expr, FlatBranch, FlatClause, FlatEquation, FlatModel, FlatRole, FlatStatement, FlatVar, Model, Ref, Statement};
+use mu_tree::{
+    Branch, Clause, Equation, Expr, FlatBranch, FlatClause, FlatEquation, FlatModel, FlatRole,
+    FlatStatement, FlatVar, Model, Ref, Statement,
+};
 use std::alloc::Global;
 use std::collections::BTreeMap;
 

@@ -1,2 +1,3 @@
+pub mod Prelude
 -- the definitions of the contract of `finish`
 pub mod FinalStatuses

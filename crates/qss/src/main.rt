@@ -4,13 +4,7 @@
 #![tactic(auto)]
 
 ghost use Rattle.std.specs.Prelude.{◌≡◌, ◌≢◌, ◌⊎◌, [], ◌<◌, ◌≤◌, false, map, IfOk, OnOk, OnErr};
-ghost use Rattle.std.specs.Io.KnownBytes.{Appends};
-ghost use Rattle.mu_io.specs.Events.{taken};
-ghost use Rattle.mu_io.specs.FaultCounts.{HasOneMoreFault};
-ghost use Rattle.mu_io.specs.Readings.{readings};
-ghost use Rattle.mu_io.specs.Sinks.{AppendsPrefix};
-ghost use Rattle.qss_cli.specs.Commands.{command_of};
-ghost use Rattle.qss_top.specs.Sessions.{IsAccepted, IsSession, seen};
+ghost use Rattle.qss.specs.Prelude.{Appends, taken, HasOneMoreFault, readings, AppendsPrefix, command_of, IsAccepted, IsSession, seen};
 ghost use Rattle.qss.specs.FinalStatuses.{IsFinalStatus, IsStatusAfter, line_of};
 
 use mu_io::{Fault, FileShelf, LoggedWriter, Sink, StdSink, WriteErr, write_all};

@@ -1,11 +1,7 @@
 //! Reads the certificate of a machine from bytes, and checks it.
 
 ghost use Rattle.std.specs.Prelude.{◌≤◌, length, IfOk, OnOk, IfErr};
-ghost use Rattle.cert_check.specs.CertificateData.{certificate_data};
-ghost use Rattle.cert_check.specs.CheckVerdicts.{IsVerdict};
-ghost use Rattle.cert_check.specs.Scope.{IsInScope};
-ghost use Rattle.cert_check.specs.Systems.{system_of};
-ghost use Rattle.cert_check.specs.declared.inequality_checker.Verdict.TheVariants.{Accepted};
+ghost use Rattle.qss_answers.specs.Prelude.{certificate_data, IsVerdict, IsInScope, system_of, Accepted};
 ghost use Rattle.qss_answers.specs.Answers.{refused};
 ghost use Rattle.qss_answers.specs.CertificateAnswers.{limit, IsCertified, IsRead, RefusesBy};
 

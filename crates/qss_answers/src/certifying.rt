@@ -1,16 +1,12 @@
 //! Checks a certificate and writes its bounds. The text has a line for each state, with the largest
 //! distance of two runs in levels.
 
-ghost use Rattle.std.specs.Prelude.{◌≡◌, ℕ, List, ◌++◌, ◌∷◌, [], map};
-ghost use Rattle.std.specs.Prelude.{IfOk, IfErr, OnOk};
-ghost use Rattle.std.specs.Io.KnownBytes.{Appends};
-ghost use Rattle.cert_check.specs.declared.certificate.Certificate.{Certificate};
-ghost use Rattle.qss_answers.specs.BoundTexts as Bounds;
-ghost use Rattle.qss_answers.specs.Answers.{written, EndsWithoutText, Ends};
-ghost use Rattle.qss_answers.specs.CertificateAnswers.{HasNoBounds, IsCertification};
-ghost use Rattle.qss_answers.specs.CertificateAnswers.{IsCertified};
+ghost use Rattle.std.specs.Prelude.{◌≡◌, ◌++◌, ◌∷◌, [], ℕ, List, map, IfOk, IfErr, OnOk};
+ghost use Rattle.qss_answers.specs.Prelude.{Appends, Certificate, default_writer, row_text};
 ghost use Rattle.qss_answers.specs.AcceptedBounds.{IsSoundCertification};
-ghost use Rattle.csv.specs.Writing.{default_writer, row_text};
+ghost use Rattle.qss_answers.specs.Answers.{written, EndsWithoutText, Ends};
+ghost use Rattle.qss_answers.specs.CertificateAnswers.{HasNoBounds, IsCertification, IsCertified};
+ghost use Rattle.qss_answers.specs.BoundTexts as Bounds;
 
 use crate::answer_result::AnswerResult;
 use crate::answer_writing::write_answer;

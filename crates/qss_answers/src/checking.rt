@@ -1,14 +1,10 @@
 //! Checks a trace from its bytes and writes the summary of a legitimate run.
 
 ghost use Rattle.std.specs.Prelude.{◌≡◌, IfOk, IfErr};
-ghost use Rattle.std.specs.Io.KnownBytes.{Appends};
-ghost use Rattle.qss_machine.specs.Machines.{state_count};
-ghost use Rattle.qss_trace.specs.TraceTexts.{IsTextOf};
-ghost use Rattle.qss_trace.specs.Trace.{IsRunOf};
-ghost use Rattle.qss_trace.specs.declared.trace.Trace.{Trace};
+ghost use Rattle.qss_answers.specs.Prelude.{Appends, state_count, IsTextOf, IsRunOf, Trace};
 ghost use Rattle.qss_answers.specs.Answers.{written, EndsWithoutText, Ends};
-ghost use Rattle.qss_answers.specs.TraceAnswers as Spec;
 ghost use Rattle.qss_answers.specs.TraceAnswers.{IsRead, IsChecked};
+ghost use Rattle.qss_answers.specs.TraceAnswers as Spec;
 
 use crate::answer_result::AnswerResult;
 use crate::answer_writing::write_answer;

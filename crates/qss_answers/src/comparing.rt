@@ -2,9 +2,9 @@
 //! of the difference of the runs with its bound.
 
 ghost use Rattle.std.specs.Prelude.{◌≡◌, IfOk, IfErr, ℤ};
-ghost use Rattle.qss_machine.specs.Machines.{state_count};
-ghost use Rattle.qss_answers.specs.Comparisons as Spec;
+ghost use Rattle.qss_answers.specs.Prelude.{state_count};
 ghost use Rattle.qss_answers.specs.Comparisons.{IfMemory, IsComparable, IsCompared, IsComparisonRefused, MayStop};
+ghost use Rattle.qss_answers.specs.Comparisons as Spec;
 
 use crate::comparison_basis::Basis;
 use crate::comparison_ending::ComparisonStop;

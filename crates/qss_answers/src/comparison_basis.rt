@@ -2,16 +2,10 @@
 //! and have the start of the machine.
 
 ghost use Rattle.std.specs.Prelude.{◌≡◌, ◌↔◌, ◌⊎◌, IsTrue, IfOk, OnOk, IfErr, length};
-ghost use Rattle.qss_machine.specs.Machines.{state_count, start_states};
-ghost use Rattle.cert_check.specs.CertificateData.{certificate_data};
-ghost use Rattle.cert_check.specs.CheckVerdicts.{IsVerdict};
-ghost use Rattle.cert_check.specs.Scope.{IsInScope};
-ghost use Rattle.cert_check.specs.Systems.{system_of};
-ghost use Rattle.cert_check.specs.declared.inequality_checker.Verdict.TheVariants.{Accepted};
+ghost use Rattle.qss_answers.specs.Prelude.{state_count, start_states, certificate_data, IsVerdict, IsInScope, system_of, Accepted};
 ghost use Rattle.qss_answers.specs.Answers.{refused};
 ghost use Rattle.qss_answers.specs.CertificateAnswers.{IsCertified};
-ghost use Rattle.qss_answers.specs.Comparisons.{HasStart, IsUsableCertificate};
-ghost use Rattle.qss_answers.specs.Comparisons.{IsUnusableCertificate, MayStop};
+ghost use Rattle.qss_answers.specs.Comparisons.{HasStart, IsUsableCertificate, IsUnusableCertificate, MayStop};
 
 use crate::answer_result::AnswerResult;
 use crate::certificate_reading::{CertificateText, judge, read_for};

@@ -1,10 +1,8 @@
 //! The traces of the two runs of a comparison: the machine's own runs, or a trace in given bytes.
 
 ghost use Rattle.std.specs.Prelude.{◌≡◌, ◌≤◌, ℕ, length, None, IfOk, IfErr, IfSome};
+ghost use Rattle.qss_answers.specs.Comparisons.{first_order, second_order, traced, HasQuanta, IfMemory, IsFirstAbove, IsRunTrace, HasNoRunTrace, MayStop, TakesMemory};
 ghost use Rattle.qss_answers.specs.TraceAnswers.{limit};
-ghost use Rattle.qss_answers.specs.Comparisons.{first_order, second_order, traced};
-ghost use Rattle.qss_answers.specs.Comparisons.{HasQuanta, IfMemory, IsFirstAbove, IsRunTrace};
-ghost use Rattle.qss_answers.specs.Comparisons.{HasNoRunTrace, MayStop, TakesMemory};
 
 use crate::answer_result::AnswerResult;
 use crate::comparison_basis::Basis;

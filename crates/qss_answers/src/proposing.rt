@@ -1,8 +1,7 @@
 //! Proposes a certificate of a machine and writes its text.
 
 ghost use Rattle.std.specs.Prelude.{◌≡◌, ℕ, List, IfOk, IfErr};
-ghost use Rattle.std.specs.Io.KnownBytes.{Appends};
-ghost use Rattle.cert_check.specs.declared.certificate.Certificate.{Certificate};
+ghost use Rattle.qss_answers.specs.Prelude.{Appends, Certificate};
 ghost use Rattle.qss_answers.specs.Answers.{written, EndsWithoutText, Ends};
 ghost use Rattle.qss_answers.specs.ProposalAnswers.{answer_of, IsProposed};
 ghost use Rattle.qss_answers.specs.ProposedBounds.{IsSoundProposal};

@@ -1,10 +1,8 @@
 //! Reads the trace of a machine from bytes, and checks that it is a legitimate run.
 
 ghost use Rattle.std.specs.Prelude.{◌≡◌, ◌≤◌, [], length, IfOk, OnOk, IfErr};
-ghost use Rattle.qss_machine.specs.Machines.{state_count};
-ghost use Rattle.cert_check.specs.Scope.{IsInScope};
+ghost use Rattle.qss_answers.specs.Prelude.{state_count, IsInScope, Legitimate};
 ghost use Rattle.qss_trace.specs.TraceVerdicts.{IsVerdict};
-ghost use Rattle.qss_trace.specs.declared.trace_checker.TraceVerdict.TheVariants.{Legitimate};
 ghost use Rattle.qss_answers.specs.TraceAnswers.{limit, IsRead, IsAccepted, IsBrokenBy, RefusesBy};
 
 use crate::answer_result::AnswerResult;

@@ -1,16 +1,10 @@
 //! Defines the command line for the library `clap`, and reads operands, options and numbers from
 //! the parsed arguments.
 
-ghost use Rattle.std.specs.Prelude.{◌≡◌, ◌≢◌, true, false, map, None, IfOk, IfSome, MatchOption};
-ghost use Rattle.std.specs.Prelude.{MatchResult, option_map, codes, ◌≤◌, length};
-ghost use Rattle.clap.specs.Words.{app_of, found_of, rows_of, all_of, first_of};
+ghost use Rattle.std.specs.Prelude.{◌≡◌, ◌≢◌, ◌≤◌, true, false, map, None, IfOk, IfSome, MatchOption, MatchResult, option_map, codes, length};
+ghost use Rattle.qss_cli.specs.Prelude.{app_of, found_of, rows_of, all_of, first_of, is_given, is_ascii_digit, list_all, digits_value, variable_limit, relative_limit};
 ghost use Rattle.qss_cli.specs.CommandLine as LineSpec;
-ghost use Rattle.clap.specs.Takes.{is_given};
 ghost use Rattle.qss_cli.specs.Verbs as VerbSpec;
-ghost use Rattle.std.specs.Char.{is_ascii_digit};
-ghost use Rattle.std.specs.List.{list_all};
-ghost use Rattle.std.specs.Str.Parse.{digits_value};
-ghost use Rattle.mu_num.specs.Limits.{variable_limit, relative_limit};
 ghost use Rattle.qss_cli.specs.NumberWords as NumberSpec;
 
 use clap::error::ErrorKind;

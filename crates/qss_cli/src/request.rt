@@ -1,7 +1,7 @@
 //! Requests: the valid commands of the command line.
 
 ghost use Rattle.std.specs.Prelude.{◌≤◌};
-ghost use Rattle.mu_num.specs.Limits.{variable_limit, relative_limit};
+ghost use Rattle.qss_cli.specs.Prelude.{variable_limit, relative_limit};
 ghost use Rattle.qss_cli.specs.RelativeQuanta.{share_of_task};
 
 use qss_quant::Rule;

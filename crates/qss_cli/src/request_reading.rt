@@ -1,11 +1,10 @@
 //! Converts the parsed arguments to a request. Each verb has its own operands and its own options.
 
 ghost use Rattle.std.specs.Prelude.{◌≡◌, ◌≤◌, Some, map, option_map, IfOk, IfSome};
-ghost use Rattle.mu_num.specs.Limits.{relative_limit};
-ghost use Rattle.clap.specs.Words.{found_of, rows_of};
-ghost use Rattle.qss_cli.specs.Commands as Spec;
-ghost use Rattle.qss_cli.specs.Requests.{command_in, command_on, command_with, options_in, side_in};
+ghost use Rattle.qss_cli.specs.Prelude.{relative_limit, found_of, rows_of};
 ghost use Rattle.qss_cli.specs.RelativeQuanta.{share_of_task};
+ghost use Rattle.qss_cli.specs.Requests.{command_in, command_on, command_with, options_in, side_in};
+ghost use Rattle.qss_cli.specs.Commands as Spec;
 
 use crate::arguments::{
     argument_value, match_arguments, operand_arguments, parse_cells_argument, parse_seed_argument,

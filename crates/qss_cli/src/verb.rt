@@ -1,7 +1,7 @@
 //! The verbs of the command line, and the options that each verb allows.
 
 ghost use Rattle.std.specs.Prelude.{◌≡◌};
-ghost use Rattle.clap.specs.Words.{found_of, rows_of};
+ghost use Rattle.qss_cli.specs.Prelude.{found_of, rows_of};
 ghost use Rattle.qss_cli.specs.Verbs as Spec;
 
 use crate::arguments::{has_no_arguments, has_run_arguments};

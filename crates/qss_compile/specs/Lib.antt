@@ -1,3 +1,5 @@
+pub mod Words
+pub mod Prelude
 -- for theorems and callers
 pub mod Causes
 pub mod Phases

@@ -2,14 +2,10 @@
 //! first phase that rejects the source.
 
 ghost use Rattle.std.specs.Prelude.{◌≡◌, ◌≤◌, length, map, IfOk, IfErr};
-ghost use Rattle.mu_num.specs.Limits.{model_length_limit};
-ghost use Rattle.mu_causal.specs.Dependencies.{IsNumbered};
-ghost use Rattle.mu_tree.specs.FlatExpression.{flat_model};
-ghost use Rattle.mu_tree.specs.FlatModels.{IsFlatModel};
-ghost use Rattle.mu_tree.specs.ModelTree.{model};
-ghost use Rattle.qss_compile.specs.Compilation as Spec;
-ghost use Rattle.qss_compile.specs.Flats.{flat_source};
+ghost use Rattle.qss_compile.specs.Prelude.{model_length_limit, IsNumbered, flat_model, IsFlatModel, model};
 ghost use Rattle.qss_compile.specs.Causes.{with_names, without_names};
+ghost use Rattle.qss_compile.specs.Flats.{flat_source};
+ghost use Rattle.qss_compile.specs.Compilation as Spec;
 
 use crate::model_refusal::{ModelErr, Refused};
 use mu_affine::{normal, to_machine};

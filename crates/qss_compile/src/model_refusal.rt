@@ -2,9 +2,9 @@
 //! error and its fields.
 
 ghost use Rattle.std.specs.Prelude.{◌≡◌, ◌++◌, ◌∷◌, [], map, codes, decimal, IfOk, OnOk};
-ghost use Rattle.std.specs.Fmt.{signed_decimal};
+ghost use Rattle.qss_compile.specs.Prelude.{signed_decimal};
+ghost use Rattle.qss_compile.specs.Words.{field_text, without_names};
 ghost use Rattle.qss_compile.specs.RefusalLines as Spec;
-ghost use Rattle.qss_compile.specs.Fields.{field_text};
 
 use mu_affine::{AffineErr, MachineErr};
 use mu_causal::CausalErr;
@@ -147,9 +147,6 @@ pub struct Refused {
 }
 
 impl Refused {
-    ghost use Rattle.std.specs.Prelude.{◌≡◌};
-    ghost use Rattle.qss_compile.specs.Causes.{without_names};
-
     /// Creates an error that occurs before there is a flat model.
     pub(crate) fn early_model_refusal(alloc: Global, error: ModelErr) -> Refused
         ensures { result ≡ without_names error }

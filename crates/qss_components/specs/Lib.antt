@@ -1,3 +1,4 @@
+pub mod Prelude
 pub mod Messages
 pub mod Integrators
 pub mod FunctionInputs

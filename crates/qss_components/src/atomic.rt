@@ -1,14 +1,12 @@
 //! Atomic DEVS models: their messages, their transitions at a tick, and the least time advance of
 //! several models.
 
-ghost use Rattle.std.specs.Prelude.{◌≡◌, ℕ, ◌<◌, Option, Some, IsSome, IfSome, ◌↔◌, true, false};
-ghost use Rattle.std.specs.Prelude.{◌≤◌, None, All, List, length, slice_index_or};
-ghost use Rattle.qss_machine.specs.declared.compiled_machine.Machine.{Machine};
-ghost use Rattle.qss_components.specs.declared.atomic.Message.{Message as Sent};
-ghost use Rattle.qss_components.specs.Messages.{IsMessage, HasSmallLevel, IsTimely, passes_limit};
-ghost use Rattle.qss_components.specs.declared.atomic.Transition.TheVariants.{Rests, ExceedsLimit};
-ghost use Rattle.qss_components.specs.declared.atomic.Transition.TheVariants.{Sends};
+ghost use Rattle.std.specs.Prelude.{◌≡◌, ◌<◌, ◌↔◌, ◌≤◌, ℕ, Option, Some, IsSome, IfSome, true, false, None, All, List, length, slice_index_or};
+ghost use Rattle.qss_components.specs.Prelude.{Machine};
 ghost use Rattle.qss_components.specs.ComponentPlaces.{EachAt};
+ghost use Rattle.qss_components.specs.Messages.{IsMessage, HasSmallLevel, IsTimely, passes_limit};
+ghost use Rattle.qss_components.specs.declared.atomic.Message.{Message as Sent};
+ghost use Rattle.qss_components.specs.declared.atomic.Transition.TheVariants.{Rests, ExceedsLimit, Sends};
 
 use mu_num::{LEVEL_BITS, SLOPE_BITS, exceeds_power_of_two};
 

@@ -1,17 +1,10 @@
 //! Crossings: the conditions of a machine as components. A crossing stores the inputs of its form
 //! with their lines, and detects the ticks at which its condition changes.
 
-ghost use Rattle.std.specs.Prelude.{◌≡◌, ℕ, ◌<◌, ◌+◌, ◌^◌, map, All, Some, ◌||◌, ◌==◌, ◌*◌, ◌≤◌};
-ghost use Rattle.std.specs.Prelude.{◌*ℤ◌, unsigned_abs, sum_by};
-ghost use Rattle.mu_num.specs.Sizes.{IsWithin};
-ghost use Rattle.qss_machine.specs.Machines.{state_count, discrete_count, level_unit};
-ghost use Rattle.qss_cross.specs.Crossing.{value_at, IsSmall};
+ghost use Rattle.std.specs.Prelude.{◌≡◌, ◌<◌, ◌+◌, ◌^◌, ◌||◌, ◌==◌, ◌*◌, ◌≤◌, ◌*ℤ◌, ℕ, map, All, Some, unsigned_abs, sum_by};
+ghost use Rattle.qss_components.specs.Prelude.{IsWithin, state_count, discrete_count, level_unit, value_at, IsSmall, sum_over, tick_limit, IsState, IsSlope};
+ghost use Rattle.qss_components.specs.Crossings.{IsCrossingNext, input_at, input_after_message, form_at, speed_by, IsInput, StaysIfDiscrete, AreParts, entry_of};
 ghost use Rattle.qss_components.specs.Messages.{IsMessage};
-ghost use Rattle.qss_components.specs.Crossings.{IsCrossingNext, input_at, input_after_message};
-ghost use Rattle.qss_components.specs.Crossings.{form_at, speed_by, IsInput, StaysIfDiscrete};
-ghost use Rattle.qss_components.specs.Crossings.{AreParts, entry_of};
-ghost use Rattle.mu_num.specs.IndexedSums.{sum_over};
-ghost use Rattle.mu_num.specs.Limits.{tick_limit, IsState, IsSlope};
 
 use crate::atomic::{Atomic, Message};
 use qss_cross::Detector;
@@ -43,10 +36,10 @@ pub struct CrossingModel {
 
 impl Atomic for CrossingModel {
     ghost use Rattle.std.specs.Prelude.{◌≡◌, ℕ, Option, Some};
-    ghost use Rattle.qss_cross.specs.Crossing.{holds_at};
-    ghost use Rattle.qss_components.specs.declared.atomic.Message.TheVariants.{Truth};
-    ghost use Rattle.qss_components.specs.Crossings.{IsCrossingNext, crossing_after_transition, crossing_after_message, AreSmallAt};
+    ghost use Rattle.qss_components.specs.Prelude.{holds_at};
     ghost use Rattle.qss_components.specs.ComponentModels.{crossing_of};
+    ghost use Rattle.qss_components.specs.Crossings.{IsCrossingNext, crossing_after_transition, crossing_after_message, AreSmallAt};
+    ghost use Rattle.qss_components.specs.declared.atomic.Message.TheVariants.{Truth};
 
     ghost part_of = { λ c. c.machine.value };
 

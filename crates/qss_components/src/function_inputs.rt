@@ -1,14 +1,10 @@
 //! The inputs of a function: the variables that its row reads, with their current values.
 
-ghost use Rattle.std.specs.Prelude.{◌≡◌, ◌≢◌, ◌<◌, ℕ, length, All, slice_index_or, MatchOption};
-ghost use Rattle.std.specs.Prelude.{◌&&◌, ◌==◌, if◌then◌else◌};
-ghost use Rattle.mu_num.specs.Limits.{IsLevel};
-ghost use Rattle.qss_machine.specs.Machines.{row_at};
-ghost use Rattle.qss_machine.specs.Readers.{row_reads};
-ghost use Rattle.qss_components.specs.Messages.{IsMessage};
+ghost use Rattle.std.specs.Prelude.{◌≡◌, ◌≢◌, ◌<◌, ◌&&◌, ◌==◌, if◌then◌else◌, ℕ, length, All, slice_index_or, MatchOption};
+ghost use Rattle.qss_components.specs.Prelude.{IsLevel, row_at, row_reads};
+ghost use Rattle.qss_components.specs.FunctionInputs.{input_value, input_levels, input_discretes, AreValued, AreInputs};
 ghost use Rattle.qss_components.specs.Functions.{levels_after_message, discretes_after_message};
-ghost use Rattle.qss_components.specs.FunctionInputs.{input_value, input_levels, input_discretes};
-ghost use Rattle.qss_components.specs.FunctionInputs.{AreValued, AreInputs};
+ghost use Rattle.qss_components.specs.Messages.{IsMessage};
 
 use crate::atomic::Message;
 use qss_machine::Machine;

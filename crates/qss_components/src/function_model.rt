@@ -2,9 +2,9 @@
 //! changes.
 
 ghost use Rattle.std.specs.Prelude.{◌≡◌, ◌<◌};
-ghost use Rattle.qss_machine.specs.Machines.{state_count};
-ghost use Rattle.qss_components.specs.Functions.{sum_at, change_by};
+ghost use Rattle.qss_components.specs.Prelude.{state_count};
 ghost use Rattle.qss_components.specs.FunctionInputs.{AreInputs, input_levels, input_discretes};
+ghost use Rattle.qss_components.specs.Functions.{sum_at, change_by};
 
 use crate::atomic::{Atomic, Message};
 use crate::function_inputs::{FunctionInput, receive_input};
@@ -43,9 +43,9 @@ impl FunctionModel {
 
 impl Atomic for FunctionModel {
     ghost use Rattle.std.specs.Prelude.{◌≡◌, ℕ, Option, Some};
-    ghost use Rattle.qss_components.specs.declared.atomic.Message.TheVariants.{Slope};
-    ghost use Rattle.qss_components.specs.Functions.{sum_of, summing_sent, function_after_message};
     ghost use Rattle.qss_components.specs.ComponentModels.{function_state_of};
+    ghost use Rattle.qss_components.specs.Functions.{sum_of, summing_sent, function_after_message};
+    ghost use Rattle.qss_components.specs.declared.atomic.Message.TheVariants.{Slope};
 
     ghost part_of = { λ s. s.machine.value };
 

@@ -1,18 +1,10 @@
 //! The sum of a function: the slope of its row at its inputs, or a number beyond all slopes if a
 //! limit is exceeded.
 
-ghost use Rattle.std.specs.Prelude.{◌≡◌, ◌<◌, ◌+◌, ◌-◌, ◌^◌, ◌≤◌, ◌*ℤ◌, length, All, pos};
-ghost use Rattle.std.specs.Prelude.{unsigned_abs};
-ghost use Rattle.mu_num.specs.Sizes.{IsWithin};
-ghost use Rattle.mu_num.specs.Rounding.{nearest_of};
-ghost use Rattle.mu_num.specs.IndexedSums.{int_at};
-ghost use Rattle.mu_num.specs.Limits.{IsLevel};
-ghost use Rattle.qss_machine.specs.Machines.{state_count, discrete_count};
-ghost use Rattle.qss_machine.specs.MachineLimits.{AreProducts, IsRow};
-ghost use Rattle.qss_machine.specs.Slopes.{products_of, mode_coefficient, coefficient_of};
+ghost use Rattle.std.specs.Prelude.{◌≡◌, ◌<◌, ◌+◌, ◌-◌, ◌^◌, ◌≤◌, ◌*ℤ◌, length, All, pos, unsigned_abs};
+ghost use Rattle.qss_components.specs.Prelude.{IsWithin, nearest_of, int_at, IsLevel, state_count, discrete_count, AreProducts, IsRow, products_of, mode_coefficient, coefficient_of};
+ghost use Rattle.qss_components.specs.FunctionInputs.{input_value, input_levels, input_discretes, AreValued, AreInputs};
 ghost use Rattle.qss_components.specs.Functions.{sum_at};
-ghost use Rattle.qss_components.specs.FunctionInputs.{input_value, input_levels, input_discretes};
-ghost use Rattle.qss_components.specs.FunctionInputs.{AreValued, AreInputs};
 
 use crate::function_inputs::{FunctionInput, value_of_input};
 use mu_num::{WEIGHT_BITS, exceeds_power_of_two, near_div, unit};

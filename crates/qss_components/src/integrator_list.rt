@@ -1,12 +1,12 @@
 //! Integrators by their numbers: their messages, their transitions, and the least tick of their
 //! next transitions.
 
-ghost use Rattle.std.specs.Prelude.{◌≡◌, ℕ, ◌<◌, ◌≤◌, length, All, List, Option, Some, None, slice_index_or, slice_set};
-ghost use Rattle.qss_quant.specs.declared.quantizer.Rule.{Rule};
-ghost use Rattle.qss_components.specs.Messages.{IsMessage, IsTimely};
-ghost use Rattle.qss_components.specs.Integrators.{IsLineNext};
+ghost use Rattle.std.specs.Prelude.{◌≡◌, ◌<◌, ◌≤◌, ℕ, length, All, List, Option, Some, None, slice_index_or, slice_set};
+ghost use Rattle.qss_components.specs.Prelude.{Rule};
 ghost use Rattle.qss_components.specs.ComponentModels.{IsGivenLine};
 ghost use Rattle.qss_components.specs.ComponentPlaces.{EachAt};
+ghost use Rattle.qss_components.specs.Integrators.{IsLineNext};
+ghost use Rattle.qss_components.specs.Messages.{IsMessage, IsTimely};
 ghost use Rattle.qss_components.specs.Transitions.{IsTransitionMade};
 
 use crate::atomic::{Atomic, Message, Transition, least_advance, make_transition};

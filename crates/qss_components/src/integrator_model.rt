@@ -1,16 +1,10 @@
 //! Quantized integrators: the states of a machine as components. An integrator moves along a line
 //! and sends its new level when it leaves its quantum.
 
-ghost use Rattle.std.specs.Prelude.{◌≡◌, ◌<◌, ◌≤◌, ℕ, Option, Some, pos, ◌-ℤ◌, ◌*ℤ◌, unsigned_abs, int_lt};
-ghost use Rattle.mu_num.specs.Sizes.{IsWithin, IsPositiveWithin};
-ghost use Rattle.mu_num.specs.Levels.{IsWithinOneLevel};
-ghost use Rattle.mu_num.specs.Limits.{IsLevel, IsQuantum, IsState, IsSlope};
-ghost use Rattle.qss_machine.specs.Machines.{state_count, level_unit};
-ghost use Rattle.qss_machine.specs.Ticks.{is_within_quantum};
-ghost use Rattle.qss_quant.specs.IntegratorLines.{state_at};
-ghost use Rattle.qss_quant.specs.LevelRules.{IsAnswer};
-ghost use Rattle.qss_components.specs.Messages.{IsMessage, IsTimely};
+ghost use Rattle.std.specs.Prelude.{◌≡◌, ◌<◌, ◌≤◌, ◌-ℤ◌, ◌*ℤ◌, ℕ, Option, Some, pos, unsigned_abs, int_lt};
+ghost use Rattle.qss_components.specs.Prelude.{IsWithin, IsPositiveWithin, IsWithinOneLevel, IsLevel, IsQuantum, IsState, IsSlope, state_count, level_unit, is_within_quantum, state_at, IsAnswer};
 ghost use Rattle.qss_components.specs.Integrators.{IsLineNext, line_moved, line_told};
+ghost use Rattle.qss_components.specs.Messages.{IsMessage, IsTimely};
 
 use crate::atomic::{Atomic, Message};
 use qss_events::{event_tick_leaving_level, requantize_level};

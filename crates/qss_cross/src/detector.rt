@@ -1,10 +1,8 @@
 //! Zero-crossing detectors: a value that changes at a constant speed is compared with 0. A detector
 //! computes the next tick at which the truth of the comparison changes.
 
-ghost use Rattle.std.specs.Prelude.{◌≡◌, ◌≢◌, ◌^◌, ◌≤◌, pos, ◌+ℤ◌, ◌*ℤ◌, ◌≤ℤ◌, int_le};
-ghost use Rattle.mu_num.specs.Ticks.{FirstAfter};
-ghost use Rattle.mu_num.specs.Limits.{tick_limit};
-ghost use Rattle.std.specs.Int.{w128, int_wrap};
+ghost use Rattle.std.specs.Prelude.{◌≡◌, ◌≢◌, ◌^◌, ◌≤◌, ◌+ℤ◌, ◌*ℤ◌, ◌≤ℤ◌, pos, int_le};
+ghost use Rattle.qss_cross.specs.Prelude.{FirstAfter, tick_limit, w128, int_wrap};
 ghost use Rattle.qss_cross.specs.Crossing.{IsSmall, bound_of, CrossesOnce};
 
 use mu_num::{first_tick_beyond, ticks_after};
@@ -35,8 +33,7 @@ impl Model for Detector {
 
 impl Detector {
     ghost use Rattle.std.specs.Prelude.{◌≡◌, ◌≢◌, ◌≤◌, ◌^◌};
-    ghost use Rattle.mu_num.specs.Ticks.{FirstAfter};
-    ghost use Rattle.qss_machine.specs.Machines.{compares};
+    ghost use Rattle.qss_cross.specs.Prelude.{FirstAfter, compares};
     ghost use Rattle.qss_cross.specs.Crossing.{IsSmall, value_at, holds_at};
 
     /// Whether the comparison with 0 holds at the tick of the detector.

@@ -1,3 +1,4 @@
+pub mod Prelude
 pub mod Starts
 pub mod Coupling
 pub mod CoupledSteps

@@ -1,24 +1,11 @@
 //! The states and the truth values of conditions on arrival at a tick, and the truth values after
 //! the handlers of the tick.
 
-ghost use Rattle.std.specs.Prelude.{◌≡◌, ℕ, ◌<◌, ◌≤◌, Bool, length, map, All, Some};
-ghost use Rattle.std.specs.Prelude.{slice_index_or};
-ghost use Rattle.qss_machine.specs.Machines.{compares};
-ghost use Rattle.mu_num.specs.IndexedSums.{int_at, first_exceeding};
-ghost use Rattle.qss_machine.specs.Handlers.{conditions};
-ghost use Rattle.mu_num.specs.ListedPlaces.{flag_at};
-ghost use Rattle.mu_num.specs.Limits.{variable_limit, tick_limit, bits_of_state};
-ghost use Rattle.qss_quant.specs.IntegratorLines.{state_at};
-ghost use Rattle.qss_cross.specs.Crossing.{holds_at};
-ghost use Rattle.qss_components.specs.Messages.{IsTimely};
-ghost use Rattle.qss_components.specs.declared.crossing_model.CrossingModel.{CrossingModel};
-ghost use Rattle.qss_components.specs.declared.atomic.Message.TheVariants.{Truth};
-ghost use Rattle.qss_components.specs.Crossings.{IsCrossingNext, IsRead};
-ghost use Rattle.qss_components.specs.ComponentModels.{crossing_of};
-ghost use Rattle.qss_components.specs.Agreement.{Values};
-ghost use Rattle.qss_devs.specs.Coupling.{crossing_at, AreComponents};
-ghost use Rattle.qss_devs.specs.CoupledSteps.{Agrees};
+ghost use Rattle.std.specs.Prelude.{◌≡◌, ◌<◌, ◌≤◌, ℕ, Bool, length, map, All, Some, slice_index_or};
+ghost use Rattle.qss_devs.specs.Prelude.{compares, int_at, first_exceeding, conditions, flag_at, variable_limit, tick_limit, bits_of_state, state_at, holds_at, IsTimely, CrossingModel, Truth, IsCrossingNext, IsRead, crossing_of, Values};
 ghost use Rattle.qss_devs.specs.CoupledEvents.{CrossingsLater};
+ghost use Rattle.qss_devs.specs.CoupledSteps.{Agrees};
+ghost use Rattle.qss_devs.specs.Coupling.{crossing_at, AreComponents};
 
 use crate::coupled_messages::Components;
 use crate::coupled_start::Truths;

@@ -1,16 +1,9 @@
 //! Runs the handlers of a tick: in each clause the first due branch fires.
 
 ghost use Rattle.std.specs.Prelude.{◌≡◌, ◌+◌, ◌<◌, ◌≤◌, [], length, All, position};
-ghost use Rattle.mu_num.specs.ListedPlaces.{flag_at};
-ghost use Rattle.mu_num.specs.Limits.{condition_limit};
-ghost use Rattle.qss_machine.specs.Handlers.{conditions, firing_flags, run_first_due, run_clauses};
-ghost use Rattle.qss_hand.specs.Rooms.{clause_room};
-ghost use Rattle.qss_hand.specs.Works.{AreValuesOf, handling_of, values_after, overflow_of};
-ghost use Rattle.qss_hand.specs.Works.{clause_at, row_room, branch_at};
-ghost use Rattle.qss_devs.specs.Flags.{flags_from};
+ghost use Rattle.qss_devs.specs.Prelude.{flag_at, condition_limit, conditions, firing_flags, run_first_due, run_clauses, clause_room, AreValuesOf, handling_of, values_after, overflow_of, clause_at, row_room, branch_at, IsForm, state_count, discrete_count};
 ghost use Rattle.qss_devs.specs.CoupledSteps.{IsToldMessage};
-ghost use Rattle.qss_machine.specs.MachineLimits.{IsForm};
-ghost use Rattle.qss_machine.specs.Machines.{state_count, discrete_count};
+ghost use Rattle.qss_devs.specs.Flags.{flags_from};
 
 use qss_hand::{Over, Work, fire};
 use qss_machine::{Condition, Machine};

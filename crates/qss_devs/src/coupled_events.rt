@@ -1,29 +1,13 @@
 //! Steps a coupled model from one event to the next: event-free ticks, and then one tick that may
 //! have an event. It also adds the rows at the start and at the end.
 
-ghost use Rattle.std.specs.Prelude.{◌≡◌, ◌+◌, ◌<◌, ◌≤◌, All, None, length, map, vec_capacity};
-ghost use Rattle.std.specs.Prelude.{◌++◌, vec_len, ℕ, Option, Some, List, if◌then◌else◌};
-ghost use Rattle.mu_num.specs.IndexedSums.{first_exceeding};
-ghost use Rattle.mu_num.specs.Limits.{variable_limit, tick_limit, bits_of_state};
-ghost use Rattle.qss_machine.specs.Ticks.{Snapshot, snapshot_unless, handlers_at, IsStep};
-ghost use Rattle.qss_machine.specs.Runs.{tick_rows, state_rows, discrete_rows, snapshot_rows};
-ghost use Rattle.qss_machine.specs.Runs.{last_snapshot};
-ghost use Rattle.qss_quant.specs.IntegratorLines.{state_at};
-ghost use Rattle.qss_events.specs.AllowedLevels.{IsAllowedLevel};
-ghost use Rattle.qss_devs.specs.CoupledSteps.{IsNamed};
+ghost use Rattle.std.specs.Prelude.{◌≡◌, ◌+◌, ◌<◌, ◌≤◌, ◌++◌, if◌then◌else◌, All, None, length, map, vec_capacity, vec_len, ℕ, Option, Some, List};
+ghost use Rattle.qss_devs.specs.Prelude.{first_exceeding, variable_limit, tick_limit, bits_of_state, Snapshot, snapshot_unless, handlers_at, IsStep, tick_rows, state_rows, discrete_rows, snapshot_rows, last_snapshot, state_at, IsAllowedLevel, IsNext, tick_of, end_of, state_count, conditions, HasNoEventBefore, IsLineNext, IsCrossingNext, AreNext, AreEventFree, IsVisit};
 ghost use Rattle.qss_devs.specs.CoupledEvents.{snapshot_of, StoreRepresents, IsAfterHandlers};
-ghost use Rattle.qss_machine.specs.declared.machine_parts.RowKind.TheVariants as kind;
-ghost use Rattle.qss_events.specs.Events.{IsNext};
-ghost use Rattle.qss_events.specs.Outcomes.{tick_of, end_of};
+ghost use Rattle.qss_devs.specs.CoupledSteps.{IsNamed};
 ghost use Rattle.qss_devs.specs.CoupledViews.{view_of};
-ghost use Rattle.qss_machine.specs.Machines.{state_count};
-ghost use Rattle.qss_machine.specs.Handlers.{conditions};
-ghost use Rattle.qss_events.specs.Schedules.{HasNoEventBefore};
-ghost use Rattle.qss_components.specs.Integrators.{IsLineNext};
-ghost use Rattle.qss_components.specs.Crossings.{IsCrossingNext};
-ghost use Rattle.qss_components.specs.Agreement.{AreNext};
 ghost use Rattle.qss_devs.specs.Coupling.{line_at, crossing_at};
-ghost use Rattle.qss_events.specs.EventFreeRuns.{AreEventFree, IsVisit};
+ghost use Rattle.qss_machine.specs.declared.machine_parts.RowKind.TheVariants as kind;
 
 use crate::coupled_arrivals::{
     compute_arrival_states, read_crossings_on_arrival, settle_arrival_truths,

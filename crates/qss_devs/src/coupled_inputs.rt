@@ -1,10 +1,7 @@
 //! The inputs of functions at the start: for each row, the variables that it reads.
 
-ghost use Rattle.std.specs.Prelude.{◌≡◌, ◌<◌, ◌+◌, ◌++◌, ◌∷◌, [], map, length, IfOk, replicate};
-ghost use Rattle.std.specs.Prelude.{slice_set, slice_index_or};
-ghost use Rattle.qss_machine.specs.Machines.{state_count, discrete_count};
-ghost use Rattle.qss_machine.specs.Readers.{uses_of};
-ghost use Rattle.qss_components.specs.ComponentPlaces.{EachAt};
+ghost use Rattle.std.specs.Prelude.{◌≡◌, ◌<◌, ◌+◌, ◌++◌, ◌∷◌, [], map, length, IfOk, replicate, slice_set, slice_index_or};
+ghost use Rattle.qss_devs.specs.Prelude.{state_count, discrete_count, uses_of, EachAt};
 ghost use Rattle.qss_devs.specs.Starts.{values_in, start_values, level_or_value, AreFirstInputs};
 
 use crate::coupled_start::StartValues;

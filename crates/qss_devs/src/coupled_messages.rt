@@ -1,29 +1,11 @@
 //! The components of a machine, and the delivery of messages between them. Integrators, functions
 //! and assignments of handlers send messages.
 
-ghost use Rattle.std.specs.Prelude.{◌≡◌, ◌<◌, ◌+◌, length, map, All, slice_index_or, Option};
-ghost use Rattle.std.specs.Prelude.{◌≢◌, ℕ, ◌≤◌, None, Some, vec_len, vec_capacity};
-ghost use Rattle.qss_machine.specs.Machines.{state_count, discrete_count};
-ghost use Rattle.mu_num.specs.ListedPlaces.{AreRisingBelow};
-ghost use Rattle.mu_num.specs.Writes.{IsWritten};
-ghost use Rattle.mu_num.specs.Limits.{tick_limit};
-ghost use Rattle.qss_components.specs.Messages.{IsMessage};
-ghost use Rattle.qss_components.specs.Functions.{function_after_message};
-ghost use Rattle.qss_components.specs.Crossings.{crossing_after_message};
-ghost use Rattle.qss_components.specs.ComponentModels.{function_state_of, crossing_of};
-ghost use Rattle.qss_devs.specs.Coupling.{line_at, function_state_at, crossing_at, no_summing};
-ghost use Rattle.qss_devs.specs.Coupling.{no_crossing, AreComponents, AreReady, IsSummingReady};
-ghost use Rattle.qss_devs.specs.Coupling.{IsCrossingReady, IsOfLine, IsOfLevel, IsOfDiscrete};
-ghost use Rattle.qss_devs.specs.Coupling.{HaveReceived, AreRuled, AllLinesLater};
-ghost use Rattle.qss_quant.specs.declared.quantizer.Rule.{Rule};
-ghost use Rattle.qss_components.specs.Agreement.{Values, HasEach};
-ghost use Rattle.qss_components.specs.ComponentTheorems.{values_after_row, values_after_rows};
-ghost use Rattle.qss_devs.specs.CoupledSteps.{IsToldMessage, Agrees, AreValues, IsLevelTaken};
-ghost use Rattle.qss_devs.specs.CoupledSteps.{AreTaken, IsNamed, AreWithinQuanta, IsSlopeSent};
-ghost use Rattle.qss_devs.specs.CoupledSteps.{AreSent};
+ghost use Rattle.std.specs.Prelude.{◌≡◌, ◌<◌, ◌+◌, ◌≢◌, ◌≤◌, length, map, All, slice_index_or, Option, ℕ, None, Some, vec_len, vec_capacity};
+ghost use Rattle.qss_devs.specs.Prelude.{state_count, discrete_count, AreRisingBelow, IsWritten, tick_limit, IsMessage, function_after_message, crossing_after_message, function_state_of, crossing_of, Rule, Values, HasEach, values_after_row, values_after_rows, no_line, IsLineNext};
+ghost use Rattle.qss_devs.specs.CoupledSteps.{IsToldMessage, Agrees, AreValues, IsLevelTaken, AreTaken, IsNamed, AreWithinQuanta, IsSlopeSent, AreSent};
+ghost use Rattle.qss_devs.specs.Coupling.{line_at, function_state_at, crossing_at, no_summing, no_crossing, AreComponents, AreReady, IsSummingReady, IsCrossingReady, IsOfLine, IsOfLevel, IsOfDiscrete, HaveReceived, AreRuled, AllLinesLater};
 ghost use Rattle.qss_machine.specs.declared.machine_parts.RowKind.TheVariants as kind;
-ghost use Rattle.qss_events.specs.Schedules.{no_line};
-ghost use Rattle.qss_components.specs.Integrators.{IsLineNext};
 
 use qss_components::{
     Atomic, CrossingModel, FunctionModel, IntegratorModel, Message, Transition,

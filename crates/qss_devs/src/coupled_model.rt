@@ -1,8 +1,8 @@
 //! Coupled models: a machine as a coupled DEVS model of its components, at one tick of its run.
 
 ghost use Rattle.std.specs.Prelude.{◌≡◌, ◌≤◌, true, is_some, None, IfOk};
-ghost use Rattle.qss_devs.specs.CoupledSteps.{IsNamed};
 ghost use Rattle.qss_devs.specs.CoupledEvents.{StoreRepresents};
+ghost use Rattle.qss_devs.specs.CoupledSteps.{IsNamed};
 
 use crate::coupled_events::go_to_next_rows;
 use crate::coupled_start::{Store, start_coupled_store};
@@ -28,15 +28,9 @@ pub struct Coupled {
 
 impl Coupled {
     ghost use Rattle.std.specs.Prelude.{◌≡◌, ◌++◌, None, Some, IfOk};
-    ghost use Rattle.qss_machine.specs.declared.machine_parts.RowKind.TheVariants as kind;
-    ghost use Rattle.qss_machine.specs.Ticks.{start_snapshot};
-    ghost use Rattle.qss_machine.specs.Runs.{snapshot_rows};
-    ghost use Rattle.qss_quant.specs.declared.quantizer.Rule.{Rule};
-    ghost use Rattle.qss_quant.specs.LevelRules.{level_by};
-    ghost use Rattle.qss_events.specs.AllowedLevels.{IsAllowedLevel};
-    ghost use Rattle.qss_events.specs.declared.event_outcome.Outcome.{Outcome};
-    ghost use Rattle.qss_events.specs.Events.{IsNext, rows_left};
+    ghost use Rattle.qss_devs.specs.Prelude.{start_snapshot, snapshot_rows, Rule, level_by, IsAllowedLevel, Outcome, IsNext, rows_left};
     ghost use Rattle.qss_devs.specs.CoupledViews.{view_of};
+    ghost use Rattle.qss_machine.specs.declared.machine_parts.RowKind.TheVariants as kind;
 
     /// A coupled model at tick 0, with the start rows. Allocates all memory that the run needs.
     pub fn new(alloc: Global, m: Machine, q: Quantizer) -> Result<Coupled, AllocError>

@@ -1,14 +1,8 @@
 //! Runs a coupled model as a simulation whose rows are printed event by event.
 
-ghost use Rattle.std.specs.Prelude.{◌≡◌, Some, All, ◌≢◌, true};
-ghost use Rattle.qss_quant.specs.declared.quantizer.Rule.TheVariants.{Floor};
+ghost use Rattle.std.specs.Prelude.{◌≡◌, ◌≢◌, Some, All, true};
+ghost use Rattle.qss_devs.specs.Prelude.{Floor, remaining_rows, HasVariable, Appends, AppendsPrefix, EndsByFault, run_by_rule, run_text, IsRunResult, IsRunCutShort, is_whole};
 ghost use Rattle.qss_devs.specs.CoupledViews.{view_of};
-ghost use Rattle.qss_events.specs.RemainingRows.{remaining_rows};
-ghost use Rattle.qss_rows.specs.RowTexts.{HasVariable};
-ghost use Rattle.std.specs.Io.KnownBytes.{Appends};
-ghost use Rattle.mu_io.specs.Sinks.{AppendsPrefix, EndsByFault};
-ghost use Rattle.qss_events.specs.RunTexts.{run_by_rule, run_text, IsRunResult, IsRunCutShort};
-ghost use Rattle.qss_rows.specs.Simulations.{is_whole};
 
 use crate::coupled_model::Coupled;
 use mu_io::{Name, Sink};
@@ -30,9 +24,7 @@ pub(crate) struct CoupledRun {
 
 impl Simulation for CoupledRun {
     ghost use Rattle.std.specs.Prelude.{◌-◌, None};
-    ghost use Rattle.qss_quant.specs.LevelRules.{level_by};
-    ghost use Rattle.qss_events.specs.Events.{rows_left};
-    ghost use Rattle.qss_events.specs.RemainingRows.{row_lines, remaining_run, outcome_of, EndsFrom};
+    ghost use Rattle.qss_devs.specs.Prelude.{level_by, rows_left, row_lines, remaining_run, outcome_of, EndsFrom};
 
     ghost machine = { λ run. run.model.machine.value };
 

@@ -1,29 +1,12 @@
 //! Builds the store of a coupled model at tick 0: the values of variables, the components with
 //! their lines and inputs, and the start rows.
 
-ghost use Rattle.std.specs.Prelude.{◌≡◌, ◌<◌, map, length, IfOk, ◌+◌, ◌-◌, ◌*ℤ◌, ℕ, All, None};
-ghost use Rattle.std.specs.Prelude.{nat_lt, if◌then◌else◌, false, replicate};
-ghost use Rattle.mu_num.specs.Levels.{level_below};
-ghost use Rattle.mu_num.specs.IndexedSums.{int_at, tabulate};
-ghost use Rattle.qss_machine.specs.Machines.{state_count, level_unit, slope_at, start_states};
-ghost use Rattle.qss_machine.specs.Machines.{start_discretes, discrete_count, compares};
-ghost use Rattle.qss_devs.specs.Starts.{values_in, start_values, first_line, first_input, entry_at};
-ghost use Rattle.qss_devs.specs.Starts.{IsFirstIntegrator, IsFirstFunction, IsFirstAt};
-ghost use Rattle.mu_num.specs.Limits.{IsState};
-ghost use Rattle.qss_machine.specs.MachineLimits.{IsForm};
-ghost use Rattle.qss_machine.specs.Firing.{first_place};
-ghost use Rattle.qss_machine.specs.Handlers.{conditions};
-ghost use Rattle.qss_components.specs.Crossings.{input_at, form_at, speed_by, IsInput, AreParts};
-ghost use Rattle.qss_components.specs.Crossings.{StaysIfDiscrete};
-ghost use Rattle.qss_components.specs.ComponentModels.{function_state_of, crossing_of};
-ghost use Rattle.qss_components.specs.ComponentPlaces.{EachAt};
-ghost use Rattle.qss_components.specs.FunctionInputs.{AreInputs, input_levels, input_discretes};
-ghost use Rattle.qss_machine.specs.Readers.{uses_of};
-ghost use Rattle.qss_machine.specs.declared.machine_parts.RowKind.TheVariants as kind;
-ghost use Rattle.qss_machine.specs.Runs.{snapshot_rows};
-ghost use Rattle.qss_machine.specs.Ticks.{start_snapshot};
-ghost use Rattle.qss_devs.specs.Coupling.{AreComponents};
+ghost use Rattle.std.specs.Prelude.{◌≡◌, ◌<◌, ◌+◌, ◌-◌, ◌*ℤ◌, if◌then◌else◌, map, length, IfOk, ℕ, All, None, nat_lt, false, replicate};
+ghost use Rattle.qss_devs.specs.Prelude.{level_below, int_at, tabulate, state_count, level_unit, slope_at, start_states, start_discretes, discrete_count, compares, IsState, IsForm, first_place, conditions, input_at, form_at, speed_by, IsInput, AreParts, StaysIfDiscrete, function_state_of, crossing_of, EachAt, AreInputs, input_levels, input_discretes, uses_of, snapshot_rows, start_snapshot};
 ghost use Rattle.qss_devs.specs.CoupledEvents.{snapshot_of, StoreRepresents};
+ghost use Rattle.qss_devs.specs.Coupling.{AreComponents};
+ghost use Rattle.qss_devs.specs.Starts.{values_in, start_values, first_line, first_input, entry_at, IsFirstIntegrator, IsFirstFunction, IsFirstAt};
+ghost use Rattle.qss_machine.specs.declared.machine_parts.RowKind.TheVariants as kind;
 
 use crate::coupled_arrivals::settle_all_arrival_truths;
 use crate::coupled_branches::{coupled_branch_condition, coupled_branch_count};

@@ -1,3 +1,4 @@
+pub mod Prelude
 pub mod EventFreeTicks
 pub mod Schedules
 pub mod SlopeChanges

@@ -1,9 +1,9 @@
 //! Theorems about events and event-free ticks, for every simulator that skips ticks. Each is the
 //! contract of a function with an empty body.
 
-ghost use Rattle.qss_events.specs.SlopeChanges.{SlopesFollowLevels, SlopesFollowDiscretes, LeavingChangesLevel};
 ghost use Rattle.qss_events.specs.EventFreeTicks.{SkippingIsSound, EventFreeTickIsUnique, RowsOfVisits};
 ghost use Rattle.qss_events.specs.Schedules.{NoEventBeforeDue, SchedulesHold, GoesToNextVisit, OnlyDueStatesPass};
+ghost use Rattle.qss_events.specs.SlopeChanges.{SlopesFollowLevels, SlopesFollowDiscretes, LeavingChangesLevel};
 
 /// Theorem: a simulator may skip event-free ticks.
 pub fn event_skipping_is_sound()

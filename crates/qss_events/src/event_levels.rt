@@ -1,14 +1,9 @@
 //! The tick at which a state leaves its quantum, its new level, and the initial levels.
 
-ghost use Rattle.std.specs.Prelude.{◌≡◌, ◌<◌, pos, ◌<ℤ◌, map, IfOk};
-ghost use Rattle.mu_num.specs.Sizes.{IsWithin};
-ghost use Rattle.qss_machine.specs.Machines.{state_count, level_unit, quantum_of, start_states};
-ghost use Rattle.qss_machine.specs.Ticks.{IsNextLevel};
-ghost use Rattle.qss_quant.specs.IntegratorLines.{IsLineWithinQuantum, IsAway};
+ghost use Rattle.std.specs.Prelude.{◌≡◌, ◌<◌, ◌<ℤ◌, pos, map, IfOk};
+ghost use Rattle.qss_events.specs.Prelude.{IsWithin, state_count, level_unit, quantum_of, start_states, IsNextLevel, IsLineWithinQuantum, IsAway, level_below, IsLevel};
 ghost use Rattle.qss_events.specs.AllowedLevels.{IsAllowedLevel};
 ghost use Rattle.qss_events.specs.Schedules.{IsDue};
-ghost use Rattle.mu_num.specs.Levels.{level_below};
-ghost use Rattle.mu_num.specs.Limits.{IsLevel};
 
 use mu_num::floor_div;
 use qss_machine::Machine;

@@ -1,13 +1,9 @@
 //! The outcome of a call that advances a run, and what all simulators share at an event. This is
 //! the rows of discrete variables and of overflows, and the test whether a condition became true.
 
-ghost use Rattle.std.specs.Prelude.{◌≡◌, ◌+◌, ◌<◌, ◌≤◌, ◌++◌, ◌∷◌, [], length, pos, vec_len};
-ghost use Rattle.std.specs.Prelude.{vec_capacity};
+ghost use Rattle.std.specs.Prelude.{◌≡◌, ◌+◌, ◌<◌, ◌≤◌, ◌++◌, ◌∷◌, [], length, pos, vec_len, vec_capacity};
+ghost use Rattle.qss_events.specs.Prelude.{discrete_rows, list_any, variable_limit, firing_flags};
 ghost use Rattle.qss_machine.specs.declared.machine_parts.RowKind.TheVariants as kind;
-ghost use Rattle.qss_machine.specs.Runs.{discrete_rows};
-ghost use Rattle.std.specs.List.{list_any};
-ghost use Rattle.mu_num.specs.Limits.{variable_limit};
-ghost use Rattle.qss_machine.specs.Handlers.{firing_flags};
 
 use qss_machine::{Row, RowKind};
 

@@ -1,9 +1,8 @@
 //! Generates the source of a chain of cells. The start values are pseudorandom numbers of a seed.
 
-ghost use Rattle.std.specs.Prelude.{◌≡◌, ◌≤◌, ◌<◌, ◌^◌, ◌+◌, ◌++◌, length, codes, decimal, IfOk};
-ghost use Rattle.std.specs.Prelude.{OnOk};
-ghost use Rattle.qss_generate.specs.Source as Spec;
+ghost use Rattle.std.specs.Prelude.{◌≡◌, ◌≤◌, ◌<◌, ◌^◌, ◌+◌, ◌++◌, length, codes, decimal, IfOk, OnOk};
 ghost use Rattle.qss_generate.specs.GenerationLaws.{SourcesWorked};
+ghost use Rattle.qss_generate.specs.Source as Spec;
 
 use itoa::Buffer;
 use std::alloc::{AllocError, Global};

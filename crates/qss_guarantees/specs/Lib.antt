@@ -1,3 +1,5 @@
+pub mod Words
+pub mod Prelude
 -- the theorems about the answers for the bytes that a command reads
 pub mod Guarantees
 pub mod Theorems

@@ -1,11 +1,9 @@
 //! Theorems about the results for certificates, traces and proposals, each the contract of a
 //! function that does nothing.
 
-ghost use Rattle.qss_guarantees.specs.TraceLaws.{AnswersAreOne as TraceAnswersAreOne};
-ghost use Rattle.qss_guarantees.specs.TraceLaws.{RunsAreAccepted};
-ghost use Rattle.qss_guarantees.specs.TraceLaws.{ComparisonsAreJudged, ComparedRunsAreWithinBound};
 ghost use Rattle.qss_guarantees.specs.CertificateLaws.{AnswersAreOne, BoundsHold, UpgradesKeep};
 ghost use Rattle.qss_guarantees.specs.ProposalLaws.{ProposalsAreKept, ProposalsAreOne};
+ghost use Rattle.qss_guarantees.specs.TraceLaws.{AnswersAreOne as TraceAnswersAreOne, RunsAreAccepted, ComparisonsAreJudged, ComparedRunsAreWithinBound};
 
 /// A machine and the bytes of a trace determine exactly one result of `check`.
 pub fn trace_answers_are_unique()

@@ -1,29 +1,8 @@
 //! The main theorems, each the contract of a function that does nothing.
 
-ghost use Rattle.qss_guarantees.specs.CertifiedFiles.{CertifiedRunsStayWithinBounds};
-ghost use Rattle.qss_guarantees.specs.CheckedTraces.{CheckedTracesAreRuns};
-ghost use Rattle.qss_guarantees.specs.ComparedRuns.{ComparedRunsStayWithinBound};
-ghost use Rattle.qss_guarantees.specs.MainTheorems.{RunPrintsTheRun, DevsAnswersAsRun};
-ghost use Rattle.qss_guarantees.specs.MainTheorems.{Run2PrintsTheRun, CertifyAcceptsExactly};
-ghost use Rattle.std.specs.Prelude.{ℕ, []};
-ghost use Rattle.qss_cli.specs.Commands.{RunOptions, Side};
-ghost use Rattle.qss_guarantees.specs.AnswerLaws.{AnswersAreUnique, AnswersExist};
-ghost use Rattle.qss_guarantees.specs.AnswerLaws.{BytesDetermineAnswers};
-ghost use Rattle.qss_guarantees.specs.AnswerLaws.{AnswersHaveProperties, ByteAnswersAreUnique};
-ghost use Rattle.qss_guarantees.specs.AnswerLaws.{EachAnswer, EachForSource, EachForText};
-ghost use Rattle.qss_guarantees.specs.AnswerLaws.{EachForTraces};
-ghost use Rattle.qss_top.specs.CommandAnswers.{RunAnswers, Run2Answers, PrintAnswers};
-ghost use Rattle.qss_top.specs.CommandAnswers.{GenerationAnswers, CertifyAnswers, UpgradeAnswers};
-ghost use Rattle.qss_top.specs.CommandAnswers.{ProposeAnswers, CheckAnswers, CompareAnswers};
-ghost use Rattle.qss_guarantees.specs.Theorems.{RunPrintsRowsOfMachine, Run2PrintsSecondOrderRows};
-ghost use Rattle.qss_guarantees.specs.Theorems.{PrintPrintsCanonicalText, GenPrintsSummary};
-ghost use Rattle.qss_guarantees.specs.Theorems.{CertifyIsSound, CertifyCoversOwnRuns};
-ghost use Rattle.qss_guarantees.specs.Theorems.{CertifyIsComplete};
-ghost use Rattle.qss_guarantees.specs.Theorems.{ProposeIsSound, ProposeIsComplete};
-ghost use Rattle.qss_guarantees.specs.Theorems.{CheckAcceptsRuns, CompareIsSound};
-ghost use Rattle.qss_guarantees.specs.Theorems.{CompareIsComplete};
-ghost use Rattle.qss_guarantees.specs.Theorems.{UpgradeKeepsCertificate, UpgradeIsComplete};
-ghost use Rattle.qss_guarantees.specs.ProposedRuns.{ProposedRunsStayNear};
+ghost use Rattle.std.specs.Prelude.{[], ℕ};
+ghost use Rattle.qss_guarantees.specs.Prelude.{RunOptions, Side, RunAnswers, Run2Answers, PrintAnswers, GenerationAnswers, CertifyAnswers, UpgradeAnswers, ProposeAnswers, CheckAnswers, CompareAnswers};
+ghost use Rattle.qss_guarantees.specs.Words.{CertifiedRunsStayWithinBounds, CheckedTracesAreRuns, ComparedRunsStayWithinBound, RunPrintsTheRun, DevsAnswersAsRun, Run2PrintsTheRun, CertifyAcceptsExactly, AnswersAreUnique, AnswersExist, BytesDetermineAnswers, AnswersHaveProperties, ByteAnswersAreUnique, EachAnswer, EachForSource, EachForText, EachForTraces, RunPrintsRowsOfMachine, Run2PrintsSecondOrderRows, PrintPrintsCanonicalText, GenPrintsSummary, CertifyIsSound, CertifyCoversOwnRuns, CertifyIsComplete, ProposeIsSound, ProposeIsComplete, CheckAcceptsRuns, CompareIsSound, CompareIsComplete, UpgradeKeepsCertificate, UpgradeIsComplete, ProposedRunsStayNear};
 
 // ---- For the bytes of the files that a command reads.
 

@@ -1,24 +1,13 @@
 //! What the contract of the program implies if the contents of the files are known.
 
-ghost use Rattle.std.specs.Io.KnownBytes.{Appends};
-ghost use Rattle.std.specs.Prelude.{◌≡◌, ◌≢◌, ◌≤◌, ◌⊎◌, [], true, List, ℕ, map, None, Some};
-ghost use Rattle.std.specs.Prelude.{Contains};
-ghost use Rattle.mu_io.specs.FaultCounts.{HasOneMoreFault};
-ghost use Rattle.mu_io.specs.Files.{Files};
-ghost use Rattle.mu_io.specs.Sinks.{AppendsPrefix, EndsByFault};
-ghost use Rattle.qss_top.specs.MachineAnswers.{Answer};
-ghost use Rattle.qss_guarantees.specs.ExpectedResults.{ExpectedResult, IsExpectedResult, answered};
+ghost use Rattle.std.specs.Prelude.{◌≡◌, ◌≢◌, ◌≤◌, ◌⊎◌, [], true, List, ℕ, map, None, Some, Contains};
+ghost use Rattle.qss_guarantees.specs.Prelude.{Appends, HasOneMoreFault, Files, AppendsPrefix, EndsByFault, Answer, Command, Side, certify_model, check_model, compare_runs, files_of, propose_model, command_of, writes_as_it_goes, leaves_out, IsOutOfMemoryPrefix};
 ghost use Rattle.qss_guarantees.specs.CertifiedFiles.{AreCertified};
 ghost use Rattle.qss_guarantees.specs.CheckedTraces.{IsCheckedTrace};
 ghost use Rattle.qss_guarantees.specs.ComparedRuns.{AreCompared};
-ghost use Rattle.qss_cli.specs.Commands.{Command, Side, certify_model, check_model, compare_runs};
-ghost use Rattle.qss_cli.specs.Commands.{files_of};
-ghost use Rattle.qss_cli.specs.Commands.{propose_model, command_of, writes_as_it_goes};
+ghost use Rattle.qss_guarantees.specs.ExpectedResults.{ExpectedResult, IsExpectedResult, answered};
 ghost use Rattle.qss_guarantees.specs.ProposedRuns.{AreProposed};
-ghost use Rattle.qss_top.specs.Statuses.{leaves_out};
-ghost use Rattle.qss_top.specs.WrittenTexts.{IsOutOfMemoryPrefix};
-ghost use Rattle.qss_guarantees.specs.Replies.{IsReplyGiven, HasReply, text_of};
-ghost use Rattle.qss_guarantees.specs.Replies.{SomeFaultCounted, IsStatusReported};
+ghost use Rattle.qss_guarantees.specs.Replies.{IsReplyGiven, HasReply, text_of, SomeFaultCounted, IsStatusReported};
 
 use mu_io::{Shelf, Sink};
 use qss_top::{Status, qss_main};

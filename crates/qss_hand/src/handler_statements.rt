@@ -1,17 +1,10 @@
 //! Fires a branch of a clause: appends its row, and runs its assignments and reinitializations in
 //! order. A value that exceeds its limit ends the branch.
 
-ghost use Rattle.std.specs.Prelude.{◌≡◌, ◌+◌, ◌<◌, ◌≤◌, ◌^◌, ◌++◌, ◌∷◌, [], length, pos, Some};
-ghost use Rattle.std.specs.Prelude.{None, All, fold, slice_set, if◌then◌else◌};
-ghost use Rattle.mu_num.specs.Rounding.{nearest_of};
-ghost use Rattle.mu_num.specs.Sizes.{exceeds};
-ghost use Rattle.mu_num.specs.Limits.{bits_of_level, bits_of_state};
-ghost use Rattle.qss_machine.specs.MachineLimits.{IsBounded, IsAction};
-ghost use Rattle.qss_machine.specs.Machines.{state_count, discrete_count, value_of};
-ghost use Rattle.qss_machine.specs.Handlers.{run_action, fire_row, run_branch};
+ghost use Rattle.std.specs.Prelude.{◌≡◌, ◌+◌, ◌<◌, ◌≤◌, ◌^◌, ◌++◌, ◌∷◌, [], if◌then◌else◌, length, pos, Some, None, All, fold, slice_set};
+ghost use Rattle.qss_hand.specs.Prelude.{nearest_of, exceeds, bits_of_level, bits_of_state, IsBounded, IsAction, state_count, discrete_count, value_of, run_action, fire_row, run_branch};
+ghost use Rattle.qss_hand.specs.Works.{AreValuesOf, handling_of, values_after, overflow_of, clause_at, branch_at};
 ghost use Rattle.qss_machine.specs.declared.machine_parts.RowKind.TheVariants as kind;
-ghost use Rattle.qss_hand.specs.Works.{AreValuesOf, handling_of, values_after, overflow_of};
-ghost use Rattle.qss_hand.specs.Works.{clause_at, branch_at};
 
 use crate::work::Work;
 use mu_num::{LEVEL_BITS, STATE_BITS, exceeds_power_of_two, near_div, unit};

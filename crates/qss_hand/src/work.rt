@@ -1,9 +1,8 @@
 //! The values that handlers read and write, with capacity for all rows that handlers can append at
 //! one tick.
 
-ghost use Rattle.std.specs.Prelude.{◌≡◌, ◌<◌, All, IfOk, length, ◌+◌, ◌≤◌, sum_by};
-ghost use Rattle.mu_num.specs.Limits.{condition_limit};
-ghost use Rattle.qss_machine.specs.Machines.{start_states, start_discretes};
+ghost use Rattle.std.specs.Prelude.{◌≡◌, ◌<◌, ◌+◌, ◌≤◌, ◌++◌, ◌∷◌, [], All, IfOk, length, sum_by, slice_set};
+ghost use Rattle.qss_hand.specs.Prelude.{condition_limit, start_states, start_discretes};
 ghost use Rattle.qss_hand.specs.Assigned.{AreSameBut};
 ghost use Rattle.qss_hand.specs.Works.{row_room};
 
@@ -39,10 +38,6 @@ impl Model for Work {
 }
 
 impl Work {
-    ghost use Rattle.std.specs.Prelude.{◌≡◌, ◌<◌, ◌++◌, ◌∷◌, [], IfOk, length, slice_set};
-    ghost use Rattle.qss_machine.specs.Machines.{start_states, start_discretes};
-    ghost use Rattle.qss_hand.specs.Works.{row_room};
-
     /// The values of a machine at tick 0, with capacity for all rows that one tick can have.
     pub fn new(alloc: Global, m: &Machine) -> Result<Work, AllocError>
         ensures { IfOk result

@@ -1,3 +1,4 @@
+pub mod Prelude
 pub mod Slopes
 pub mod MachineLimits
 pub mod Machines

@@ -1,8 +1,8 @@
 //! A machine: a compiled model in integer arithmetic, whose ghost fields guarantee all limits. Its
 //! methods evaluate rows, forms and quanta.
 
-ghost use Rattle.std.specs.Prelude.{pos, ◌+◌, ◌^◌, length};
-ghost use Rattle.mu_num.specs.Limits.{tick_limit, relative_limit, IsLevel, AreLevels, AreStates, AreSlopes};
+ghost use Rattle.std.specs.Prelude.{◌+◌, ◌^◌, pos, length};
+ghost use Rattle.qss_machine.specs.Prelude.{tick_limit, relative_limit, IsLevel, AreLevels, AreStates, AreSlopes};
 ghost use Rattle.qss_machine.specs.MachineLimits.{HasUnits, AreVariables, AreRows, AreClauses};
 
 use crate::form_values::{add_form_parts, form_constant_part, form_time_part, sum_form_entries};
@@ -40,10 +40,10 @@ pub struct Machine {
 
 impl Machine {
     ghost use Rattle.std.specs.Prelude.{◌≡◌, ◌<◌, ◌≤◌, IsTrue, unsigned_abs};
-    ghost use Rattle.mu_num.specs.Sizes.{IsWithin};
-    ghost use Rattle.qss_machine.specs.Slopes.{mode_fits};
+    ghost use Rattle.qss_machine.specs.Prelude.{IsWithin};
     ghost use Rattle.qss_machine.specs.MachineLimits.{IsBounded};
     ghost use Rattle.qss_machine.specs.Machines.{state_count, discrete_count, row_at, row_coefficient, mode_coefficient_at, slope_at, weight_at, level_unit, quantum_of, value_of, speed_of};
+    ghost use Rattle.qss_machine.specs.Slopes.{mode_fits};
 
     /// Returns the mode coefficient of a state in a row, in units of 2^-p: its own coefficient plus
     /// the sum of its products divided by 2^f, rounded to the nearest, ties to even.

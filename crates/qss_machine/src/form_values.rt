@@ -1,9 +1,7 @@
 //! Values and rates of change of affine forms, in the units of a machine.
 
-ghost use Rattle.std.specs.Prelude.{◌≡◌, ℕ, ◌+◌, ◌*◌, ◌^◌, ◌<◌, ◌≤◌, length, map, pos, ◌*ℤ◌, ◌+ℤ◌, ◌≤ℤ◌, ◌++◌, unsigned_abs, sum_by};
-ghost use Rattle.mu_num.specs.Sizes.{IsWithin};
-ghost use Rattle.mu_num.specs.IndexedSums.{int_at};
-ghost use Rattle.mu_num.specs.Limits.{tick_limit, IsLevel, AreLevels, IsState, AreStates};
+ghost use Rattle.std.specs.Prelude.{◌≡◌, ◌+◌, ◌*◌, ◌^◌, ◌<◌, ◌≤◌, ◌*ℤ◌, ◌+ℤ◌, ◌≤ℤ◌, ◌++◌, ℕ, length, map, pos, unsigned_abs, sum_by};
+ghost use Rattle.qss_machine.specs.Prelude.{IsWithin, int_at, tick_limit, IsLevel, AreLevels, IsState, AreStates};
 ghost use Rattle.qss_machine.specs.Slopes.{weighted_sum};
 
 use crate::machine_parts::Entry;

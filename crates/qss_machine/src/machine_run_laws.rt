@@ -1,7 +1,7 @@
 //! Theorems about all runs of machines. Each is the contract of a function with an empty body.
 
-ghost use Rattle.qss_machine.specs.RunLaws.{RulesAreFree, RunsAreUnique, RunsStayWithinDrift, RunsAreLegitimate, SlopesAreWithinWeights};
 ghost use Rattle.qss_machine.specs.Firing.{BranchesFireWhenDue};
+ghost use Rattle.qss_machine.specs.RunLaws.{RulesAreFree, RunsAreUnique, RunsStayWithinDrift, RunsAreLegitimate, SlopesAreWithinWeights};
 ghost use Rattle.qss_machine.specs.SameData.{SameDataIsEqual};
 
 /// Each named rule satisfies the free rule. So does each function whose levels are less than one

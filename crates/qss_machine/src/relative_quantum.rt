@@ -2,8 +2,7 @@
 //! integration, 2009).
 
 ghost use Rattle.std.specs.Prelude.{◌≡◌, ◌*◌, ◌/◌, ◌^◌, ◌≤◌, ◌≤ℤ◌, pos, unsigned_abs};
-ghost use Rattle.std.specs.Int.{int_max};
-ghost use Rattle.mu_num.specs.Limits.{relative_unit, IsLevel};
+ghost use Rattle.qss_machine.specs.Prelude.{int_max, relative_unit, IsLevel};
 
 /// Returns the greater of the state's own quantum and the relative quantum |level| * relative /
 /// 4096. If `relative` is 0, no multiplication is done.

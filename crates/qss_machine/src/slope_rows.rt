@@ -2,17 +2,10 @@
 //! its absolute row sum. Powers of 2 are computed by 64-bit shifts, which cost less than 128-bit
 //! shifts.
 
-ghost use Rattle.std.specs.Prelude.{◌≡◌, ℕ, ◌+◌, ◌*◌, ◌^◌, ◌<◌, ◌≤◌, length, All, IsTrue, pos};
-ghost use Rattle.std.specs.Prelude.{◌*ℤ◌, ◌+ℤ◌, unsigned_abs, ◌-◌, ◌++◌, map, ◌==◌, if◌then◌else◌};
-ghost use Rattle.std.specs.Prelude.{◌&&◌, not, ◌-ℤ◌};
-ghost use Rattle.mu_num.specs.Rounding.{nearest_of};
-ghost use Rattle.mu_num.specs.Sizes.{IsWithin, exceeds};
-ghost use Rattle.mu_num.specs.IndexedSums.{int_at, sum_below, abs_of, sum_over};
-ghost use Rattle.mu_num.specs.Limits.{variable_limit, bits_of_weight, IsLevel, AreLevels, IsState};
-ghost use Rattle.qss_machine.specs.Slopes.{products_of, mode_fits, slope_of, coefficient_of};
-ghost use Rattle.qss_machine.specs.Slopes.{mode_coefficient, weighted_sum, weight_of};
+ghost use Rattle.std.specs.Prelude.{◌≡◌, ◌+◌, ◌*◌, ◌^◌, ◌<◌, ◌≤◌, ◌*ℤ◌, ◌+ℤ◌, ◌-◌, ◌++◌, ◌==◌, if◌then◌else◌, ◌&&◌, ◌-ℤ◌, ℕ, length, All, IsTrue, pos, unsigned_abs, map, not};
+ghost use Rattle.qss_machine.specs.Prelude.{nearest_of, IsWithin, exceeds, int_at, sum_below, abs_of, sum_over, variable_limit, bits_of_weight, IsLevel, AreLevels, IsState, IsStrictlyIncreasing};
 ghost use Rattle.qss_machine.specs.MachineLimits.{IsRow, AreProducts};
-ghost use Rattle.std.specs.List.Sorted.{IsStrictlyIncreasing};
+ghost use Rattle.qss_machine.specs.Slopes.{products_of, mode_fits, slope_of, coefficient_of, mode_coefficient, weighted_sum, weight_of};
 
 use crate::form_values::add_form_parts;
 use crate::machine_parts::{Entry, Product, SlopeRow};
@@ -47,7 +40,10 @@ pub fn is_row_in_limits(row: &SlopeRow, level_bits: u8, levels: &[i64], discrete
         && not (exceeds bits_of_weight (weight_of level_bits row.now levels.now discretes.now))) }
 {
     row_modes_fit(row, level_bits, levels.len(), discretes)
-        && !exceeds_power_of_two(absolute_row_sum(row, level_bits, levels, discretes), WEIGHT_BITS)
+        && !exceeds_power_of_two(
+            absolute_row_sum(row, level_bits, levels, discretes),
+            WEIGHT_BITS,
+        )
 }
 
 /// Returns the coefficient of a variable, or 0 if no entry is of it.

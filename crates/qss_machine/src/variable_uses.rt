@@ -1,16 +1,12 @@
 //! The dependency graph of a machine: the rows and conditions that read each variable, and its
 //! coefficients in these rows. It is computed in one pass over all entries.
 
-ghost use Rattle.std.specs.Prelude.{◌≡◌, ◌<◌, length, IfOk, slice_index_or, [], ◌+◌, map, All, ◌≤◌};
-ghost use Rattle.std.specs.Prelude.{◌++◌, flat_map, ◌||◌, ◌==◌, replicate, List};
-ghost use Rattle.qss_machine.specs.Readers.{uses_of, reading_rows, reading_coefficients, has_entry};
-ghost use Rattle.qss_machine.specs.Readers.{row_reads, condition_reads, places_from};
-ghost use Rattle.mu_num.specs.IndexedSums.{tabulate};
-ghost use Rattle.mu_num.specs.Limits.{variable_limit, condition_limit};
+ghost use Rattle.std.specs.Prelude.{◌≡◌, ◌<◌, [], ◌+◌, ◌≤◌, ◌++◌, ◌||◌, ◌==◌, length, IfOk, slice_index_or, map, All, flat_map, replicate, List};
+ghost use Rattle.qss_machine.specs.Prelude.{tabulate, variable_limit, condition_limit, list_any};
 ghost use Rattle.qss_machine.specs.Machines.{state_count, discrete_count, row_coefficient};
-ghost use Rattle.std.specs.List.{list_any};
-ghost use Rattle.qss_machine.specs.declared.machine_parts.Condition.{Condition};
 ghost use Rattle.qss_machine.specs.Marks.{AppendsOnce, MarksBy, Collects, IsRowOf, IsConditionOf};
+ghost use Rattle.qss_machine.specs.Readers.{uses_of, reading_rows, reading_coefficients, has_entry, row_reads, condition_reads, places_from};
+ghost use Rattle.qss_machine.specs.declared.machine_parts.Condition.{Condition};
 
 use crate::compiled_machine::Machine;
 use crate::machine_parts::{BranchInfo, ClauseInfo, Entry, Product, SlopeRow};

@@ -1,20 +1,10 @@
 //! A machine whose discrete variables keep their start values. It has the nonzero coefficients of
 //! each row, and for each state those of the rows that read it.
 
-ghost use Rattle.std.specs.Prelude.{◌≡◌, ◌<◌, ◌+◌, IfOk, pos, ◌*ℤ◌, replicate, ℕ, ℤ, ◌+ℤ◌, All};
-ghost use Rattle.std.specs.Prelude.{length, ◌≢◌, ◌≤◌, ◌++◌, ◌∷◌, [], map};
-ghost use Rattle.mu_num.specs.Sizes.{IsWithin, IsPositiveWithin};
-ghost use Rattle.qss_machine.specs.Legitimate.{start_constant_part, start_coefficient};
-ghost use Rattle.qss_machine.specs.Machines.{state_count, level_unit, start_discretes};
-ghost use Rattle.mu_num.specs.IndexedSums.{tabulate, int_at};
+ghost use Rattle.std.specs.Prelude.{◌≡◌, ◌<◌, ◌+◌, ◌*ℤ◌, ◌+ℤ◌, ◌≢◌, ◌≤◌, ◌++◌, ◌∷◌, [], IfOk, pos, replicate, ℕ, ℤ, All, length, map};
+ghost use Rattle.qss_order2.specs.Prelude.{IsWithin, IsPositiveWithin, start_constant_part, start_coefficient, state_count, level_unit, start_discretes, tabulate, int_at, int_wrap, w128, reading_rows, uses_of, coefficient_of, IsStrictlyIncreasing, AreProducts};
+ghost use Rattle.qss_order2.specs.Fixed.{AreRowsBelow, AreColumnsBelow, IsFixed, IsColumn, AreModes};
 ghost use Rattle.qss_order2.specs.SecondSteps.{reach_of};
-ghost use Rattle.qss_order2.specs.Fixed.{AreRowsBelow, AreColumnsBelow, IsFixed, IsColumn};
-ghost use Rattle.qss_order2.specs.Fixed.{AreModes};
-ghost use Rattle.std.specs.Int.{int_wrap, w128};
-ghost use Rattle.qss_machine.specs.Readers.{reading_rows, uses_of};
-ghost use Rattle.qss_machine.specs.Slopes.{coefficient_of};
-ghost use Rattle.std.specs.List.Sorted.{IsStrictlyIncreasing};
-ghost use Rattle.qss_machine.specs.MachineLimits.{AreProducts};
 
 use mu_io::Items;
 use qss_machine::{Entry, Machine, Product, Uses};

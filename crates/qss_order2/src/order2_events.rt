@@ -1,19 +1,13 @@
 //! The event step of a second-order run: from one event or limit check to the next.
 
-ghost use Rattle.std.specs.Prelude.{◌≡◌, ℕ, ◌<◌, ◌≤◌, ◌+◌, ◌-◌, ◌≤ℤ◌, ℤ, All, None, Some, true};
-ghost use Rattle.std.specs.Prelude.{false};
-ghost use Rattle.mu_num.specs.ListedPlaces.{is_listed};
-ghost use Rattle.qss_machine.specs.Machines.{state_count};
+ghost use Rattle.std.specs.Prelude.{◌≡◌, ◌<◌, ◌≤◌, ◌+◌, ◌-◌, ◌≤ℤ◌, ℕ, ℤ, All, None, Some, true, false};
+ghost use Rattle.qss_order2.specs.Prelude.{is_listed, state_count};
 ghost use Rattle.qss_order2.specs.Calls.{HasLooked, view_of, tick_of, end_of};
-ghost use Rattle.qss_order2.specs.Places.{place_in, CanRead};
-ghost use Rattle.qss_order2.specs.SlopeRules.{IsRuled2};
-ghost use Rattle.qss_order2.specs.SecondRunLimits.{past_levels};
-ghost use Rattle.qss_order2.specs.Stores.{snapshot_at, levels_of, AreLinesCalm, IsOnTheWay};
-ghost use Rattle.qss_order2.specs.Stores.{motion_at, HasLists, FitsMachine, Moves, Stands, IsGoing};
-ghost use Rattle.qss_order2.specs.Stores.{IsReady, KeepsDues, due_at, until, IsNextLook};
-ghost use Rattle.qss_order2.specs.Stores.{HasArrived, AreQuiet, FollowsLevels, MaySettle};
-ghost use Rattle.qss_order2.specs.Stores.{HasSettled};
 ghost use Rattle.qss_order2.specs.Events.{IsNext2};
+ghost use Rattle.qss_order2.specs.Places.{place_in, CanRead};
+ghost use Rattle.qss_order2.specs.SecondRunLimits.{past_levels};
+ghost use Rattle.qss_order2.specs.SlopeRules.{IsRuled2};
+ghost use Rattle.qss_order2.specs.Stores.{snapshot_at, levels_of, AreLinesCalm, IsOnTheWay, motion_at, HasLists, FitsMachine, Moves, Stands, IsGoing, IsReady, KeepsDues, due_at, until, IsNextLook, HasArrived, AreQuiet, FollowsLevels, MaySettle, HasSettled};
 
 use crate::fixed_machine::FixedMachine;
 use crate::order2_leaving::{next_leaving_look, set_leaving_dues, window};

@@ -1,9 +1,7 @@
 //! Theorems about second-order runs. Each is the contract of a function with an empty body.
 
 ghost use Rattle.qss_order2.specs.Events.{RowsFromStart};
-ghost use Rattle.qss_order2.specs.SecondRunLaws.{SecondRunsAreLegitimate, RuledRunsAreLegitimate};
-ghost use Rattle.qss_order2.specs.SecondRunLaws.{SecondRunsAreUnique, NearestIsFree};
-ghost use Rattle.qss_order2.specs.SecondRunLaws.{CalmTicksAreForced};
+ghost use Rattle.qss_order2.specs.SecondRunLaws.{SecondRunsAreLegitimate, RuledRunsAreLegitimate, SecondRunsAreUnique, NearestIsFree, CalmTicksAreForced};
 
 /// The states and levels of a second-order run form a legitimate run in units 64 times finer.
 pub fn second_runs_are_legitimate()

@@ -1,19 +1,11 @@
 //! Computes and schedules the ticks at which states reach their quanta, and lists the states that
 //! leave at the next of these ticks.
 
-ghost use Rattle.std.specs.Prelude.{◌≡◌, ◌≤◌, ◌<◌, ◌%◌, ◌+◌, ◌-◌, ◌^◌, ◌<ℤ◌, ◌≤ℤ◌, pos};
-ghost use Rattle.std.specs.Prelude.{unsigned_abs, ℕ, All, length, Some, ◌-ℤ◌, ◌*ℤ◌, None, true};
-ghost use Rattle.std.specs.Prelude.{false, vec_capacity};
-ghost use Rattle.mu_num.specs.Curves.{curve_at, FirstUpTo};
-ghost use Rattle.mu_num.specs.Sizes.{IsWithin, IsPositiveWithin};
-ghost use Rattle.mu_num.specs.ListedPlaces.{is_listed, AreRisingBelow};
-ghost use Rattle.mu_num.specs.Writes.{IsWritten};
-ghost use Rattle.mu_num.specs.Limits.{tick_limit, look_span, IsSecondLevel, IsSecondState};
-ghost use Rattle.qss_machine.specs.Machines.{state_count};
+ghost use Rattle.std.specs.Prelude.{◌≡◌, ◌≤◌, ◌<◌, ◌%◌, ◌+◌, ◌-◌, ◌^◌, ◌<ℤ◌, ◌≤ℤ◌, ◌-ℤ◌, ◌*ℤ◌, pos, unsigned_abs, ℕ, All, length, Some, None, true, false, vec_capacity};
+ghost use Rattle.qss_order2.specs.Prelude.{curve_at, FirstUpTo, IsWithin, IsPositiveWithin, is_listed, AreRisingBelow, IsWritten, tick_limit, look_span, IsSecondLevel, IsSecondState, state_count};
 ghost use Rattle.qss_order2.specs.Places.{place_in};
-ghost use Rattle.qss_order2.specs.Stores.{snapshot_at, motion_at, HasLists, Moves, due_at, until};
-ghost use Rattle.qss_order2.specs.Stores.{IsDue2, IsWindow, HasDues, IsNextLook};
 ghost use Rattle.qss_order2.specs.SecondSteps.{SecondSnapshot};
+ghost use Rattle.qss_order2.specs.Stores.{snapshot_at, motion_at, HasLists, Moves, due_at, until, IsDue2, IsWindow, HasDues, IsNextLook};
 
 use crate::fixed_machine::FixedMachine;
 use crate::order2_motion::Motion;

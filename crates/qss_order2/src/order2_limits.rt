@@ -1,17 +1,10 @@
 //! Finds states and rows that exceed a limit. A bound on levels makes most of these checks
 //! unnecessary.
 
-ghost use Rattle.std.specs.Prelude.{◌≡◌, ℕ, ◌<◌, ◌≤◌, ◌^◌, All, None, Some, true, false, length, ℤ};
-ghost use Rattle.std.specs.Prelude.{pos, ◌≤ℤ◌, IfOk};
-ghost use Rattle.mu_num.specs.Sizes.{IsWithin, exceeds};
-ghost use Rattle.qss_machine.specs.Machines.{state_count};
-ghost use Rattle.mu_num.specs.ListedPlaces.{is_listed};
-ghost use Rattle.mu_num.specs.IndexedSums.{int_at, first_exceeding, abs_of};
-ghost use Rattle.mu_num.specs.Limits.{variable_limit, bits_of_second_level, bits_of_second_state};
-ghost use Rattle.qss_order2.specs.Places.{levels_in, AreLevelsWithin, AreLinesWithin, place_in};
-ghost use Rattle.qss_order2.specs.Places.{CanRead, IsLineWithin};
-ghost use Rattle.qss_order2.specs.SecondRunLimits.{heavy_row, steep_row, IsFlat, past_levels};
-ghost use Rattle.qss_order2.specs.SecondRunLimits.{IsCalmLevel, IsCalmBy};
+ghost use Rattle.std.specs.Prelude.{◌≡◌, ◌<◌, ◌≤◌, ◌^◌, ◌≤ℤ◌, ℕ, All, None, Some, true, false, length, ℤ, pos, IfOk};
+ghost use Rattle.qss_order2.specs.Prelude.{IsWithin, exceeds, state_count, is_listed, int_at, first_exceeding, abs_of, variable_limit, bits_of_second_level, bits_of_second_state};
+ghost use Rattle.qss_order2.specs.Places.{levels_in, AreLevelsWithin, AreLinesWithin, place_in, CanRead, IsLineWithin};
+ghost use Rattle.qss_order2.specs.SecondRunLimits.{heavy_row, steep_row, IsFlat, past_levels, IsCalmLevel, IsCalmBy};
 ghost use Rattle.qss_order2.specs.SecondSteps.{rise_weight, rise_change_weight};
 
 use crate::fixed_machine::FixedMachine;

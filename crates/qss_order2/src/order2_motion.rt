@@ -1,17 +1,8 @@
 //! States and levels, each at a tick of its own, and their motion along parabolas and lines.
 
-ghost use Rattle.std.specs.Prelude.{◌≡◌, ◌≤◌, ◌<◌, ◌+◌, ◌*◌, ◌-◌, ◌/◌, All, ℕ, ℤ, List, length};
-ghost use Rattle.std.specs.Prelude.{pos, ◌+ℤ◌, ◌-ℤ◌, ◌*ℤ◌};
-ghost use Rattle.std.specs.Int.{int_wrap, w128};
-ghost use Rattle.mu_num.specs.Curves.{sum_to, curve_at};
-ghost use Rattle.mu_num.specs.Sizes.{IsWithin};
-ghost use Rattle.mu_num.specs.Writes.{IsWritten};
-ghost use Rattle.mu_num.specs.IndexedSums.{int_at};
-ghost use Rattle.mu_num.specs.Limits.{look_span, IsSecondLevel, IsSecondState};
-ghost use Rattle.qss_machine.specs.Machines.{state_count, level_unit};
-ghost use Rattle.qss_order2.specs.Places.{levels_in, moved_in, no_place, place_in, place_at};
-ghost use Rattle.qss_order2.specs.Places.{floor_place, level_on, rise_on, level_shift};
-ghost use Rattle.qss_order2.specs.Places.{IsSmallPlace, CanMove, CanRead};
+ghost use Rattle.std.specs.Prelude.{◌≡◌, ◌≤◌, ◌<◌, ◌+◌, ◌*◌, ◌-◌, ◌/◌, ◌+ℤ◌, ◌-ℤ◌, ◌*ℤ◌, All, ℕ, ℤ, List, length, pos};
+ghost use Rattle.qss_order2.specs.Prelude.{int_wrap, w128, sum_to, curve_at, IsWithin, IsWritten, int_at, look_span, IsSecondLevel, IsSecondState, state_count, level_unit};
+ghost use Rattle.qss_order2.specs.Places.{levels_in, moved_in, no_place, place_in, place_at, floor_place, level_on, rise_on, level_shift, IsSmallPlace, CanMove, CanRead};
 
 use crate::fixed_machine::{FixedMachine, add_fixed_column_multiple};
 use mu_num::floor_div;

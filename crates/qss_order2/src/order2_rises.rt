@@ -1,26 +1,9 @@
 //! Updates the slopes of states and levels after new levels. The slopes are sums over rows at the
 //! start values of the discrete variables.
 
-ghost use Rattle.std.specs.Prelude.{◌≡◌, ℕ, ◌<◌, ◌≤◌, ◌*ℤ◌, ◌+ℤ◌, ℤ, All, None, true, false, []};
-ghost use Rattle.std.specs.Prelude.{length, pos, ◌+◌, ◌*◌, ◌^◌, unsigned_abs, MatchOption};
-ghost use Rattle.std.specs.Int.{int_wrap, w128};
-ghost use Rattle.mu_num.specs.Sizes.{IsWithin, exceeds};
-ghost use Rattle.mu_num.specs.ListedPlaces.{is_listed};
-ghost use Rattle.mu_num.specs.Writes.{IsWritten};
-ghost use Rattle.qss_machine.specs.Machines.{state_count, level_unit};
-ghost use Rattle.mu_num.specs.IndexedSums.{int_at, abs_of};
-ghost use Rattle.mu_num.specs.Limits.{variable_limit, bits_of_second_state, IsState, IsSlope, IsSecondState};
-ghost use Rattle.qss_order2.specs.Places.{levels_in, place_in, change_shift, CanRead};
-ghost use Rattle.qss_order2.specs.SecondRunLaws.{bend_at};
-ghost use Rattle.qss_order2.specs.SecondRunLimits.{steep_row, IsFlat, AreFlatOutside, AreHeld};
-ghost use Rattle.qss_order2.specs.SecondRunLimits.{past_levels};
-ghost use Rattle.qss_order2.specs.SecondSteps.{rise_at, rise_change_weight, fine_levels};
-ghost use Rattle.qss_order2.specs.SecondSteps.{first_exceeding_limit, AreChanges};
-ghost use Rattle.qss_order2.specs.SlopeRules.{IsAnswer, IsRuled2};
-ghost use Rattle.qss_order2.specs.Stores.{levels_of, rises_of, bends_of, HasBends, HasLists};
-ghost use Rattle.qss_order2.specs.Stores.{HasChanged};
-ghost use Rattle.qss_machine.specs.Slopes.{weighted_sum};
-ghost use Rattle.qss_order2.specs.Fixed.{absolute_sum};
+ghost use Rattle.std.specs.Prelude.{◌≡◌, ◌<◌, ◌≤◌, ◌*ℤ◌, ◌+ℤ◌, [], ◌+◌, ◌*◌, ◌^◌, ℕ, ℤ, All, None, true, false, length, pos, unsigned_abs, MatchOption};
+ghost use Rattle.qss_order2.specs.Prelude.{int_wrap, w128, IsWithin, exceeds, is_listed, IsWritten, state_count, level_unit, int_at, abs_of, variable_limit, bits_of_second_state, IsState, IsSlope, IsSecondState, weighted_sum};
+ghost use Rattle.qss_order2.specs.Words.{levels_in, place_in, change_shift, CanRead, bend_at, steep_row, IsFlat, AreFlatOutside, AreHeld, past_levels, rise_at, rise_change_weight, fine_levels, first_exceeding_limit, AreChanges, IsAnswer, IsRuled2, levels_of, rises_of, bends_of, HasBends, HasLists, HasChanged, absolute_sum};
 
 use crate::fixed_machine::{FixedMachine, add_fixed_column_multiple};
 use crate::order2_limits::{first_bend_past_limit, first_line_past_limit, has_bend_past_limit};

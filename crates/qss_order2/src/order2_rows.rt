@@ -1,18 +1,12 @@
 //! The rows that a second-order run prints, and the text line of a row. There are rows of the
 //! start, of a tick, of the end and of an overflow.
 
-ghost use Rattle.std.specs.Prelude.{◌≡◌, ◌+◌, ◌<◌, ◌≤◌, ◌++◌, ◌∷◌, [], length, pos, flat_map};
-ghost use Rattle.std.specs.Prelude.{vec_len, vec_capacity, OnOk, OnErr};
-ghost use Rattle.qss_machine.specs.Machines.{state_count, discrete_count};
-ghost use Rattle.mu_num.specs.IndexedSums.{tabulate};
-ghost use Rattle.qss_order2.specs.declared.order2_rows.Kind2.TheVariants.{Slope, End};
-ghost use Rattle.qss_order2.specs.SecondRuns.{discrete_rows2, end_rows, overflow_row};
-ghost use Rattle.mu_num.specs.ListedPlaces.{AreRisingBelow};
-ghost use Rattle.mu_num.specs.Limits.{variable_limit};
+ghost use Rattle.std.specs.Prelude.{◌≡◌, ◌+◌, ◌<◌, ◌≤◌, ◌++◌, ◌∷◌, [], length, pos, flat_map, vec_len, vec_capacity, OnOk, OnErr};
+ghost use Rattle.qss_order2.specs.Prelude.{state_count, discrete_count, tabulate, AreRisingBelow, variable_limit, lines_in, number_text};
 ghost use Rattle.qss_order2.specs.Places.{moved_in, CanMove};
+ghost use Rattle.qss_order2.specs.SecondRuns.{discrete_rows2, end_rows, overflow_row};
 ghost use Rattle.qss_order2.specs.Stores.{CanMoveTo, snapshot_of, motion_at, HasLists, place_rows};
-ghost use Rattle.qss_rows.specs.HeldLines.{lines_in};
-ghost use Rattle.qss_rows.specs.PlainFields.{number_text};
+ghost use Rattle.qss_order2.specs.declared.order2_rows.Kind2.TheVariants.{Slope, End};
 ghost use Rattle.qss_order2.specs.SecondRowLines as Spec;
 
 use crate::fixed_machine::FixedMachine;

@@ -1,13 +1,11 @@
 //! The data of a second-order simulator, and its store at tick 0.
 
-ghost use Rattle.std.specs.Prelude.{◌≡◌, ◌≤◌, IfOk, length, pos, ◌*ℤ◌, vec_capacity};
-ghost use Rattle.std.specs.List.{range_with_len};
-ghost use Rattle.mu_num.specs.IndexedSums.{int_at, tabulate};
-ghost use Rattle.mu_num.specs.Limits.{IsState};
-ghost use Rattle.qss_order2.specs.SlopeRules.{IsRuled2};
+ghost use Rattle.std.specs.Prelude.{◌≡◌, ◌≤◌, ◌*ℤ◌, IfOk, length, pos, vec_capacity};
+ghost use Rattle.qss_order2.specs.Prelude.{range_with_len, int_at, tabulate, IsState};
 ghost use Rattle.qss_order2.specs.SecondRuns.{start_rows};
-ghost use Rattle.qss_order2.specs.Stores.{snapshot_at, IsResting, IsBlank, Stands};
 ghost use Rattle.qss_order2.specs.SecondSteps.{fine_states, fine_levels, IsStart2};
+ghost use Rattle.qss_order2.specs.SlopeRules.{IsRuled2};
+ghost use Rattle.qss_order2.specs.Stores.{snapshot_at, IsResting, IsBlank, Stands};
 
 use crate::fixed_machine::FixedMachine;
 use crate::order2_limits::calm_level_limit;

@@ -1,14 +1,11 @@
 //! Runs a machine by the second-order simulator as a simulation whose rows are printed event by
 //! event.
 
-ghost use Rattle.std.specs.Prelude.{◌≡◌, true, All, ◌≢◌, []};
-ghost use Rattle.qss_order2.specs.SecondRowLines.{HasVariable2};
+ghost use Rattle.std.specs.Prelude.{◌≡◌, ◌≢◌, [], true, All};
+ghost use Rattle.qss_order2.specs.Prelude.{Appends, AppendsPrefix, EndsByFault, is_whole};
 ghost use Rattle.qss_order2.specs.RemainingSecondRows.{remaining_second_rows};
-ghost use Rattle.std.specs.Io.KnownBytes.{Appends};
-ghost use Rattle.mu_io.specs.Sinks.{AppendsPrefix, EndsByFault};
-ghost use Rattle.qss_order2.specs.SecondRunTexts.{second_order_run, second_run_text};
-ghost use Rattle.qss_order2.specs.SecondRunTexts.{IsSecondRunResult, IsSecondRunCutShort};
-ghost use Rattle.qss_rows.specs.Simulations.{is_whole};
+ghost use Rattle.qss_order2.specs.SecondRowLines.{HasVariable2};
+ghost use Rattle.qss_order2.specs.SecondRunTexts.{second_order_run, second_run_text, IsSecondRunResult, IsSecondRunCutShort};
 
 use crate::order2_rows::write_row2;
 use crate::outcome2::Outcome2;
@@ -30,9 +27,8 @@ pub(crate) struct SecondRun {
 impl Simulation for SecondRun {
     ghost use Rattle.std.specs.Prelude.{◌-◌, None};
     ghost use Rattle.qss_order2.specs.Events.{rows2_left};
+    ghost use Rattle.qss_order2.specs.RemainingSecondRows.{row2_lines, overflow_ahead, outcome2_of, EndsAs, IsAble};
     ghost use Rattle.qss_order2.specs.SecondSteps.{nearest_change};
-    ghost use Rattle.qss_order2.specs.RemainingSecondRows.{row2_lines, overflow_ahead, outcome2_of};
-    ghost use Rattle.qss_order2.specs.RemainingSecondRows.{EndsAs, IsAble};
 
     ghost machine = { λ run. run.sim.run.machine };
 

@@ -1,6 +1,6 @@
 //! The state of a second-order run: a machine without clauses at one tick of its run.
 
-ghost use Rattle.std.specs.Prelude.{◌≡◌};
+ghost use Rattle.std.specs.Prelude.{◌≡◌, ◌++◌, [], true, None, Some, IfOk};
 
 use crate::fixed_machine::FixedMachine;
 use crate::order2_events::advance_to_event;
@@ -22,12 +22,11 @@ pub struct SecondRunState {
 }
 
 impl Model for SecondRunState {
+    ghost use Rattle.qss_order2.specs.Calls.{view_of};
     ghost use Rattle.qss_order2.specs.Events.{SecondRunView};
+    ghost use Rattle.qss_order2.specs.Stores.{IsSim};
 
     ghost Value = { SecondRunView };
-
-    ghost use Rattle.qss_order2.specs.Stores.{IsSim};
-    ghost use Rattle.qss_order2.specs.Calls.{view_of};
 
     ghost view = { λ s. view_of s.fixed.machine s.tick s.store s.end };
 
@@ -35,11 +34,10 @@ impl Model for SecondRunState {
 }
 
 impl SecondRunState {
-    ghost use Rattle.std.specs.Prelude.{◌≡◌, ◌++◌, true, None, Some, [], IfOk};
-    ghost use Rattle.qss_order2.specs.declared.outcome2.Outcome2.{Outcome2};
     ghost use Rattle.qss_order2.specs.Events.{IsStarted, IsNext2, rows2_left};
-    ghost use Rattle.qss_order2.specs.SlopeRules.{IsRuled2};
     ghost use Rattle.qss_order2.specs.SecondSteps.{nearest_change};
+    ghost use Rattle.qss_order2.specs.SlopeRules.{IsRuled2};
+    ghost use Rattle.qss_order2.specs.declared.outcome2.Outcome2.{Outcome2};
 
     /// The state at tick 0, with the start rows. Allocates all memory that the run needs.
     pub fn new(alloc: Global, m: Machine, rule: &SlopeRule) -> Result<SecondRunState, AllocError>

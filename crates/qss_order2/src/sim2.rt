@@ -20,10 +20,10 @@ pub struct Sim2 {
 
 impl Sim2 {
     ghost use Rattle.std.specs.Prelude.{◌≡◌, ◌++◌, true, None, Some, [], IfOk};
-    ghost use Rattle.qss_order2.specs.declared.outcome2.Outcome2.{Outcome2};
     ghost use Rattle.qss_order2.specs.Events.{IsStarted, IsNext2, rows2_left};
-    ghost use Rattle.qss_order2.specs.SlopeRules.{IsRuled2};
     ghost use Rattle.qss_order2.specs.SecondSteps.{nearest_change};
+    ghost use Rattle.qss_order2.specs.SlopeRules.{IsRuled2};
+    ghost use Rattle.qss_order2.specs.declared.outcome2.Outcome2.{Outcome2};
 
     /// A simulator at tick 0, with the start rows. Allocates all memory that the run needs.
     pub fn new(alloc: Global, m: Machine, rule: SlopeRule) -> Result<Sim2, AllocError>

@@ -2,8 +2,7 @@
 //! of them.
 
 ghost use Rattle.std.specs.Prelude.{◌≡◌, ◌<◌, ◌||◌, ℕ, All, true, length, map};
-ghost use Rattle.mu_num.specs.ListedPlaces.{is_listed};
-ghost use Rattle.qss_machine.specs.Machines.{state_count};
+ghost use Rattle.qss_order2.specs.Prelude.{is_listed, state_count};
 ghost use Rattle.qss_order2.specs.Fixed.{IsUnion, column_at, rows_in};
 ghost use Rattle.qss_order2.specs.Stores.{AreQuiet, IsAffected};
 

@@ -1,3 +1,5 @@
+pub mod Words
+pub mod Prelude
 pub mod Traces
 pub mod TraceSnapshots
 pub mod WideValues

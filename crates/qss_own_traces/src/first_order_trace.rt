@@ -1,20 +1,14 @@
 //! The trace of a machine's run under the rule `floor`, computed tick by tick.
 
-ghost use Rattle.std.specs.Prelude.{◌≡◌, ◌<◌, ◌≤◌, ℕ, [], None, position, length, pos, ◌+ℤ◌};
-ghost use Rattle.std.specs.Prelude.{◌-ℤ◌, ◌*ℤ◌, ◌<ℤ◌, unsigned_abs, int_lt, if◌then◌else◌, IfOk};
-ghost use Rattle.std.specs.Prelude.{IfErr};
-ghost use Rattle.mu_num.specs.Levels.{floor_level};
-ghost use Rattle.mu_num.specs.Sizes.{IsWithin, IsPositiveWithin};
-ghost use Rattle.mu_num.specs.Limits.{tick_limit, bits_of_level, bits_of_state, IsLevel, AreLevels, IsState, AreStates};
-ghost use Rattle.qss_machine.specs.Machines.{state_count, level_unit, start_discretes, row_at};
-ghost use Rattle.qss_machine.specs.Ticks.{is_within_quantum, exceeds_row_limits, moved_states};
-ghost use Rattle.qss_machine.specs.Ticks.{next_levels};
-ghost use Rattle.qss_own_traces.specs.TraceSnapshots.{plain_world};
-ghost use Rattle.cert_check.specs.CertificateLimits.{IsSize};
-ghost use Rattle.qss_trace.specs.Trace.{IsRunOf};
+ghost use Rattle.std.specs.Prelude.{◌≡◌, ◌<◌, ◌≤◌, [], ◌+ℤ◌, ◌-ℤ◌, ◌*ℤ◌, ◌<ℤ◌, if◌then◌else◌, ◌+◌, ℕ, None, position, length, pos, unsigned_abs, int_lt, IfOk, IfErr, OnOk};
+ghost use Rattle.qss_own_traces.specs.Prelude.{floor_level, IsWithin, IsPositiveWithin, tick_limit, bits_of_level, bits_of_state, IsLevel, AreLevels, IsState, AreStates, state_count, level_unit, start_discretes, row_at, is_within_quantum, exceeds_row_limits, moved_states, next_levels, IsSize, IsRunOf, option_or, first_exceeding, start_snapshot, step, snapshot_unless};
 ghost use Rattle.qss_own_traces.specs.FirstRuns.{IsFirstTrace, IsFirstRefusal};
+ghost use Rattle.qss_own_traces.specs.TraceSnapshots.{plain_world};
 
-use crate::own_trace_draft::{Draft, TraceOver, draft_levels_below, draft_number_exceeding, draft_states_at_start, finish_draft_trace, trace_draft_unit};
+use crate::own_trace_draft::{
+    Draft, TraceOver, draft_levels_below, draft_number_exceeding, draft_states_at_start,
+    finish_draft_trace, trace_draft_unit,
+};
 use mu_num::{LEVEL_BITS, STATE_BITS, WEIGHT_BITS, exceeds_power_of_two, floor_div};
 use qss_machine::Machine;
 use qss_order2::{fixed_discretes_of, leaving_gap_of};
@@ -30,10 +24,7 @@ pub(crate) struct FirstCourse {
 }
 
 impl FirstCourse {
-    ghost use Rattle.std.specs.Prelude.{◌≡◌, ◌<◌, ◌+◌, [], IfOk, IfErr, OnOk};
-    ghost use Rattle.qss_machine.specs.Machines.{level_unit, start_discretes};
     ghost use Rattle.qss_own_traces.specs.FirstCourses.{IsAt, IsAtEnd};
-    ghost use Rattle.qss_own_traces.specs.FirstRuns.{IsFirstRefusal};
 
     /// The run at tick 0.
     pub(crate) fn new(alloc: Global, m: &Machine, unit: i128) -> Result<FirstCourse, AllocError>
@@ -104,12 +95,6 @@ pub(crate) struct FirstPlace {
 }
 
 impl FirstPlace {
-    ghost use Rattle.std.specs.Prelude.{◌≡◌, ℕ, [], None, IfOk, position};
-    ghost use Rattle.std.specs.Option.{option_or};
-    ghost use Rattle.mu_num.specs.Levels.{floor_level};
-    ghost use Rattle.qss_machine.specs.Machines.{level_unit, start_discretes};
-    ghost use Rattle.mu_num.specs.IndexedSums.{first_exceeding};
-    ghost use Rattle.qss_machine.specs.Ticks.{exceeds_row_limits, moved_states, next_levels, start_snapshot, step, snapshot_unless};
     ghost use Rattle.qss_own_traces.specs.FirstPlaces.{snapshot_of, HasStates, HasLevels, IsWithinLimits};
 
     /// The point at tick 0.

@@ -1,15 +1,9 @@
 //! What traces of first and second order share: the start of a run, and the draft of its states and
 //! levels. A run without a trace has one of the listed reasons.
 
-ghost use Rattle.std.specs.Prelude.{◌≡◌, ◌++◌, [], IfOk, OnOk, ◌<◌, ◌≤◌, length, pos, ◌*ℤ◌, map};
-ghost use Rattle.cert_check.specs.CertificateLimits.{IsSize};
-ghost use Rattle.qss_machine.specs.Machines.{state_count, quanta, level_unit, start_states};
-ghost use Rattle.qss_trace.specs.TraceLimits.{IsFactor, ArePlaces};
-ghost use Rattle.qss_trace.specs.TracePlaces.{places};
+ghost use Rattle.std.specs.Prelude.{◌≡◌, ◌++◌, [], ◌<◌, ◌≤◌, ◌*ℤ◌, IfOk, OnOk, length, pos, map};
+ghost use Rattle.qss_own_traces.specs.Prelude.{IsSize, state_count, quanta, level_unit, start_states, IsFactor, ArePlaces, places, first_exceeding, floor_of, variable_limit};
 ghost use Rattle.qss_own_traces.specs.Traces.{IsTraceOf};
-ghost use Rattle.mu_num.specs.IndexedSums.{first_exceeding};
-ghost use Rattle.mu_num.specs.Rounding.{floor_of};
-ghost use Rattle.mu_num.specs.Limits.{variable_limit};
 
 use mu_io::Items;
 use mu_num::{exceeds_power_of_two, floor_div};

@@ -1,33 +1,20 @@
 //! The trace of a machine's second-order run under the nearest rule, computed tick by tick from
 //! sums over the rows of the affine system.
 
-ghost use Rattle.std.specs.Prelude.{◌≡◌, ◌<◌, ◌≤◌, ◌||◌, ℕ, Bool, All, None, position, length, pos};
-ghost use Rattle.std.specs.Prelude.{◌+ℤ◌, ◌*ℤ◌, ◌<ℤ◌, replicate, true, if◌then◌else◌, [], IfOk};
-ghost use Rattle.std.specs.Prelude.{IfErr, MatchOption, ◌-ℤ◌, unsigned_abs};
-ghost use Rattle.std.specs.List.{list_any, range_with_len};
-ghost use Rattle.std.specs.Option.{option_or};
-ghost use Rattle.mu_num.specs.Rounding.{floor_of};
-ghost use Rattle.mu_num.specs.Sizes.{IsWithin, exceeds};
-ghost use Rattle.mu_num.specs.ListedPlaces.{flag_at};
-ghost use Rattle.qss_machine.specs.Machines.{state_count, level_unit};
-ghost use Rattle.mu_num.specs.IndexedSums.{int_at, first_exceeding, tabulate, abs_of};
-ghost use Rattle.mu_num.specs.Limits.{variable_limit, tick_limit, sum_limit, bits_of_second_level, bits_of_second_state};
-ghost use Rattle.qss_order2.specs.SecondSteps.{rise_change_weight, is_limit_check, nearest_change};
-ghost use Rattle.qss_order2.specs.SecondSteps.{rise_at, rise_weight};
-ghost use Rattle.qss_own_traces.specs.SecondPlaces.{AreHeld, AreSized, changed, has_left};
-ghost use Rattle.qss_own_traces.specs.SecondPlaces.{leaves_from};
-ghost use Rattle.qss_own_traces.specs.TraceSystems.{Fits, row_weight, system_weight};
-ghost use Rattle.qss_own_traces.specs.WideValues.{is_wide_at};
-ghost use Rattle.cert_check.specs.CertificateLimits.{IsSize};
-ghost use Rattle.qss_trace.specs.Trace.{IsRunOf};
-ghost use Rattle.qss_own_traces.specs.SecondRuns.{IsSecondTrace, IsSecondRefusal};
-ghost use Rattle.cert_matrix.specs.Matrix.{table};
-ghost use Rattle.qss_trace.specs.TraceSums.{IsSmall};
+ghost use Rattle.std.specs.Prelude.{◌≡◌, ◌<◌, ◌≤◌, ◌||◌, ◌+ℤ◌, ◌*ℤ◌, ◌<ℤ◌, if◌then◌else◌, [], ◌-ℤ◌, ◌+◌, ℕ, Bool, All, None, position, length, pos, replicate, true, IfOk, IfErr, MatchOption, unsigned_abs, OnOk};
+ghost use Rattle.qss_own_traces.specs.Prelude.{list_any, range_with_len, option_or, floor_of, IsWithin, exceeds, flag_at, state_count, level_unit, int_at, first_exceeding, tabulate, abs_of, variable_limit, tick_limit, sum_limit, bits_of_second_level, bits_of_second_state, rise_change_weight, is_limit_check, nearest_change, rise_at, rise_weight, IsSize, IsRunOf, table, IsSmall, fine_states, fine_levels, leaves_quantum, next_states, first_exceeding_limit, second_step, second_snapshot_unless};
+ghost use Rattle.qss_order2.specs.SecondSteps.{next_levels};
+ghost use Rattle.qss_own_traces.specs.Words.{AreHeld, AreSized, changed, has_left, leaves_from, Fits, row_weight, system_weight, is_wide_at, IsSecondTrace, IsSecondRefusal};
 
-use crate::own_trace_draft::{Draft, TraceOver, draft_levels_below, draft_number_exceeding, draft_states_at_start, finish_draft_trace};
+use crate::own_trace_draft::{
+    Draft, TraceOver, draft_levels_below, draft_number_exceeding, draft_states_at_start,
+    finish_draft_trace,
+};
 use cert_check::{AffineSystem, affine_system};
 use cert_matrix::RangedSum;
-use mu_num::{LOOK_SPAN, SECOND_LEVEL_BITS, SECOND_WEIGHT_BITS, exceeds_power_of_two, floor_div, near_div};
+use mu_num::{
+    LOOK_SPAN, SECOND_LEVEL_BITS, SECOND_WEIGHT_BITS, exceeds_power_of_two, floor_div, near_div,
+};
 use qss_machine::Machine;
 use qss_sched::repeat_value;
 use qss_trace::{Trace, trace_level_in_states, trace_reach, trace_rise};
@@ -56,10 +43,7 @@ pub(crate) struct SecondCourse {
 }
 
 impl SecondCourse {
-    ghost use Rattle.std.specs.Prelude.{◌≡◌, ◌<◌, ◌+◌, IfOk, IfErr, OnOk};
     ghost use Rattle.qss_own_traces.specs.SecondCourses.{IsAt, IsAtEnd};
-    ghost use Rattle.qss_own_traces.specs.SecondRuns.{IsSecondRefusal};
-    ghost use Rattle.qss_own_traces.specs.TraceSystems.{Fits};
 
     /// The run at tick 0.
     pub(crate) fn new(
@@ -129,13 +113,8 @@ pub(crate) struct SecondPlace {
 }
 
 impl SecondPlace {
-    ghost use Rattle.std.specs.Prelude.{◌≡◌, ◌<◌, ℕ, None, IfOk, replicate, true, pos};
-    ghost use Rattle.mu_num.specs.ListedPlaces.{flag_at};
-    ghost use Rattle.qss_machine.specs.Machines.{state_count};
-    ghost use Rattle.qss_order2.specs.SecondSteps.{fine_states, fine_levels, leaves_quantum, nearest_change, next_states, next_levels, first_exceeding_limit, second_step, second_snapshot_unless};
-    ghost use Rattle.qss_own_traces.specs.SecondPlaces.{IsSized, AreHeld, IsWithinLimits, snapshot_of, changed};
+    ghost use Rattle.qss_own_traces.specs.SecondPlaces.{IsSized, IsWithinLimits, snapshot_of};
     ghost use Rattle.qss_own_traces.specs.SecondRuns.{first_wide};
-    ghost use Rattle.qss_own_traces.specs.TraceSystems.{Fits};
 
     /// The states and levels at tick 0. All states are marked as requantized, with level slopes of
     /// 0.

@@ -1,10 +1,8 @@
 //! Quantized integrators: a state moves at a constant slope until it is one quantum away from its
 //! level.
 
-ghost use Rattle.std.specs.Prelude.{pos, ◌+ℤ◌, ◌-ℤ◌, ◌*ℤ◌, ◌≤ℤ◌, unsigned_abs};
-ghost use Rattle.mu_num.specs.Ticks.{FirstAfter};
-ghost use Rattle.mu_num.specs.Sizes.{IsWithin, IsPositiveWithin};
-ghost use Rattle.mu_num.specs.Limits.{tick_limit, IsLevel, IsQuantum, IsSlope};
+ghost use Rattle.std.specs.Prelude.{◌+ℤ◌, ◌-ℤ◌, ◌*ℤ◌, ◌≤ℤ◌, pos, unsigned_abs};
+ghost use Rattle.qss_quant.specs.Prelude.{FirstAfter, IsWithin, IsPositiveWithin, tick_limit, IsLevel, IsQuantum, IsSlope};
 ghost use Rattle.qss_quant.specs.IntegratorLines.{IsLineWithinQuantum};
 
 use crate::level_gaps::{room_above, room_below};
@@ -37,8 +35,7 @@ impl Model for Integrator {
 
 impl Integrator {
     ghost use Rattle.std.specs.Prelude.{◌≡◌, ℕ, ◌+◌, ◌^◌, ◌≤◌};
-    ghost use Rattle.mu_num.specs.Ticks.{FirstAfter};
-    ghost use Rattle.mu_num.specs.Sizes.{IsWithin, IsPositiveWithin};
+    ghost use Rattle.qss_quant.specs.Prelude.{FirstAfter, IsWithin, IsPositiveWithin};
     ghost use Rattle.qss_quant.specs.IntegratorLines.{state_at, IsLineWithinQuantum, IsAway};
 
     /// The first tick at which the state is at least one quantum away from its level. It is after

@@ -1,8 +1,7 @@
 //! Distances between a state and its level, in units of the state.
 
-ghost use Rattle.std.specs.Prelude.{◌≡◌, pos, ◌*ℤ◌, ◌+ℤ◌, ◌-ℤ◌, ◌<ℤ◌, unsigned_abs, IsTrue, ◌↔◌};
-ghost use Rattle.mu_num.specs.Sizes.{IsWithin, IsPositiveWithin};
-ghost use Rattle.mu_num.specs.Limits.{IsLevel, IsQuantum, IsState};
+ghost use Rattle.std.specs.Prelude.{◌≡◌, ◌*ℤ◌, ◌+ℤ◌, ◌-ℤ◌, ◌<ℤ◌, ◌↔◌, pos, unsigned_abs, IsTrue};
+ghost use Rattle.qss_quant.specs.Prelude.{IsWithin, IsPositiveWithin, IsLevel, IsQuantum, IsState};
 
 /// The difference between a state and its level, in units of the state. It is negative below the
 /// level.

@@ -1,7 +1,7 @@
 //! Quantizers with hysteresis, and the three named rules for new levels.
 
 ghost use Rattle.std.specs.Prelude.{◌≡◌, ℤ, Some};
-ghost use Rattle.mu_num.specs.Limits.{IsQuantum};
+ghost use Rattle.qss_quant.specs.Prelude.{IsQuantum};
 ghost use Rattle.qss_quant.specs.LevelRules.{IsAsked, IsAnswer};
 ghost use Rattle.qss_quant.specs.declared.quantizer.Rule.TheVariants.{Floor, Near, Inward};
 

@@ -1,3 +1,4 @@
+pub mod Prelude
 pub mod RowTexts
 pub mod PlainFields
 pub mod Writers

@@ -1,9 +1,9 @@
 //! Filters of output rows by the name of a variable or of an array.
 
 ghost use Rattle.std.specs.Prelude.{◌≡◌, ◌+◌, ◌<◌};
-ghost use Rattle.qss_machine.specs.Machines.{state_count, discrete_count};
-ghost use Rattle.qss_rows.specs.Filters as Spec;
+ghost use Rattle.qss_rows.specs.Prelude.{state_count, discrete_count};
 ghost use Rattle.qss_rows.specs.RowTexts.{HasVariable, name_of};
+ghost use Rattle.qss_rows.specs.Filters as Spec;
 
 use crate::line_writer::line_variable_name;
 use mu_io::Name;

@@ -1,12 +1,10 @@
 //! Formats lines of five fields without quotes in a buffer, from their end to their start. The
 //! digits of a tick are formatted once for all of its rows.
 
-ghost use Rattle.std.specs.Prelude.{◌≡◌, ◌<◌, ◌≤◌, ◌+◌, ◌++◌, ◌∷◌, [], true, false, length, drop};
-ghost use Rattle.std.specs.Prelude.{decimal, None, IsSome, IfSome};
-ghost use Rattle.std.specs.Fmt.{signed_decimal};
-ghost use Rattle.csv.specs.Writing as Csv;
-ghost use Rattle.csv.specs.Writing.{default_writer};
+ghost use Rattle.std.specs.Prelude.{◌≡◌, ◌<◌, ◌≤◌, ◌+◌, ◌++◌, ◌∷◌, [], true, false, length, drop, decimal, None, IsSome, IfSome};
+ghost use Rattle.qss_rows.specs.Prelude.{signed_decimal, default_writer};
 ghost use Rattle.qss_rows.specs.PlainFields.{IsPlain, number_text, values_line};
+ghost use Rattle.csv.specs.Writing as Csv;
 
 use itoa::{Buffer, write_digits};
 

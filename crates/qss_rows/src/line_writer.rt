@@ -1,13 +1,11 @@
 //! Writes the lines of many rows into memory, with the fields of each row as the library `csv`
 //! formats them. One writer of `csv` and one buffer are reused for many lines.
 
-ghost use Rattle.std.specs.Prelude.{◌≡◌, ◌<◌, ◌≤◌, [], true, false, length, IfOk};
-ghost use Rattle.std.specs.Prelude.{◌+◌, ◌∷◌, ◌++◌, OnOk};
-ghost use Rattle.csv.specs.Writing.{writer_pending, default_writer, row_text};
+ghost use Rattle.std.specs.Prelude.{◌≡◌, ◌<◌, ◌≤◌, [], ◌+◌, ◌∷◌, ◌++◌, true, false, length, IfOk, OnOk, OnErr, None, IsSome, IfSome};
+ghost use Rattle.qss_rows.specs.Prelude.{writer_pending, default_writer, row_text, state_count, discrete_count};
 ghost use Rattle.qss_rows.specs.PlainFields.{csv_line, number_text};
 ghost use Rattle.qss_rows.specs.Writers.{IsBetween, given_to, Gains};
 ghost use Rattle.qss_rows.specs.RowTexts as Spec;
-ghost use Rattle.qss_machine.specs.Machines.{state_count, discrete_count};
 
 use crate::line_text::{LINE_LENGTH, TickText, line_from, put_values};
 use csv::{Error, QuoteStyle, Writer, WriterBuilder};
@@ -36,8 +34,6 @@ pub struct LineWriter {
 }
 
 impl LineWriter {
-    ghost use Rattle.std.specs.Prelude.{◌≡◌, ◌<◌, ◌++◌, [], true, length, OnOk, OnErr, None};
-    ghost use Rattle.std.specs.Prelude.{IsSome, IfSome};
     ghost use Rattle.qss_rows.specs.HeldLines.{AddsRow, lines_in, is_finished};
     ghost use Rattle.qss_rows.specs.PlainFields.{IsPlain};
     ghost use Rattle.qss_rows.specs.RowTexts as Spec;
@@ -214,7 +210,6 @@ pub(crate) struct RecordWriter {
 }
 
 impl RecordWriter {
-    ghost use Rattle.std.specs.Prelude.{◌≡◌, ◌<◌, ◌++◌, [], ◌∷◌, true, length, OnOk, OnErr};
     ghost use Rattle.qss_rows.specs.HeldLines.{records_in};
 
     /// A writer without lines.

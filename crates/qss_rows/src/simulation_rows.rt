@@ -1,17 +1,13 @@
 //! The interface of simulations, and the writing of their runs: the header and the rows are written
 //! to a sink event by event. The result states how the run ended.
 
-ghost use Rattle.std.specs.Prelude.{◌≡◌, ◌<◌, ◌++◌, [], ℕ, List, Option, None, length, IfSome};
-ghost use Rattle.std.specs.Prelude.{IsSome, OnOk, OnErr, ◌≢◌, ◌+◌, ◌-◌, ◌≤◌, Some, slice_index};
-ghost use Rattle.std.specs.Prelude.{true, IfOk};
-ghost use Rattle.qss_machine.specs.declared.compiled_machine.Machine.{Machine};
-ghost use Rattle.qss_rows.specs.declared.simulation_rows.RunEnd.{RunEnd};
-ghost use Rattle.qss_rows.specs.Simulations.{line_at, bytes_in, IsEndIn, text_in, StopsAtLine};
-ghost use Rattle.qss_rows.specs.Simulations.{IsResultOf, IsSimulated};
+ghost use Rattle.std.specs.Prelude.{◌≡◌, ◌<◌, ◌++◌, [], ◌≢◌, ◌+◌, ◌-◌, ◌≤◌, ℕ, List, Option, None, length, IfSome, IsSome, OnOk, OnErr, Some, slice_index, true, IfOk};
+ghost use Rattle.qss_rows.specs.Prelude.{Machine, result_err};
 ghost use Rattle.qss_rows.specs.HeldLines.{lines_in, is_finished};
-ghost use Rattle.std.specs.Result.{result_err};
-ghost use Rattle.qss_rows.specs.Writes.{IsWriting};
 ghost use Rattle.qss_rows.specs.RowTexts.{header as header_line};
+ghost use Rattle.qss_rows.specs.Simulations.{line_at, bytes_in, IsEndIn, text_in, StopsAtLine, IsResultOf, IsSimulated};
+ghost use Rattle.qss_rows.specs.Writes.{IsWriting};
+ghost use Rattle.qss_rows.specs.declared.simulation_rows.RunEnd.{RunEnd};
 
 use crate::line_writer::{LineWriter, header, line_variable_name};
 use memchr::memchr;

@@ -1,3 +1,5 @@
+pub mod Words
+pub mod Prelude
 pub mod EventSteps
 pub mod Stores
 pub mod SimViews

@@ -1,34 +1,9 @@
 //! Sets the zero-crossing detectors of conditions at new values and speeds. At the start all
 //! detectors are set, later those that are affected by handlers or by new slopes.
 
-ghost use Rattle.std.specs.Prelude.{◌≡◌, ℕ, ◌+◌, ◌<◌, ◌≤◌, ◌&&◌, ◌||◌, ◌==◌, ◌∷◌, [], length, All};
-ghost use Rattle.std.specs.Prelude.{true, ◌^◌, unsigned_abs};
-ghost use Rattle.mu_num.specs.ListedPlaces.{flag_at, is_listed, AreRisingBelow};
-ghost use Rattle.qss_machine.specs.MachineLimits.{IsBounded};
-ghost use Rattle.qss_machine.specs.Machines.{state_count, truth, value_of, speed_of};
-ghost use Rattle.qss_machine.specs.Machines.{discrete_count};
-ghost use Rattle.qss_machine.specs.Handlers.{conditions, truths};
-ghost use Rattle.qss_sched.specs.Ranks.{due_at};
-ghost use Rattle.qss_run.specs.ConditionPlaces.{AreConditionsOf, AreDetectorsAt, KnowsApart};
-ghost use Rattle.qss_run.specs.ConditionContexts.{CanSetDetectors, AreConditionValues, CanSettle};
-ghost use Rattle.qss_run.specs.ConditionContexts.{CanUpdateDetectors, CanUpdateReaderDetectors};
-ghost use Rattle.qss_events.specs.Schedules.{condition_at};
-ghost use Rattle.qss_run.specs.DueLists.{differ, AreAlikeBut, IsSameBut};
-ghost use Rattle.qss_run.specs.DetectorUpdates.{AreAlikeButSettled, AreMarkedChanged, AreSettled};
-ghost use Rattle.qss_run.specs.DetectorUpdates.{detector_states_of, AreSettledAlong, readers_of};
-ghost use Rattle.qss_run.specs.DetectorUpdates.{touched_of, touched_by, readers_before};
-ghost use Rattle.qss_run.specs.DetectorUpdates.{touched_after, OthersAreKept, OthersAreUnread};
-ghost use Rattle.qss_states.specs.Variables.{AreDiscretes, AreVariablesOf, AreSlopesOf};
-ghost use Rattle.qss_run.specs.HandlerResults.{is_reinitialized};
-ghost use Rattle.qss_events.specs.HandlerRows.{reinitialized_of};
-ghost use Rattle.qss_run.specs.EventSteps.{HadDetectors, HasDetectorsUpdated};
-ghost use Rattle.qss_states.specs.StateLines.{states_at, AreLinesAt};
-ghost use Rattle.qss_run.specs.Stores.{FitsMachine};
-ghost use Rattle.mu_num.specs.Limits.{tick_limit, AreSlopes};
-ghost use Rattle.qss_machine.specs.Readers.{uses_of};
-ghost use Rattle.qss_cross.specs.Crossing.{IsSmall, value_at};
-ghost use Rattle.qss_run.specs.SpeedUpdates.{GoesOn, AreDetectorsUpdated};
-ghost use Rattle.qss_run.specs.SpeedUpdates.{AreReaderDetectorsUpdated};
+ghost use Rattle.std.specs.Prelude.{◌≡◌, ◌+◌, ◌<◌, ◌≤◌, ◌&&◌, ◌||◌, ◌==◌, ◌∷◌, [], ◌^◌, ℕ, length, All, true, unsigned_abs};
+ghost use Rattle.qss_run.specs.Prelude.{flag_at, is_listed, AreRisingBelow, IsBounded, state_count, truth, value_of, speed_of, discrete_count, conditions, truths, due_at, condition_at, AreDiscretes, AreVariablesOf, AreSlopesOf, reinitialized_of, states_at, AreLinesAt, tick_limit, AreSlopes, uses_of, IsSmall, value_at};
+ghost use Rattle.qss_run.specs.Words.{AreConditionsOf, AreDetectorsAt, KnowsApart, CanSetDetectors, AreConditionValues, CanSettle, CanUpdateDetectors, CanUpdateReaderDetectors, differ, AreAlikeBut, IsSameBut, AreAlikeButSettled, AreMarkedChanged, AreSettled, detector_states_of, AreSettledAlong, readers_of, touched_of, touched_by, readers_before, touched_after, OthersAreKept, OthersAreUnread, is_reinitialized, HadDetectors, HasDetectorsUpdated, FitsMachine, GoesOn, AreDetectorsUpdated, AreReaderDetectorsUpdated};
 
 use crate::condition_handlers::{is_handler_reinitialization, move_handler_states_read};
 use crate::run_conditions::{ConditionContext, ConditionValues, Conditions};

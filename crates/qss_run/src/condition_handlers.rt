@@ -1,30 +1,13 @@
 //! Runs the handlers of a tick at which conditions change. The statements of the due branches are
 //! executed, and the states and discrete variables that they set are listed.
 
-ghost use Rattle.std.specs.Prelude.{◌≡◌, ◌≤◌, [], None, length, vec_capacity, ℕ, ◌+◌, ◌<◌, true};
-ghost use Rattle.std.specs.Prelude.{false, ◌||◌, Some};
-ghost use Rattle.qss_machine.specs.Handlers.{conditions, truths, run_clauses};
-ghost use Rattle.qss_machine.specs.Machines.{state_count};
-ghost use Rattle.qss_hand.specs.Works.{row_room, AreValuesOf, handling_of, values_after};
-ghost use Rattle.qss_hand.specs.Works.{overflow_of};
-ghost use Rattle.qss_run.specs.HandlerResults.{IsHandlerEffect, handling_from, flags_of};
-ghost use Rattle.qss_run.specs.HandlerResults.{handling_of_fired, is_reinitialized};
-ghost use Rattle.qss_run.specs.DueLists.{AreAlikeBut, IsWithout, AreMovedOut, HasRoomFor};
-ghost use Rattle.qss_run.specs.DueLists.{IsTakenFrom};
-ghost use Rattle.qss_run.specs.ConditionPlaces.{AreConditionsOf, AreBranchesAt};
-ghost use Rattle.qss_states.specs.StateLines.{states_at, CanArriveWithin, HaveArrivedWithin};
-ghost use Rattle.qss_states.specs.StateLines.{AreLinesAt, MayArrive};
+ghost use Rattle.std.specs.Prelude.{◌≡◌, ◌≤◌, [], ◌+◌, ◌<◌, ◌||◌, None, length, vec_capacity, ℕ, true, false, Some};
+ghost use Rattle.qss_run.specs.Prelude.{conditions, truths, run_clauses, state_count, row_room, AreValuesOf, handling_of, values_after, overflow_of, states_at, CanArriveWithin, HaveArrivedWithin, AreLinesAt, MayArrive, list_any, form_of, has_entry, int_at, AreWithin, is_reinit, due_at, is_set, assigned_of, is_listed, AreRisingBelow};
 ghost use Rattle.qss_run.specs.ConditionContexts.{CanHandle};
-ghost use Rattle.std.specs.List.{list_any};
-ghost use Rattle.qss_machine.specs.MachineLimits.{form_of};
-ghost use Rattle.qss_machine.specs.Readers.{has_entry};
-ghost use Rattle.mu_num.specs.IndexedSums.{int_at};
-ghost use Rattle.qss_states.specs.Variables.{AreWithin};
+ghost use Rattle.qss_run.specs.ConditionPlaces.{AreConditionsOf, AreBranchesAt};
+ghost use Rattle.qss_run.specs.DueLists.{AreAlikeBut, IsWithout, AreMovedOut, HasRoomFor, IsTakenFrom};
 ghost use Rattle.qss_run.specs.HandlerReads.{action_reads, fired_reads, AreArrived};
-ghost use Rattle.qss_machine.specs.EventCounts.{is_reinit};
-ghost use Rattle.qss_sched.specs.Ranks.{due_at};
-ghost use Rattle.qss_events.specs.HandlerRows.{is_set, assigned_of};
-ghost use Rattle.mu_num.specs.ListedPlaces.{is_listed, AreRisingBelow};
+ghost use Rattle.qss_run.specs.HandlerResults.{IsHandlerEffect, handling_from, flags_of, handling_of_fired, is_reinitialized};
 
 use crate::condition_truths::{list_fired_by_truths, read_changed_truths};
 use crate::event_steps::{put_back_states, take_due_states};

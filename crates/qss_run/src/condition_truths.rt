@@ -1,20 +1,11 @@
 //! The truths of conditions on arrival at a tick, and the conditions that became true during the
 //! handlers of a tick.
 
-ghost use Rattle.std.specs.Prelude.{◌≡◌, ℕ, ◌+◌, ◌<◌, length, None, Some, false, slice_set};
-ghost use Rattle.std.specs.Prelude.{if◌then◌else◌, ◌≤◌, not, ◌&&◌, vec_capacity, [], true};
-ghost use Rattle.std.specs.List.{list_any, filter};
-ghost use Rattle.qss_machine.specs.Handlers.{firing_flags};
-ghost use Rattle.qss_sched.specs.Ranks.{due_at};
-ghost use Rattle.qss_events.specs.Schedules.{became_true};
-ghost use Rattle.qss_run.specs.DueLists.{AreApartAt, CanMakeDue, AreRisenDue, IsSameBut};
-ghost use Rattle.qss_run.specs.DueLists.{AreAlikeBut};
-ghost use Rattle.mu_num.specs.ListedPlaces.{flag_at};
-ghost use Rattle.qss_cross.specs.Crossing.{IsSmall, value_at, holds_at};
+ghost use Rattle.std.specs.Prelude.{◌≡◌, ◌+◌, ◌<◌, if◌then◌else◌, ◌≤◌, ◌&&◌, [], ℕ, length, None, Some, false, slice_set, not, vec_capacity, true};
+ghost use Rattle.qss_run.specs.Prelude.{list_any, filter, firing_flags, due_at, became_true, flag_at, IsSmall, value_at, holds_at, IsWritten, tick_limit};
 ghost use Rattle.qss_run.specs.ConditionContexts.{MayBeRead};
 ghost use Rattle.qss_run.specs.ConditionPlaces.{detector_at};
-ghost use Rattle.mu_num.specs.Writes.{IsWritten};
-ghost use Rattle.mu_num.specs.Limits.{tick_limit};
+ghost use Rattle.qss_run.specs.DueLists.{AreApartAt, CanMakeDue, AreRisenDue, IsSameBut, AreAlikeBut};
 
 use qss_cross::Detector;
 use qss_sched::{Agenda, PlaceSet};

@@ -2,39 +2,10 @@
 //! the tick after them. An event step evaluates conditions if some are due, and otherwise only
 //! gives new levels to the due states.
 
-ghost use Rattle.qss_run.specs.Stores.{IsUnderWay, snapshot_of, IsStoreAt, HasDueRemoved};
-ghost use Rattle.qss_run.specs.EventSteps.{IsEventRun, CanContinueAfterHandlers, snapshot_left};
-ghost use Rattle.std.specs.Prelude.{◌≡◌, ℕ, ◌+◌, ◌<◌, ◌^◌, None, Some, length, if◌then◌else◌, ◌≢◌};
-ghost use Rattle.std.specs.Prelude.{◌≤◌, All, true, false, vec_capacity, ◌++◌, vec_len, ◌-◌, List};
-ghost use Rattle.std.specs.Prelude.{Option, []};
-ghost use Rattle.std.specs.List.{list_any};
-ghost use Rattle.qss_machine.specs.Handlers.{firing_flags, conditions};
-ghost use Rattle.qss_machine.specs.Machines.{state_count, slope_at};
-ghost use Rattle.mu_num.specs.IndexedSums.{tabulate};
-ghost use Rattle.qss_sched.specs.Ranks.{due_at};
-ghost use Rattle.qss_states.specs.StateLines.{states_with, line_at, states_at, MayArrive};
-ghost use Rattle.qss_run.specs.ConditionPlaces.{KnowsApart, AreConditionsOf, AreDetectorsAt};
-ghost use Rattle.qss_run.specs.ConditionPlaces.{HasPlaces};
-ghost use Rattle.qss_states.specs.LineReplacements.{replaced_lines_from};
-ghost use Rattle.mu_num.specs.ListedPlaces.{is_listed};
-ghost use Rattle.qss_run.specs.DueLists.{AreDue, AreChanging, AreMovedOut, HasRoomFor};
-ghost use Rattle.qss_run.specs.DueLists.{IsTakenAfter};
-ghost use Rattle.qss_machine.specs.Runs.{state_rows, discrete_rows, snapshot_rows, last_snapshot};
-ghost use Rattle.qss_machine.specs.Runs.{tick_rows};
-ghost use Rattle.qss_events.specs.AllowedLevels.{IsAllowedLevel};
+ghost use Rattle.std.specs.Prelude.{◌≡◌, ◌+◌, ◌<◌, ◌^◌, if◌then◌else◌, ◌≢◌, ◌≤◌, ◌++◌, ◌-◌, [], ℕ, None, Some, length, All, true, false, vec_capacity, vec_len, List, Option};
+ghost use Rattle.qss_run.specs.Prelude.{list_any, firing_flags, conditions, state_count, slope_at, tabulate, due_at, states_with, line_at, states_at, MayArrive, replaced_lines_from, is_listed, state_rows, discrete_rows, snapshot_rows, last_snapshot, tick_rows, IsAllowedLevel, IsNext, tick_of, end_of, Snapshot, snapshot_unless, Rule, AreEventFree, IsVisit, variable_limit, tick_limit, AreStates, is_touched, reached, CanUpdateSlopesOf, AreAllScheduled, state_at};
+ghost use Rattle.qss_run.specs.Words.{IsUnderWay, snapshot_of, IsStoreAt, HasDueRemoved, IsEventRun, CanContinueAfterHandlers, snapshot_left, KnowsApart, AreConditionsOf, AreDetectorsAt, HasPlaces, AreDue, AreChanging, AreMovedOut, HasRoomFor, IsTakenAfter, view_of, MovesTouched, touches_at};
 ghost use Rattle.qss_machine.specs.declared.machine_parts.RowKind.TheVariants as kind;
-ghost use Rattle.qss_events.specs.Events.{IsNext};
-ghost use Rattle.qss_events.specs.Outcomes.{tick_of, end_of};
-ghost use Rattle.qss_run.specs.SimViews.{view_of};
-ghost use Rattle.qss_run.specs.TouchCounts.{MovesTouched, touches_at};
-ghost use Rattle.qss_machine.specs.Ticks.{Snapshot, snapshot_unless};
-ghost use Rattle.qss_quant.specs.declared.quantizer.Rule.{Rule};
-ghost use Rattle.qss_events.specs.EventFreeRuns.{AreEventFree, IsVisit};
-ghost use Rattle.mu_num.specs.Limits.{variable_limit, tick_limit, AreStates};
-ghost use Rattle.qss_machine.specs.EventCounts.{is_touched};
-ghost use Rattle.qss_states.specs.Advancing.{reached};
-ghost use Rattle.qss_states.specs.EventContexts.{CanUpdateSlopesOf, AreAllScheduled};
-ghost use Rattle.qss_quant.specs.IntegratorLines.{state_at};
 
 use crate::condition_detectors::update_detectors_after_handlers;
 use crate::condition_truths::{copy_settled_truths, make_risen_truths_due, schedule_risen_truth};

@@ -1,13 +1,7 @@
 //! Runs a machine by a named rule and writes the rows that pass a filter to a sink.
 
-ghost use Rattle.std.specs.Prelude.{◌≡◌, Some, All, ◌≢◌, ◌<◌, true};
-ghost use Rattle.qss_events.specs.RemainingRows.{remaining_rows};
-ghost use Rattle.qss_rows.specs.RowTexts.{HasVariable};
-ghost use Rattle.std.specs.Io.KnownBytes.{Appends};
-ghost use Rattle.mu_io.specs.Sinks.{AppendsPrefix, EndsByFault};
-ghost use Rattle.qss_events.specs.RunTexts.{run_by_rule, run_text, IsRunResult, IsRunCutShort};
-ghost use Rattle.qss_events.specs.RunTexts.{IsRunWritten};
-ghost use Rattle.qss_rows.specs.Simulations.{is_whole};
+ghost use Rattle.std.specs.Prelude.{◌≡◌, ◌≢◌, ◌<◌, Some, All, true};
+ghost use Rattle.qss_run.specs.Prelude.{remaining_rows, HasVariable, Appends, AppendsPrefix, EndsByFault, run_by_rule, run_text, IsRunResult, IsRunCutShort, IsRunWritten, is_whole};
 
 use crate::sim::Sim;
 use mu_io::{Name, Sink};
@@ -35,9 +29,7 @@ pub(crate) struct RuledRun<L: Ledger> {
 
 impl<L: Ledger> Simulation for RuledRun<L> {
     ghost use Rattle.std.specs.Prelude.{◌-◌, None};
-    ghost use Rattle.qss_quant.specs.LevelRules.{level_by};
-    ghost use Rattle.qss_events.specs.Events.{rows_left};
-    ghost use Rattle.qss_events.specs.RemainingRows.{row_lines, remaining_run, outcome_of, EndsFrom};
+    ghost use Rattle.qss_run.specs.Prelude.{level_by, rows_left, row_lines, remaining_run, outcome_of, EndsFrom};
 
     ghost machine = { λ run. run.sim.run.machine };
 

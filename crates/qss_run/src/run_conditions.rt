@@ -1,15 +1,9 @@
 //! The conditions of a machine, by index in source order, and the contexts in which conditions and
 //! handlers are evaluated.
 
-ghost use Rattle.std.specs.Prelude.{◌≡◌, ◌<◌, length, ◌≤◌, ◌++◌, IfOk, false, pos, replicate};
-ghost use Rattle.qss_machine.specs.MachineLimits.{IsBounded};
-ghost use Rattle.qss_machine.specs.Handlers.{conditions};
-ghost use Rattle.qss_hand.specs.Works.{clause_at, branch_at};
+ghost use Rattle.std.specs.Prelude.{◌≡◌, ◌<◌, ◌≤◌, ◌++◌, length, IfOk, false, pos, replicate};
+ghost use Rattle.qss_run.specs.Prelude.{IsBounded, conditions, clause_at, branch_at, condition_at, Less, tabulate, condition_limit};
 ghost use Rattle.qss_run.specs.ConditionPlaces.{AreConditionsOf, AreBranches};
-ghost use Rattle.qss_events.specs.Schedules.{condition_at};
-ghost use Rattle.qss_machine.specs.declared.machine_parts.Rel.TheVariants.{Less};
-ghost use Rattle.mu_num.specs.IndexedSums.{tabulate};
-ghost use Rattle.mu_num.specs.Limits.{condition_limit};
 
 use qss_cross::Detector;
 use qss_machine::{Condition, Machine, Rel, Uses};

@@ -1,24 +1,10 @@
 //! The data of a simulator, and its store at tick 0.
 
-ghost use Rattle.std.specs.Prelude.{◌≡◌, ℕ, ◌+◌, ◌<◌, ◌≤◌, ◌++◌, IfOk, None, false, pos};
-ghost use Rattle.std.specs.Prelude.{length, map, position, vec_capacity};
-ghost use Rattle.qss_machine.specs.declared.machine_parts.RowKind.TheVariants as kind;
-ghost use Rattle.mu_num.specs.Levels.{level_below};
-ghost use Rattle.mu_num.specs.IndexedSums.{int_at};
-ghost use Rattle.mu_num.specs.Limits.{variable_limit, IsLevel, AreLevels, IsState, IsSlope};
-ghost use Rattle.qss_machine.specs.Machines.{state_count, level_unit, quantum_of, start_states};
-ghost use Rattle.qss_machine.specs.Machines.{start_discretes};
-ghost use Rattle.qss_machine.specs.Ticks.{start_snapshot, exceeds_row_limits};
-ghost use Rattle.qss_machine.specs.Handlers.{conditions, truths};
-ghost use Rattle.qss_machine.specs.Runs.{state_rows, discrete_rows, snapshot_rows};
-ghost use Rattle.qss_machine.specs.Readers.{uses_of};
-ghost use Rattle.qss_quant.specs.IntegratorLines.{IsLineWithinQuantum};
-ghost use Rattle.qss_sched.specs.Ranks.{due_at, HasNone};
-ghost use Rattle.qss_states.specs.Variables.{AreWithin};
+ghost use Rattle.std.specs.Prelude.{◌≡◌, ◌+◌, ◌<◌, ◌≤◌, ◌++◌, ℕ, IfOk, None, false, pos, length, map, position, vec_capacity};
+ghost use Rattle.qss_run.specs.Prelude.{level_below, int_at, variable_limit, IsLevel, AreLevels, IsState, IsSlope, state_count, level_unit, quantum_of, start_states, start_discretes, start_snapshot, exceeds_row_limits, conditions, truths, state_rows, discrete_rows, snapshot_rows, uses_of, IsLineWithinQuantum, due_at, HasNone, AreWithin, HasOneEach, IsDue};
 ghost use Rattle.qss_run.specs.ConditionPlaces.{AreConditionsOf, AreDetectorsAt};
-ghost use Rattle.qss_states.specs.EventContexts.{HasOneEach};
-ghost use Rattle.qss_events.specs.Schedules.{IsDue};
 ghost use Rattle.qss_run.specs.Stores.{snapshot_of, AreAllScheduled, IsStoreAt, IsBlank};
+ghost use Rattle.qss_machine.specs.declared.machine_parts.RowKind.TheVariants as kind;
 
 use crate::event_steps::set_all_rows;
 use crate::run_conditions::{ConditionValues, Conditions, blank_conditions};

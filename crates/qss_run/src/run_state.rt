@@ -21,12 +21,11 @@ pub struct RunState {
 }
 
 impl Model for RunState {
-    ghost use Rattle.qss_events.specs.RunViews.{RunView};
+    ghost use Rattle.qss_run.specs.Prelude.{RunView};
+    ghost use Rattle.qss_run.specs.SimViews.{view_of};
+    ghost use Rattle.qss_run.specs.Stores.{IsSim};
 
     ghost Value = { RunView };
-
-    ghost use Rattle.qss_run.specs.Stores.{IsSim};
-    ghost use Rattle.qss_run.specs.SimViews.{view_of};
 
     ghost view = { λ s. view_of s.machine s.tick s.store s.end };
 
@@ -35,15 +34,9 @@ impl Model for RunState {
 
 impl RunState {
     ghost use Rattle.std.specs.Prelude.{◌≡◌, ◌+◌, ◌-◌, ◌≤◌, ◌++◌, None, Some, IfOk};
-    ghost use Rattle.qss_machine.specs.declared.machine_parts.RowKind.TheVariants as kind;
-    ghost use Rattle.qss_machine.specs.Ticks.{start_snapshot};
-    ghost use Rattle.qss_machine.specs.Runs.{snapshot_rows};
-    ghost use Rattle.qss_quant.specs.declared.quantizer.Rule.{Rule};
-    ghost use Rattle.qss_quant.specs.LevelRules.{level_by};
-    ghost use Rattle.qss_events.specs.declared.event_outcome.Outcome.{Outcome};
-    ghost use Rattle.qss_events.specs.AllowedLevels.{IsAllowedLevel};
-    ghost use Rattle.qss_events.specs.Events.{IsNext, rows_left};
+    ghost use Rattle.qss_run.specs.Prelude.{start_snapshot, snapshot_rows, Rule, level_by, Outcome, IsAllowedLevel, IsNext, rows_left};
     ghost use Rattle.qss_run.specs.TouchCounts.{MovesTouched, touches_left};
+    ghost use Rattle.qss_machine.specs.declared.machine_parts.RowKind.TheVariants as kind;
 
     /// A machine at tick 0, with the start rows. All memory of the run is allocated here.
     pub fn new(alloc: Global, m: Machine) -> Result<RunState, AllocError>

@@ -1,11 +1,9 @@
 //! Runs a machine without writing its rows, and returns only a summary of them.
 
 ghost use Rattle.std.specs.Prelude.{◌≡◌, ◌<◌, ◌^◌, ◌≤◌, None, Some, unsigned_abs};
-ghost use Rattle.qss_quant.specs.declared.quantizer.Rule.TheVariants.{Floor};
-ghost use Rattle.qss_events.specs.RemainingRows.{first_view};
-ghost use Rattle.qss_events.specs.RunTexts.{run_by_rule};
-ghost use Rattle.qss_run.specs.RunSummaries as Spec;
+ghost use Rattle.qss_run.specs.Prelude.{Floor, first_view, run_by_rule};
 ghost use Rattle.qss_run.specs.RunSummaries.{IsSummary, IsCountFrom};
+ghost use Rattle.qss_run.specs.RunSummaries as Spec;
 
 use crate::sim::Sim;
 use mu_io::Name;

@@ -19,15 +19,9 @@ pub struct Sim {
 
 impl Sim {
     ghost use Rattle.std.specs.Prelude.{◌≡◌, ◌+◌, ◌-◌, ◌≤◌, ◌++◌, None, Some, IfOk};
-    ghost use Rattle.qss_machine.specs.declared.machine_parts.RowKind.TheVariants as kind;
-    ghost use Rattle.qss_machine.specs.Ticks.{start_snapshot};
-    ghost use Rattle.qss_machine.specs.Runs.{snapshot_rows};
-    ghost use Rattle.qss_quant.specs.declared.quantizer.Rule.{Rule};
-    ghost use Rattle.qss_quant.specs.LevelRules.{level_by};
-    ghost use Rattle.qss_events.specs.declared.event_outcome.Outcome.{Outcome};
-    ghost use Rattle.qss_events.specs.AllowedLevels.{IsAllowedLevel};
-    ghost use Rattle.qss_events.specs.Events.{IsNext, rows_left};
+    ghost use Rattle.qss_run.specs.Prelude.{start_snapshot, snapshot_rows, Rule, level_by, Outcome, IsAllowedLevel, IsNext, rows_left};
     ghost use Rattle.qss_run.specs.TouchCounts.{MovesTouched, touches_left};
+    ghost use Rattle.qss_machine.specs.declared.machine_parts.RowKind.TheVariants as kind;
 
     /// A simulator at tick 0, with the start rows. All memory of the run is allocated here.
     pub fn new(alloc: Global, m: Machine, q: Quantizer) -> Result<Sim, AllocError>

@@ -1,11 +1,9 @@
 //! A binary heap of due ticks, indexed by place. Its order is that of ranks: the due tick times
 //! 2^32 plus the place.
 
-ghost use Rattle.std.specs.Prelude.{ℕ, Option, ◌≡◌, ◌≢◌, ◌+◌, ◌*◌, ◌^◌, ◌<◌, ◌≤◌, length};
-ghost use Rattle.std.specs.Prelude.{slice_index, slice_set, ◌/◌, ◌↔◌, IsTrue, IfOk, min, vec_len};
+ghost use Rattle.std.specs.Prelude.{◌≡◌, ◌≢◌, ◌+◌, ◌*◌, ◌^◌, ◌<◌, ◌≤◌, ◌/◌, ◌↔◌, ℕ, Option, length, slice_index, slice_set, IsTrue, IfOk, min, vec_len};
+ghost use Rattle.qss_sched.specs.Heaps.{rank_of_place, IsIndexed, AreKept, IsOrdered, IsOrderedBut, IsBelowOrdered, IsAboveOrdered, IsFirstBelow};
 ghost use Rattle.qss_sched.specs.Ranks.{place_of, due_at, rank_of, AreTicks, HasNone};
-ghost use Rattle.qss_sched.specs.Heaps.{rank_of_place, IsIndexed, AreKept, IsOrdered, IsOrderedBut};
-ghost use Rattle.qss_sched.specs.Heaps.{IsBelowOrdered, IsAboveOrdered, IsFirstBelow};
 
 use std::alloc::{AllocError, Global};
 use std::marker::Model;
@@ -38,8 +36,8 @@ impl Model for DueHeap {
 
 impl DueHeap {
     ghost use Rattle.std.specs.Prelude.{◌≡◌, ◌≢◌, ℕ, ◌<◌, ◌≤◌, false, IfOk, MatchOption, Some, length, slice_set};
-    ghost use Rattle.qss_sched.specs.Ranks.{due_at, IsLeast, IsNextTick, HasNone};
     ghost use Rattle.qss_sched.specs.Agendas.{IsFirstAt};
+    ghost use Rattle.qss_sched.specs.Ranks.{due_at, IsLeast, IsNextTick, HasNone};
 
     /// Returns a heap of n places without due ticks. It allocates all its memory here. Errors:
     /// allocation failure.

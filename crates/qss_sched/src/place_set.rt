@@ -1,7 +1,7 @@
 //! Sets of indices below a count, as a list and a flag for each index.
 
 ghost use Rattle.std.specs.Prelude.{◌≡◌, ◌<◌, All, false, length};
-ghost use Rattle.mu_num.specs.Writes.{IsWritten};
+ghost use Rattle.qss_sched.specs.Prelude.{IsWritten};
 
 use crate::equal_lists::repeat_value;
 use std::alloc::{AllocError, Global};
@@ -29,7 +29,7 @@ impl Model for PlaceSet {
 
 impl PlaceSet {
     ghost use Rattle.std.specs.Prelude.{◌≡◌, ℕ, ◌<◌, ◌||◌, ◌==◌, ◌++◌, ◌∷◌, [], All, IfOk, false};
-    ghost use Rattle.mu_num.specs.ListedPlaces.{is_listed};
+    ghost use Rattle.qss_sched.specs.Prelude.{is_listed};
 
     /// An empty set of indices below a count. All its memory is allocated here.
     pub fn empty(alloc: Global, count: usize) -> Result<PlaceSet, AllocError>

@@ -1,10 +1,10 @@
 //! A timing wheel (Varghese and Lauck 1987) for due ticks of at most 63 ticks after its base.
 
-ghost use Rattle.std.specs.Prelude.{◌≡◌, ◌≢◌, ℕ, ◌+◌, ◌^◌, ◌<◌, ◌≤◌, ◌↔◌, ◌*◌, ◌%◌, IsTrue, List, Option, None, Some, length, slice_set, vec_len, vec_capacity};
-ghost use Rattle.mu_num.specs.Limits.{wheel_places};
+ghost use Rattle.std.specs.Prelude.{◌≡◌, ◌≢◌, ◌+◌, ◌^◌, ◌<◌, ◌≤◌, ◌↔◌, ◌*◌, ◌%◌, if◌then◌else◌, ℕ, IsTrue, List, Option, None, Some, length, slice_set, vec_len, vec_capacity, IfOk};
+ghost use Rattle.qss_sched.specs.Prelude.{wheel_places};
+ghost use Rattle.qss_sched.specs.Agendas.{ArePartTaken, AreTaken, IsTakenAt};
 ghost use Rattle.qss_sched.specs.Ranks.{due_at};
 ghost use Rattle.qss_sched.specs.Wheels.{IsFirstGroup, IsWheel};
-ghost use Rattle.qss_sched.specs.Agendas.{ArePartTaken, AreTaken, IsTakenAt};
 
 use crate::due_heap::{due_tick_at, is_same_due, no_due_ticks, put_due_tick};
 use crate::wheel_marks::{Marks, NEAR_PLACES, SLOTS, WORD_BITS, lowest_marked_bit};
@@ -32,9 +32,8 @@ impl Model for Wheel {
 }
 
 impl Wheel {
-    ghost use Rattle.std.specs.Prelude.{◌≡◌, ◌≢◌, ◌+◌, ◌^◌, ◌<◌, ◌≤◌, ℕ, if◌then◌else◌, IfOk, None, Some, length, slice_set, vec_capacity};
-    ghost use Rattle.qss_sched.specs.Ranks.{due_at, IsLeast, IsNextTick, HasNone};
-    ghost use Rattle.qss_sched.specs.Agendas.{AreTaken, IsFirst, IsTakenAt};
+    ghost use Rattle.qss_sched.specs.Agendas.{IsFirst};
+    ghost use Rattle.qss_sched.specs.Ranks.{IsLeast, IsNextTick, HasNone};
 
     /// Returns a wheel of n places without due ticks. Errors: allocation failure.
     pub(crate) fn with_places(alloc: Global, n: u32) -> Result<Wheel, AllocError>

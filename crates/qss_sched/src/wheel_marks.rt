@@ -1,8 +1,8 @@
 //! Three-level bit sets of the places at each slot of a timing wheel. The first place and the first
 //! nonempty slot are found by reading a few words.
 
-ghost use Rattle.std.specs.Prelude.{◌≡◌, ◌≢◌, ℕ, ◌<◌, ◌↔◌, IsTrue, IfOk, length, slice_index, vec_len};
-ghost use Rattle.mu_num.specs.Limits.{wheel_places};
+ghost use Rattle.std.specs.Prelude.{◌≡◌, ◌≢◌, ◌<◌, ◌↔◌, ℕ, IsTrue, IfOk, length, slice_index, vec_len};
+ghost use Rattle.qss_sched.specs.Prelude.{wheel_places};
 ghost use Rattle.qss_sched.specs.Wheels.{IsBitPut, IsGrouped, IsFirstSlot, IsFirstPlace, IsLowest};
 
 use std::alloc::{AllocError, Global};

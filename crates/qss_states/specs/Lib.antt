@@ -1,3 +1,5 @@
+pub mod Words
+pub mod Prelude
 pub mod StateLines
 pub mod SumMarks
 pub mod Variables

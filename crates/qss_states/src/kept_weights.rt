@@ -1,24 +1,10 @@
 //! Absolute row sums of all rows, and their changes with levels and discrete values. They are
 //! maintained only after a value exceeded the bound up to which no row exceeds its limits.
 
-ghost use Rattle.std.specs.Prelude.{◌≡◌, ◌↔◌, ℕ, All, IsTrue, None, Some, true, false, length};
-ghost use Rattle.std.specs.Prelude.{position, ◌<◌, ◌∷◌, ◌++◌, [], List, flat_map, slice_index_or};
-ghost use Rattle.std.specs.Prelude.{pos};
-ghost use Rattle.qss_machine.specs.Machines.{state_count};
-ghost use Rattle.qss_machine.specs.Ticks.{exceeds_row_limits};
-ghost use Rattle.qss_states.specs.Variables.{AreLevelsOf, AreDiscretes};
-ghost use Rattle.qss_states.specs.KeptWeights.{AreWeights, StayKept};
-ghost use Rattle.qss_states.specs.EventContexts.{AreNewLevels, AreNewLevelsAt, IsHandlerResult};
-ghost use Rattle.qss_states.specs.EventContexts.{CanUpdateAfterHandlers, first_row_exceeding};
-ghost use Rattle.qss_states.specs.EventContexts.{WereWeights, CanFollow, WereSums};
-ghost use Rattle.qss_states.specs.SafeBounds.{IsUpTo, AreUpToAt, IsSafeBound};
-ghost use Rattle.qss_states.specs.RowLimits.{comes_before, IsLeastPast, IsWeighed};
-ghost use Rattle.qss_machine.specs.Readers.{uses_of};
-ghost use Rattle.qss_states.specs.RowSums.{CanAddUp, HasSums};
-ghost use Rattle.qss_events.specs.Schedules.{weights_at};
+ghost use Rattle.std.specs.Prelude.{◌≡◌, ◌↔◌, ◌<◌, ◌∷◌, ◌++◌, [], ℕ, All, IsTrue, None, Some, true, false, length, position, List, flat_map, slice_index_or, pos};
+ghost use Rattle.qss_states.specs.Prelude.{state_count, exceeds_row_limits, uses_of, weights_at, IsWritten};
+ghost use Rattle.qss_states.specs.Words.{AreLevelsOf, AreDiscretes, AreWeights, StayKept, AreNewLevels, AreNewLevelsAt, IsHandlerResult, CanUpdateAfterHandlers, first_row_exceeding, WereWeights, CanFollow, WereSums, IsUpTo, AreUpToAt, IsSafeBound, comes_before, IsLeastPast, IsWeighed, CanAddUp, HasSums, AreReaderSums, AreReadersMarkedOr, AreMarkedOr};
 ghost use Rattle.qss_states.specs.declared.row_sum_changes.RowSum.TheVariants as sum;
-ghost use Rattle.mu_num.specs.Writes.{IsWritten};
-ghost use Rattle.qss_states.specs.SumMarks.{AreReaderSums, AreReadersMarkedOr, AreMarkedOr};
 
 use crate::event_contexts::{HandlerResult, NewLevels};
 use crate::row_sum_changes::{RowSum, update_all_row_sums};

@@ -1,27 +1,12 @@
 //! Sets the new levels of the states that are due at one tick, and updates the absolute row sums. A
 //! level that changes has a row.
 
-ghost use Rattle.std.specs.Prelude.{◌≡◌, ℕ, ◌+◌, ◌<◌, ◌≤◌, ◌^◌, ◌++◌, List, ℤ, None, Some};
-ghost use Rattle.std.specs.Prelude.{length, pos, vec_len, vec_capacity, if◌then◌else◌, true, false};
-ghost use Rattle.std.specs.Prelude.{position, Option};
-ghost use Rattle.std.specs.Option.{option_or};
-ghost use Rattle.mu_num.specs.Sizes.{exceeds};
-ghost use Rattle.mu_num.specs.IndexedSums.{first_exceeding};
-ghost use Rattle.qss_machine.specs.Machines.{state_count, discrete_count};
-ghost use Rattle.qss_machine.specs.Runs.{level_rows};
-ghost use Rattle.qss_quant.specs.IntegratorLines.{state_at};
-ghost use Rattle.qss_states.specs.EventContexts.{AreMovedTo, CanRequantize, CanTakeOnArrival};
-ghost use Rattle.qss_states.specs.EventContexts.{HoldsLevels, IsHandlerArrival, CanArrive};
-ghost use Rattle.mu_num.specs.ListedPlaces.{AreRisingBelow};
-ghost use Rattle.qss_states.specs.LevelChanges.{AreRequantized, AreRequantizedOnArrival};
-ghost use Rattle.qss_states.specs.LevelChanges.{AreRequantizedAt, AreTakenOnArrival, HasTaken};
-ghost use Rattle.qss_states.specs.LevelChanges.{HaveOneMore};
-ghost use Rattle.qss_states.specs.StateLines.{line_at, states_at, CanArriveWithin};
-ghost use Rattle.qss_states.specs.StateLines.{HaveArrivedWithin, MayArrive};
-ghost use Rattle.mu_num.specs.Writes.{IsFirstOf, IsWritten};
-ghost use Rattle.mu_num.specs.Limits.{tick_limit, bits_of_level, bits_of_state, IsLevel, AreLevels};
-ghost use Rattle.qss_machine.specs.Ticks.{exceeds_row_limits};
+ghost use Rattle.std.specs.Prelude.{◌≡◌, ◌+◌, ◌<◌, ◌≤◌, ◌^◌, ◌++◌, if◌then◌else◌, ℕ, List, ℤ, None, Some, length, pos, vec_len, vec_capacity, true, false, position, Option};
+ghost use Rattle.qss_states.specs.Prelude.{option_or, exceeds, first_exceeding, state_count, discrete_count, level_rows, state_at, AreRisingBelow, IsFirstOf, IsWritten, tick_limit, bits_of_level, bits_of_state, IsLevel, AreLevels, exceeds_row_limits};
+ghost use Rattle.qss_states.specs.EventContexts.{AreMovedTo, CanRequantize, CanTakeOnArrival, HoldsLevels, IsHandlerArrival, CanArrive};
 ghost use Rattle.qss_states.specs.KeptWeights.{AreWeights};
+ghost use Rattle.qss_states.specs.LevelChanges.{AreRequantized, AreRequantizedOnArrival, AreRequantizedAt, AreTakenOnArrival, HasTaken, HaveOneMore};
+ghost use Rattle.qss_states.specs.StateLines.{line_at, states_at, CanArriveWithin, HaveArrivedWithin, MayArrive};
 
 use crate::event_contexts::{Arrival, HandlerArrival, HandlerResult, NewLevels};
 use crate::kept_weights::Weights;

@@ -1,15 +1,10 @@
 //! Changes of slopes and absolute row sums with changes of levels.
 
-ghost use Rattle.std.specs.Prelude.{◌≡◌, ℕ, ◌<◌, pos, ◌-ℤ◌, ◌*ℤ◌, length};
-ghost use Rattle.mu_num.specs.Sizes.{IsWithin};
-ghost use Rattle.mu_num.specs.IndexedSums.{int_at};
-ghost use Rattle.qss_machine.specs.Machines.{state_count, row_coefficient, mode_coefficient_at};
-ghost use Rattle.qss_machine.specs.Readers.{reading_rows, uses_of};
-ghost use Rattle.qss_states.specs.RowSums.{taken_by, IsSumAfterLevelChange};
-ghost use Rattle.mu_num.specs.Writes.{IsWritten};
-ghost use Rattle.mu_num.specs.Limits.{IsLevel, IsState};
-ghost use Rattle.qss_states.specs.declared.row_sum_changes.RowSum.TheVariants as sum;
+ghost use Rattle.std.specs.Prelude.{◌≡◌, ◌<◌, ◌-ℤ◌, ◌*ℤ◌, ℕ, pos, length};
+ghost use Rattle.qss_states.specs.Prelude.{IsWithin, int_at, state_count, row_coefficient, mode_coefficient_at, reading_rows, uses_of, IsWritten, IsLevel, IsState};
 ghost use Rattle.qss_states.specs.EventContexts.{IsMode, CanShift, CanFollow, new_sums, new_slopes};
+ghost use Rattle.qss_states.specs.RowSums.{taken_by, IsSumAfterLevelChange};
+ghost use Rattle.qss_states.specs.declared.row_sum_changes.RowSum.TheVariants as sum;
 
 use crate::event_contexts::{Mode, NewLevels};
 use qss_machine::Uses;

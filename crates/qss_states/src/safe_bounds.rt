@@ -1,11 +1,8 @@
 //! Bounds on levels and discrete values up to which no row exceeds its limits.
 
-ghost use Rattle.std.specs.Prelude.{◌≡◌, ℕ, ◌+◌, ◌^◌, ◌<◌, ◌≤◌, ◌↔◌, All, IsTrue, MatchOption};
-ghost use Rattle.std.specs.Prelude.{None, Some, length, sum_by, unsigned_abs};
-ghost use Rattle.mu_num.specs.Sizes.{IsWithin};
-ghost use Rattle.mu_num.specs.Limits.{variable_limit};
-ghost use Rattle.qss_states.specs.SafeBounds.{IsUpTo, AreUpToAt, AllowsBound, IsSafeBound};
-ghost use Rattle.qss_states.specs.SafeBounds.{AreSmall, excess};
+ghost use Rattle.std.specs.Prelude.{◌≡◌, ◌+◌, ◌^◌, ◌<◌, ◌≤◌, ◌↔◌, ℕ, All, IsTrue, MatchOption, None, Some, length, sum_by, unsigned_abs};
+ghost use Rattle.qss_states.specs.Prelude.{IsWithin, variable_limit};
+ghost use Rattle.qss_states.specs.SafeBounds.{IsUpTo, AreUpToAt, AllowsBound, IsSafeBound, AreSmall, excess};
 
 use mu_num::LEVEL_BITS;
 use qss_machine::{Entry, Machine, Product, SlopeRow};

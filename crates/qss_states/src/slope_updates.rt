@@ -1,35 +1,10 @@
 //! Updates the slopes of the states whose rows read a changed variable, after requantizations and
 //! after handlers. The lines of these states continue at the new slopes.
 
-ghost use Rattle.std.specs.Prelude.{◌≡◌, ℕ, ◌+◌, ◌<◌, ◌≤◌, ◌∷◌, [], All, length, pos, true, false};
-ghost use Rattle.std.specs.Prelude.{vec_capacity, flat_map, List, ℤ, None};
-ghost use Rattle.mu_num.specs.Sizes.{IsWithin};
-ghost use Rattle.mu_num.specs.IndexedSums.{int_at};
-ghost use Rattle.qss_machine.specs.Machines.{state_count, discrete_count, level_unit, slope_at};
-ghost use Rattle.qss_machine.specs.Machines.{quantum_of};
-ghost use Rattle.qss_machine.specs.Readers.{reading_rows, uses_of};
-ghost use Rattle.qss_quant.specs.IntegratorLines.{state_at, IsLineWithinQuantum};
-ghost use Rattle.qss_sched.specs.Ranks.{due_at};
-ghost use Rattle.mu_num.specs.ListedPlaces.{is_listed};
-ghost use Rattle.mu_num.specs.Writes.{IsWritten};
-ghost use Rattle.mu_num.specs.Limits.{tick_limit, IsLevel, IsSlope};
-ghost use Rattle.qss_states.specs.Advancing.{CanAdvance, HaveAdvanced, advancing_of, MaySchedule};
-ghost use Rattle.qss_states.specs.Advancing.{reached};
-ghost use Rattle.qss_states.specs.StateLines.{line_at, MayMove, IsRestartedFrom};
-ghost use Rattle.qss_states.specs.SlopeUpdates.{AreScheduled, MayUpdateSlope, IsOneScheduled};
-ghost use Rattle.qss_states.specs.SlopeUpdates.{HaveSlopesUpdated};
-ghost use Rattle.qss_states.specs.RowSums.{IsSumAfterLevelChange, CanAddUp};
+ghost use Rattle.std.specs.Prelude.{◌≡◌, ◌+◌, ◌<◌, ◌≤◌, ◌∷◌, [], ℕ, All, length, pos, true, false, vec_capacity, flat_map, List, ℤ, None};
+ghost use Rattle.qss_states.specs.Prelude.{IsWithin, int_at, state_count, discrete_count, level_unit, slope_at, quantum_of, reading_rows, uses_of, state_at, IsLineWithinQuantum, due_at, is_listed, IsWritten, tick_limit, IsLevel, IsSlope};
+ghost use Rattle.qss_states.specs.Words.{CanAdvance, HaveAdvanced, advancing_of, MaySchedule, reached, line_at, MayMove, IsRestartedFrom, AreScheduled, MayUpdateSlope, IsOneScheduled, HaveSlopesUpdated, IsSumAfterLevelChange, CanAddUp, CanFollow, CanFollowLevel, CanSchedule, CanUpdateSlopesOf, AreAllScheduled, quiet_slopes, CanUpdateSlopes, CanScheduleOne, AreStatesOf, CanUpdateAfterHandlers, CanRestart, first_row_exceeding, new_slopes, states_left, WereSums, has_level_and_slope, IsCounted, goes_from, replaced_lines_from, IsCountedFrom, AreReaderSums, AreReadersMarkedOr, AreMarkedOr, IsSlopeAt};
 ghost use Rattle.qss_states.specs.declared.row_sum_changes.RowSum.TheVariants as sum;
-ghost use Rattle.qss_states.specs.EventContexts.{CanFollow, CanFollowLevel, CanSchedule};
-ghost use Rattle.qss_states.specs.EventContexts.{CanUpdateSlopesOf, AreAllScheduled, quiet_slopes};
-ghost use Rattle.qss_states.specs.EventContexts.{CanUpdateSlopes, CanScheduleOne, AreStatesOf};
-ghost use Rattle.qss_states.specs.EventContexts.{CanUpdateAfterHandlers, CanRestart};
-ghost use Rattle.qss_states.specs.EventContexts.{first_row_exceeding, new_slopes, states_left};
-ghost use Rattle.qss_states.specs.EventContexts.{WereSums};
-ghost use Rattle.qss_states.specs.LineReplacements.{has_level_and_slope, IsCounted, goes_from};
-ghost use Rattle.qss_states.specs.LineReplacements.{replaced_lines_from, IsCountedFrom};
-ghost use Rattle.qss_states.specs.SumMarks.{AreReaderSums, AreReadersMarkedOr, AreMarkedOr};
-ghost use Rattle.qss_states.specs.SumMarks.{IsSlopeAt};
 
 use crate::event_contexts::{EventLevels, HandlerResult, Mode, NewLevels, NewSlopes};
 use crate::row_sum_changes::{RowSum, sum_difference, update_sums_of_slopes};

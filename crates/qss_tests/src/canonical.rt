@@ -4,7 +4,11 @@ use mu_canonical::write_model;
 use mu_copies::Copied;
 use mu_io::Name;
 use mu_num::Ratio;
-use mu_tree::{Decl, Equation, Expr, Factor, FlatBranch, FlatClause, FlatEquation, FlatExpr, FlatFactor, FlatModel, FlatRole, FlatStatement, FlatTerm, FlatVar, Model, Prefix, Ref, Rel, SettingItem, SettingName, Settings, Term};
+use mu_tree::{
+    Decl, Equation, Expr, Factor, FlatBranch, FlatClause, FlatEquation, FlatExpr, FlatFactor,
+    FlatModel, FlatRole, FlatStatement, FlatTerm, FlatVar, Model, Prefix, Ref, Rel, SettingItem,
+    SettingName, Settings, Term,
+};
 use std::alloc::{AllocError, Global};
 use std::test::Fail;
 

@@ -1,9 +1,9 @@
 //! Tests of each public call on a small machine: x' = -2 x.
 
 ghost use Rattle.std.specs.Prelude.{◌≡◌, [], ◌∷◌, pos, negsuc, IfOk, IsTrue};
+ghost use Rattle.qss_machine.specs.MachineLimits.{IsBounded};
 ghost use Rattle.qss_machine.specs.Machines.{state_count, row_at};
 ghost use Rattle.qss_machine.specs.Slopes.{mode_fits};
-ghost use Rattle.qss_machine.specs.MachineLimits.{IsBounded};
 
 use crate::lists::{none, one};
 use mu_io::{Items, Name};

@@ -1,8 +1,8 @@
 //! Tests of quantizers and of quantized integrators.
 
 ghost use Rattle.std.specs.Prelude.{None, Some, false};
-ghost use Rattle.qss_quant.specs.declared.quantizer.Rule.TheVariants.{Floor};
 ghost use Rattle.qss_quant.specs.LevelRules.{IsAsked, IsAnswer};
+ghost use Rattle.qss_quant.specs.declared.quantizer.Rule.TheVariants.{Floor};
 ghost use Rattle.qss_order2.specs.SlopeRules as Slopes;
 
 use mu_num::{ceil_div, floor_div};

@@ -1,6 +1,6 @@
 //! Tests of traces of own runs, of runs without a trace, and of lines of second-order rows.
 
-ghost use Rattle.std.specs.Prelude.{◌≡◌, ◌∷◌, [], pos, negsuc, ◌^◌, IfOk};
+ghost use Rattle.std.specs.Prelude.{◌≡◌, ◌∷◌, [], ◌^◌, pos, negsuc, IfOk};
 ghost use Rattle.qss_machine.specs.Machines.{state_count};
 
 use crate::lists::{none, one};

@@ -1,14 +1,6 @@
 //! Theorems over several crates. Each is the contract of a function with an empty body.
 
-ghost use Rattle.qss_theorems.specs.AffectedStates.{AffectedStatesAreBounded};
-ghost use Rattle.qss_theorems.specs.CertificateLengths.{WrittenCertificatesAreShort};
-ghost use Rattle.qss_theorems.specs.Listings.{ListingsAreRight};
-ghost use Rattle.qss_theorems.specs.RunCourses.{EventsLeadFreely};
-ghost use Rattle.qss_theorems.specs.Expressions.{NamesAreTaken};
-ghost use Rattle.qss_theorems.specs.Items.{ItemsAreKept};
-ghost use Rattle.qss_theorems.specs.CommaLines.{BoundLinesAreFields, LinesAreFields, SecondOrderLinesAreFields};
-ghost use Rattle.qss_theorems.specs.Printed.{PrintedRunsAreFree};
-ghost use Rattle.qss_theorems.specs.Sources.{SourcesAreWellFormed};
+ghost use Rattle.qss_theorems.specs.Words.{AffectedStatesAreBounded, WrittenCertificatesAreShort, ListingsAreRight, EventsLeadFreely, NamesAreTaken, ItemsAreKept, BoundLinesAreFields, LinesAreFields, SecondOrderLinesAreFields, PrintedRunsAreFree, SourcesAreWellFormed};
 
 /// The flat model of a source equals the recursive listing of its tree, which has no counters for
 /// limits.

@@ -1,3 +1,5 @@
+pub mod Words
+pub mod Prelude
 -- the definitions of the main theorem, of `qss_main` and of runs of the program
 pub mod Shares
 pub mod MachineAnswers

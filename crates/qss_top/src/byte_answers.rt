@@ -1,25 +1,9 @@
 //! The commands as functions of the bytes of their files.
 
 ghost use Rattle.std.specs.Prelude.{◌≡◌, ◌≤◌, false, List, ℕ, length, IfOk, OnOk, IfErr};
-ghost use Rattle.std.specs.Io.KnownBytes.{Appends};
-ghost use Rattle.mu_num.specs.Limits.{relative_limit};
-ghost use Rattle.cert_check.specs.Scope.{IsInScope};
-ghost use Rattle.cert_check.specs.declared.certificate.Certificate.{Certificate};
-ghost use Rattle.qss_answers.specs.AcceptedBounds.{IsSoundCertification};
-ghost use Rattle.qss_machine.specs.Machines.{state_count};
-ghost use Rattle.qss_machine.specs.declared.compiled_machine.Machine.{Machine};
-ghost use Rattle.qss_trace.specs.TraceTexts.{IsTextOf};
-ghost use Rattle.qss_trace.specs.Trace.{IsRunOf};
-ghost use Rattle.qss_trace.specs.declared.trace.Trace.{Trace};
-ghost use Rattle.qss_top.specs.MachineAnswers.{IsCertifyAnswer, IsCheckAnswer, IsMachineAnswer};
-ghost use Rattle.qss_top.specs.MachineAnswers.{IsPrintAnswer, IsSourceMachine, IsUpgradeAnswer};
-ghost use Rattle.qss_top.specs.CertificateOutcomes.{IsRefusedBefore, IsTextRefused};
-ghost use Rattle.qss_top.specs.CommandAnswers.{IsScopedMachine};
-ghost use Rattle.qss_top.specs.ComparisonOutcomes.{IsCompareAnswer};
+ghost use Rattle.qss_top.specs.Prelude.{Appends, relative_limit, IsInScope, Certificate, IsSoundCertification, state_count, Machine, IsTextOf, IsRunOf, Trace};
+ghost use Rattle.qss_top.specs.Words.{IsCertifyAnswer, IsCheckAnswer, IsMachineAnswer, IsPrintAnswer, IsSourceMachine, IsUpgradeAnswer, IsRefusedBefore, IsTextRefused, IsScopedMachine, IsCompareAnswer, AreCertifiedBy, given_in, task_goes, IsSourceAnswer, WritesAnswer};
 ghost use Rattle.qss_top.specs.FileReadings as Files;
-ghost use Rattle.qss_top.specs.CertifiedRuns.{AreCertifiedBy};
-ghost use Rattle.qss_top.specs.Tasks.{given_in, task_goes, IsSourceAnswer};
-ghost use Rattle.qss_top.specs.Frames.{WritesAnswer};
 
 use crate::command::print_source;
 use crate::command_outcome::Outcome;

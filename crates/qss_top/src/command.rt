@@ -1,16 +1,13 @@
 //! Parses the command line and executes the command.
 
-ghost use Rattle.std.specs.Prelude.{length, ◌≡◌, ◌≤◌, ◌⊎◌, false, map, None, Some};
-ghost use Rattle.mu_num.specs.Limits.{model_length_limit};
-ghost use Rattle.mu_tree.specs.ModelTree.{model};
-ghost use Rattle.qss_top.specs.MachineAnswers.{IsPrintAnswer, model_answer};
+ghost use Rattle.std.specs.Prelude.{◌≡◌, ◌≤◌, ◌⊎◌, length, false, map, None, Some};
+ghost use Rattle.qss_top.specs.Prelude.{model_length_limit, model, command_of, files_of, writes_as_it_goes, command_in, command_with};
 ghost use Rattle.qss_top.specs.CommandAnswers.{Answers};
-ghost use Rattle.qss_cli.specs.Commands as Spec;
-ghost use Rattle.qss_cli.specs.Commands.{command_of, files_of, writes_as_it_goes};
-ghost use Rattle.qss_cli.specs.Requests.{command_in, command_with};
-ghost use Rattle.qss_top.specs.Tasks.{task_goes};
-ghost use Rattle.qss_top.specs.ReadAnswers.{ArgumentsAnswerFromReads};
 ghost use Rattle.qss_top.specs.Frames.{AnswersFromFiles, IsFileFrame, IsOutputFrame, WritesAnswer};
+ghost use Rattle.qss_top.specs.MachineAnswers.{IsPrintAnswer, model_answer};
+ghost use Rattle.qss_top.specs.ReadAnswers.{ArgumentsAnswerFromReads};
+ghost use Rattle.qss_top.specs.Tasks.{task_goes};
+ghost use Rattle.qss_cli.specs.Commands as Spec;
 
 use crate::command_outcome::Outcome;
 use crate::comparison::write_text;

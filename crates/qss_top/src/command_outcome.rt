@@ -1,9 +1,8 @@
 //! The outcome of a command, its status, and its line on standard error.
 
-ghost use Rattle.std.specs.Prelude.{true, ◌≡◌, ◌⊎◌, ◌≤◌, ℕ, List, codes, IfOk};
-ghost use Rattle.qss_top.specs.MachineAnswers.{overflow_line, status_of_refusal};
+ghost use Rattle.std.specs.Prelude.{◌≡◌, ◌⊎◌, ◌≤◌, true, ℕ, List, codes, IfOk};
+ghost use Rattle.qss_top.specs.Words.{overflow_line, status_of_refusal, IsLineWritten};
 ghost use Rattle.qss_top.specs.CommandOutcomes as Spec;
-ghost use Rattle.qss_top.specs.WrittenTexts.{IsLineWritten};
 
 use crate::status::Status;
 use mu_io::{Name, Sink, write_all};

@@ -1,20 +1,10 @@
 //! Compares two runs of a machine by a certificate. The runs are the machine's own, or traces that
 //! are given or read from files.
 
-ghost use Rattle.std.specs.Prelude.{◌≡◌, ◌≢◌, ◌⊎◌, ◌++◌, [], false};
-ghost use Rattle.std.specs.Prelude.{Ok, Err, IfOk, IfErr};
-ghost use Rattle.qss_machine.specs.Machines.{state_count};
+ghost use Rattle.std.specs.Prelude.{◌≡◌, ◌≢◌, ◌⊎◌, ◌++◌, [], false, Ok, Err, IfOk, IfErr};
+ghost use Rattle.qss_top.specs.Prelude.{state_count, IsRunTrace, HasNoRunTrace, MayStop, IfMemory, TakesMemory};
+ghost use Rattle.qss_top.specs.Words.{ComparisonAnswers, FirstRunAnswers, IsCompareAnswer, IsStopOutcome, ObtainsTrace, SecondRunAnswers, PairAnswer, names_of, Outcome, text_answer, given_in, origin_in, AnswersFromFiles, WritesAnswer};
 ghost use Rattle.qss_rows.specs.RowTexts as Rows;
-ghost use Rattle.qss_answers.specs.Comparisons.{IsRunTrace, HasNoRunTrace, MayStop};
-ghost use Rattle.qss_answers.specs.Comparisons.{IfMemory, TakesMemory};
-ghost use Rattle.qss_top.specs.CommandAnswers.{ComparisonAnswers};
-ghost use Rattle.qss_top.specs.ComparisonOutcomes.{FirstRunAnswers, IsCompareAnswer, IsStopOutcome};
-ghost use Rattle.qss_top.specs.ComparisonOutcomes.{ObtainsTrace, SecondRunAnswers, PairAnswer};
-ghost use Rattle.qss_top.specs.ComparisonOutcomes.{names_of};
-ghost use Rattle.qss_top.specs.declared.command_outcome.Outcome.{Outcome};
-ghost use Rattle.qss_top.specs.MachineAnswers.{text_answer};
-ghost use Rattle.qss_top.specs.Tasks.{given_in, origin_in};
-ghost use Rattle.qss_top.specs.Frames.{AnswersFromFiles, WritesAnswer};
 
 use crate::command_outcome::Outcome;
 use crate::file_reading::{FileKind, read_file};

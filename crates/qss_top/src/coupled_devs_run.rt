@@ -1,9 +1,9 @@
 //! Runs a machine as a coupled DEVS model and writes its rows.
 
 ghost use Rattle.std.specs.Prelude.{◌≡◌, true};
-ghost use Rattle.qss_cli.specs.Commands.{plain_options};
-ghost use Rattle.qss_top.specs.MachineAnswers.{printed_run_answer};
+ghost use Rattle.qss_top.specs.Prelude.{plain_options};
 ghost use Rattle.qss_top.specs.Frames.{WritesAnswer};
+ghost use Rattle.qss_top.specs.MachineAnswers.{printed_run_answer};
 
 use crate::command_outcome::Outcome;
 use mu_io::Sink;

@@ -1,8 +1,8 @@
 //! Reads the files of a command, each up to the greatest length of its kind.
 
 ghost use Rattle.std.specs.Prelude.{◌≡◌};
-ghost use Rattle.qss_top.specs.FileReadings as Spec;
 ghost use Rattle.qss_top.specs.FileReadings.{ReadsFile};
+ghost use Rattle.qss_top.specs.FileReadings as Spec;
 
 use crate::command_outcome::Outcome;
 use mu_io::{ReadErr, Shelf, read_all};

@@ -1,8 +1,8 @@
 //! Runs a generated model and writes a summary of its run.
 
 ghost use Rattle.std.specs.Prelude.{◌≡◌, false, IfOk};
-ghost use Rattle.qss_top.specs.MachineAnswers.{IsGenerationAnswer, summary_of, summary_answer};
 ghost use Rattle.qss_top.specs.Frames.{WritesAnswer};
+ghost use Rattle.qss_top.specs.MachineAnswers.{IsGenerationAnswer, summary_of, summary_answer};
 
 use crate::command_outcome::Outcome;
 use crate::comparison::write_text;

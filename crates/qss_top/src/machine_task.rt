@@ -1,12 +1,11 @@
 //! Executes the tasks on the machine of a source: runs by a rule, second-order runs, coupled runs
 //! and proposals.
 
-ghost use Rattle.std.specs.Prelude.{length, ◌≡◌, ◌≤◌, true, false, option_map, IfOk};
-ghost use Rattle.mu_num.specs.Limits.{relative_limit, model_length_limit};
+ghost use Rattle.std.specs.Prelude.{◌≡◌, ◌≤◌, length, true, false, option_map, IfOk};
+ghost use Rattle.qss_top.specs.Prelude.{relative_limit, model_length_limit, options_in};
+ghost use Rattle.qss_top.specs.Frames.{WritesAnswer};
 ghost use Rattle.qss_top.specs.MachineAnswers.{IsProposeAnswer, printed_run_answer};
 ghost use Rattle.qss_top.specs.Tasks.{task_goes, task_share, IsSourceAnswer, IsTaskAnswer};
-ghost use Rattle.qss_cli.specs.Requests.{options_in};
-ghost use Rattle.qss_top.specs.Frames.{WritesAnswer};
 
 use crate::command_outcome::Outcome;
 use crate::coupled_devs_run::coupled_machine;

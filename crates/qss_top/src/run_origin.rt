@@ -2,7 +2,7 @@
 //! trace in a named file.
 
 ghost use Rattle.std.specs.Prelude.{◌≡◌};
-ghost use Rattle.qss_cli.specs.Requests.{side_in};
+ghost use Rattle.qss_top.specs.Prelude.{side_in};
 ghost use Rattle.qss_top.specs.CommandAnswers.{origin_of};
 ghost use Rattle.qss_top.specs.Tasks.{origin_in};
 

@@ -1,8 +1,8 @@
 //! Writes the second-order run of a machine, and rejects a machine with clauses.
 
 ghost use Rattle.std.specs.Prelude.{[], ◌≡◌, true};
-ghost use Rattle.qss_top.specs.MachineAnswers.{second_run_answer, run2_answer};
 ghost use Rattle.qss_top.specs.Frames.{WritesAnswer};
+ghost use Rattle.qss_top.specs.MachineAnswers.{second_run_answer, run2_answer};
 
 use crate::command_outcome::Outcome;
 use mu_io::Sink;

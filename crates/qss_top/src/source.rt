@@ -1,10 +1,9 @@
 //! Compiles the bytes of a source to a machine with a relative quantum.
 
 ghost use Rattle.std.specs.Prelude.{◌≤◌, length, IfOk, IfErr};
-ghost use Rattle.mu_num.specs.Limits.{relative_limit, model_length_limit};
-ghost use Rattle.qss_compile.specs.Compilation.{IsRefused};
-ghost use Rattle.qss_top.specs.MachineAnswers.{IsSourceMachine};
+ghost use Rattle.qss_top.specs.Prelude.{relative_limit, model_length_limit, IsRefused};
 ghost use Rattle.qss_top.specs.CommandOutcomes.{IsRefusedFor};
+ghost use Rattle.qss_top.specs.MachineAnswers.{IsSourceMachine};
 
 use crate::command_outcome::Outcome;
 use qss_compile::compile;

@@ -1,8 +1,7 @@
 //! The program as a function of arguments, files and streams.
 
 ghost use Rattle.std.specs.Prelude.{◌≡◌, ◌≢◌, ◌≤◌, ◌⊎◌, true, List, ℕ, map, None};
-ghost use Rattle.mu_io.specs.Sinks.{EndsByFault};
-ghost use Rattle.qss_cli.specs.Commands.{command_of, writes_as_it_goes};
+ghost use Rattle.qss_top.specs.Prelude.{EndsByFault, command_of, writes_as_it_goes};
 ghost use Rattle.qss_top.specs.Calls.{IsTrueToReads};
 ghost use Rattle.qss_top.specs.Frames.{AddsReadings, CountsLastFault};
 ghost use Rattle.qss_top.specs.Statuses.{leaves_out};

@@ -1,14 +1,9 @@
 //! Executes the commands on a model and a second text: a certificate or a trace.
 
-ghost use Rattle.std.specs.Prelude.{length, ◌≡◌, ◌≤◌, ◌∷◌, false};
-ghost use Rattle.mu_num.specs.Limits.{model_length_limit};
-ghost use Rattle.cert_check.specs.Scope.{IsInScope};
+ghost use Rattle.std.specs.Prelude.{◌≡◌, ◌≤◌, ◌∷◌, length, false};
+ghost use Rattle.qss_top.specs.Prelude.{model_length_limit, IsInScope, files_of, share_of_task, command_on};
+ghost use Rattle.qss_top.specs.CertificateOutcomes.{files_after_text, kind_in, ScopeAnswers, SourceAnswers, TextAnswers};
 ghost use Rattle.qss_top.specs.CommandAnswers.{Answers};
-ghost use Rattle.qss_top.specs.CertificateOutcomes.{files_after_text, kind_in};
-ghost use Rattle.qss_top.specs.CertificateOutcomes.{ScopeAnswers, SourceAnswers, TextAnswers};
-ghost use Rattle.qss_cli.specs.Commands.{files_of};
-ghost use Rattle.qss_cli.specs.RelativeQuanta.{share_of_task};
-ghost use Rattle.qss_cli.specs.Requests.{command_on};
 ghost use Rattle.qss_top.specs.FileReadings.{limit_of};
 ghost use Rattle.qss_top.specs.Frames.{AnswersFromFiles};
 

@@ -1,12 +1,10 @@
 //! Checks that a trace is a legitimate run of a machine. Three facts must hold at each place: about
 //! its start, its moves and its distance to levels. The verdict reports the first fact that fails.
 
-ghost use Rattle.std.specs.Prelude.{◌≡◌, ℕ, ◌+◌, ◌<◌, ◌≤◌, ◌↔◌, [], Some, None, IfSome, Bool};
-ghost use Rattle.std.specs.Prelude.{IsTrue};
-ghost use Rattle.qss_machine.specs.Machines.{state_count};
+ghost use Rattle.std.specs.Prelude.{◌≡◌, ◌+◌, ◌<◌, ◌≤◌, ◌↔◌, [], ℕ, Some, None, IfSome, Bool, IsTrue};
+ghost use Rattle.qss_trace.specs.Prelude.{state_count};
+ghost use Rattle.qss_trace.specs.LegitimateFacts.{number_of, IsTakenAt, left_of, right_of, IsTaken, IsMet};
 ghost use Rattle.qss_trace.specs.Trace.{count_of, IsRunOf};
-ghost use Rattle.qss_trace.specs.LegitimateFacts.{number_of, IsTakenAt, left_of, right_of, IsTaken};
-ghost use Rattle.qss_trace.specs.LegitimateFacts.{IsMet};
 ghost use Rattle.qss_trace.specs.TraceChecks.{IsFoundAmong, IsFoundAt};
 ghost use Rattle.qss_trace.specs.TraceSums.{MatchesMachine};
 ghost use Rattle.qss_trace.specs.TraceVerdicts.{IsVerdict};

@@ -1,11 +1,11 @@
 //! Compares two traces by V of their difference: finds the first common time at which V is
 //! greatest.
 
-ghost use Rattle.std.specs.Prelude.{◌≡◌, ℕ, ◌+◌, ◌*◌, ◌^◌, ◌<◌, ◌≤◌, ◌↔◌, ◌-ℤ◌, ◌*ℤ◌, ◌≤ℤ◌, pos, length, IsSome, IfSome, Some, None, unsigned_abs};
-ghost use Rattle.mu_num.specs.Limits.{tick_limit, sum_limit};
-ghost use Rattle.qss_trace.specs.Trace.{count_of};
+ghost use Rattle.std.specs.Prelude.{◌≡◌, ◌+◌, ◌*◌, ◌^◌, ◌<◌, ◌≤◌, ◌↔◌, ◌-ℤ◌, ◌*ℤ◌, ◌≤ℤ◌, ℕ, pos, length, IsSome, IfSome, Some, None, unsigned_abs};
+ghost use Rattle.qss_trace.specs.Prelude.{tick_limit, sum_limit};
 ghost use Rattle.qss_trace.specs.CommonTicks.{AreCommon, IsPairInRange, IsBoundInRange, bound_of, value_of, difference, IsGreatest};
 ghost use Rattle.qss_trace.specs.Comparing.{with_tick_of};
+ghost use Rattle.qss_trace.specs.Trace.{count_of};
 
 use crate::trace::{Trace, trace_place_number};
 use crate::trace_sums::{scale_trace_state, trace_state_gap};

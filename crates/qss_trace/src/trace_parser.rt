@@ -1,25 +1,10 @@
 //! Reads a trace from its text, record by record. Each record must have its keyword, its count of
 //! fields, and numbers within their limits. The first fault is reported with its line and field.
 
-ghost use Rattle.std.specs.Prelude.{◌≡◌, ◌⊎◌, ◌<◌, ◌≤◌, ◌^◌, ℕ, List, ◌++◌, ◌∷◌, [], Some, OnOk};
-ghost use Rattle.std.specs.Prelude.{IfErr, length, IfSome, unsigned_abs, ◌≢◌, ◌+◌, true, IfOk};
-ghost use Rattle.std.specs.Prelude.{None, drop, take, slice_index_or, bytes_eq, ◌*◌, pos, codes};
-ghost use Rattle.csv.specs.Records.{fields_of};
-ghost use Rattle.cert_check.specs.CertificateLimits.{IsSize};
-ghost use Rattle.qss_trace.specs.ExpectedFields.{record_fault, trace_fault, shape_fault};
-ghost use Rattle.qss_trace.specs.TraceDrafts.{IsDraftOf};
+ghost use Rattle.std.specs.Prelude.{◌≡◌, ◌⊎◌, ◌<◌, ◌≤◌, ◌^◌, ◌++◌, ◌∷◌, [], ◌≢◌, ◌+◌, ◌*◌, ℕ, List, Some, OnOk, IfErr, length, IfSome, unsigned_abs, true, IfOk, None, drop, take, slice_index_or, bytes_eq, pos, codes};
+ghost use Rattle.qss_trace.specs.Prelude.{fields_of, IsSize, error_kind, stops_reader, option_map, position_from, trace_length_limit, keyword_of, line, ParsesAs};
+ghost use Rattle.qss_trace.specs.Words.{record_fault, trace_fault, shape_fault, IsDraftOf, Trace, AreRecordsOf, IsTextOf, IsRefusedFor, AddsNumbers, HasShape, IsFactor, AreQuanta, AddsPlace};
 ghost use Rattle.qss_trace.specs.ExpectedFields as Dues;
-ghost use Rattle.csv.specs.Reading.{error_kind, stops_reader};
-ghost use Rattle.qss_trace.specs.declared.trace.Trace.{Trace};
-ghost use Rattle.qss_trace.specs.TraceTexts.{AreRecordsOf, IsTextOf, IsRefusedFor};
-ghost use Rattle.std.specs.Option.{option_map};
-ghost use Rattle.std.specs.List.{position_from};
-ghost use Rattle.mu_num.specs.Limits.{trace_length_limit};
-ghost use Rattle.cert_check.specs.Layout.{keyword_of};
-ghost use Rattle.qss_trace.specs.TraceData.{AddsNumbers, HasShape};
-ghost use Rattle.cert_check.specs.CertificateLines.{line, ParsesAs};
-ghost use Rattle.qss_trace.specs.TraceLimits.{IsFactor, AreQuanta};
-ghost use Rattle.qss_trace.specs.Taking.{AddsPlace};
 
 use crate::trace::Trace;
 use cert_check::{TextErr, number_of_field};

@@ -1,11 +1,7 @@
 //! The sums that compute the sides of facts about traces. Each fits in 128 bits.
 
-ghost use Rattle.std.specs.Prelude.{◌≡◌, ℕ, ◌^◌, ◌<◌, ◌≤◌, ◌+ℤ◌, ◌-ℤ◌, ◌*ℤ◌, ◌≤ℤ◌, pos, length, unsigned_abs, All};
-ghost use Rattle.mu_num.specs.Sizes.{IsWithin};
-ghost use Rattle.mu_num.specs.Limits.{IsLevel, IsState};
-ghost use Rattle.cert_matrix.specs.Form.{times};
-ghost use Rattle.cert_matrix.specs.Matrix.{table, vector};
-ghost use Rattle.cert_check.specs.CertificateData.{system};
+ghost use Rattle.std.specs.Prelude.{◌≡◌, ◌^◌, ◌<◌, ◌≤◌, ◌+ℤ◌, ◌-ℤ◌, ◌*ℤ◌, ◌≤ℤ◌, ℕ, pos, length, unsigned_abs, All};
+ghost use Rattle.qss_trace.specs.Prelude.{IsWithin, IsLevel, IsState, times, table, vector, system};
 ghost use Rattle.qss_trace.specs.TraceLimits.{IsFactor};
 ghost use Rattle.qss_trace.specs.TraceSums.{IsSmall};
 

@@ -1,24 +1,10 @@
 //! The state machine for conditions. An opening bracket may begin an expression or a condition, so
 //! the machine stores the offsets of the open brackets.
 
-ghost use Rattle.std.specs.Prelude.{◌≡◌, List, [], ℕ, IfOk, Option, reverse};
-ghost use Rattle.mu_tree.specs.Expression.{expression};
-ghost use Rattle.mu_tree.specs.ModelTree.{condition};
-ghost use Rattle.mu_grammar.specs.Conditions.{compared, relation_of};
-ghost use Rattle.mu_grammar.specs.ConditionMachine.{
-  after_left,
-  begin_condition,
-  compares,
-  complete,
-  depth_of,
-  left_move,
-  right_move,
-  turn,
-};
-ghost use Rattle.mu_grammar.specs.SumMachine.{begin_sum};
+ghost use Rattle.std.specs.Prelude.{◌≡◌, [], List, ℕ, IfOk, Option, reverse};
+ghost use Rattle.mu_parser.specs.Prelude.{expression, condition, compared, relation_of, after_left, begin_condition, compares, complete, depth_of, left_move, right_move, turn, begin_sum, symbol_view};
 ghost use Rattle.mu_parser.specs.ConditionViews.{turn_of};
 ghost use Rattle.mu_parser.specs.ExpressionViews.{move_of, stage_of};
-ghost use Rattle.mu_grammar.specs.SymbolViews.{symbol_view};
 
 use crate::expression::machine::{
     Frame, Move, Position, begin_expression_sum, expression_depth_at, first_expression_part,

@@ -2,33 +2,10 @@
 //! sum.
 
 ghost use Rattle.std.specs.Prelude.{◌≡◌, ◌<◌, ◌≤◌, ◌^◌, ◌-◌, ◌*◌, ℕ, Bool, List, IfOk, length, map, nat_lt};
-ghost use Rattle.mu_tree.specs.Expression.{expression, reference, signed, scaled, Whole};
-ghost use Rattle.mu_grammar.specs.Grammar.{sum_of, product_of, exponent_of};
-ghost use Rattle.mu_grammar.specs.SumMachine.{
-  after_sum,
-  begin_bracket,
-  begin_name,
-  begin_sum,
-  behind,
-  deeper,
-  depth,
-  depth_at,
-  first_part,
-  follow_caret,
-  follow_factor,
-  follow_name,
-  follow_primary,
-  follow_reference,
-  follow_term,
-  next_factor,
-  operand,
-  power,
-  step,
-  with_term,
-};
-ghost use Rattle.mu_parser.specs.declared.expression.machine.Frame.{Frame};
+ghost use Rattle.mu_parser.specs.Prelude.{expression, reference, signed, scaled, Whole, sum_of, product_of, exponent_of, after_sum, begin_bracket, begin_name, begin_sum, behind, deeper, depth, depth_at, first_part, follow_caret, follow_factor, follow_primary, follow_reference, follow_term, next_factor, operand, power, step, with_term, symbol_view};
+ghost use Rattle.mu_grammar.specs.SumMachine.{follow_name};
 ghost use Rattle.mu_parser.specs.ExpressionViews.{frame_of, frames_of, move_of, part_of, position_of, use_of};
-ghost use Rattle.mu_grammar.specs.SymbolViews.{symbol_view};
+ghost use Rattle.mu_parser.specs.declared.expression.machine.Frame.{Frame};
 
 use crate::parser::parse_with_kept;
 use mu_grammar::Symbol;

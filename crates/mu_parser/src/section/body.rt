@@ -2,18 +2,8 @@
 //! loops that begin there.
 
 ghost use Rattle.std.specs.Prelude.{◌≡◌, ◌<◌, ◌^◌, List, ℕ, IfOk};
-ghost use Rattle.mu_tree.specs.Expression.{expression};
-ghost use Rattle.mu_grammar.specs.BodyMachine.{
-  begin_bare,
-  body_token,
-  close_first,
-  close_last,
-  enter,
-  variable_token,
-};
-ghost use Rattle.mu_grammar.specs.States.{body_level};
+ghost use Rattle.mu_parser.specs.Prelude.{expression, begin_bare, body_token, close_first, close_last, enter, variable_token, body_level, symbol_view};
 ghost use Rattle.mu_parser.specs.SectionViews.{body_of, effect_of, range_of};
-ghost use Rattle.mu_grammar.specs.SymbolViews.{symbol_view};
 
 use crate::expression::machine::Position;
 use crate::parser::parse_with_kept;

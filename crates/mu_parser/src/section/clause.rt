@@ -1,23 +1,10 @@
 //! Transitions in clauses, their branches, and loops over clauses.
 
-ghost use Rattle.std.specs.Prelude.{◌≡◌, ◌<◌, ◌^◌, List, [], ℕ, suc, IfOk};
-ghost use Rattle.mu_tree.specs.ModelTree.{Branches, EachClause, clause, clauses_of, condition};
-ghost use Rattle.mu_grammar.specs.BodyMachine.{
-  begin_clause,
-  branches_of,
-  condition_turn,
-  end_branch,
-  leave,
-  new_branch,
-  next_branch,
-  put_clause,
-};
-ghost use Rattle.mu_grammar.specs.ConditionMachine.{depth_of, turn};
+ghost use Rattle.std.specs.Prelude.{◌≡◌, ◌<◌, ◌^◌, [], List, ℕ, suc, IfOk};
+ghost use Rattle.mu_parser.specs.Prelude.{Branches, EachClause, clause, clauses_of, condition, begin_clause, branches_of, condition_turn, end_branch, leave, new_branch, next_branch, put_clause, depth_of, turn, in_branch, in_clauses, level, symbol_view};
 ghost use Rattle.mu_parser.specs.ConditionViews.{turn_of};
-ghost use Rattle.mu_grammar.specs.States.{in_branch, in_clauses, level};
 ghost use Rattle.mu_parser.specs.ExpressionViews.{stage_of};
 ghost use Rattle.mu_parser.specs.SectionViews.{body_of, branch_of, clause_loop, clause_loops, draft_of, effect_of, when_of};
-ghost use Rattle.mu_grammar.specs.SymbolViews.{symbol_view};
 
 use crate::expression::condition::{Stage, Turn, condition_depth, read_condition_token};
 use crate::parser::parse_with_kept;

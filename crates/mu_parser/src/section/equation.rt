@@ -1,11 +1,8 @@
 //! Transitions in equations and loops over equations.
 
 ghost use Rattle.std.specs.Prelude.{◌≡◌, ◌<◌, ◌^◌, List, ℕ, IfOk};
-ghost use Rattle.mu_tree.specs.ModelTree.{EachEquation, equation, equations_of};
-ghost use Rattle.mu_grammar.specs.BodyMachine.{begin_equation, leave, put_equation};
-ghost use Rattle.mu_grammar.specs.States.{in_equations, level};
+ghost use Rattle.mu_parser.specs.Prelude.{EachEquation, equation, equations_of, begin_equation, leave, put_equation, in_equations, level, symbol_view};
 ghost use Rattle.mu_parser.specs.SectionViews.{body_of, draft_of, effect_of, equation_loop, equation_loops};
-ghost use Rattle.mu_grammar.specs.SymbolViews.{symbol_view};
 
 use crate::parser::parse_with_kept;
 use crate::section::follow_section::{end_section_loop, follow_section};

@@ -1,10 +1,8 @@
 //! Transitions after a section of a model and after the last item of a loop.
 
 ghost use Rattle.std.specs.Prelude.{◌≡◌, List, ℕ};
-ghost use Rattle.mu_grammar.specs.BodyMachine.{end_loop};
-ghost use Rattle.mu_grammar.specs.DeclarationMachine.{between};
+ghost use Rattle.mu_parser.specs.Prelude.{end_loop, between, symbol_view};
 ghost use Rattle.mu_parser.specs.SectionViews.{body_of, draft_of, effect_of};
-ghost use Rattle.mu_grammar.specs.SymbolViews.{symbol_view};
 
 use crate::section::state::{Body, Draft, Effect, Place, State, Then};
 use mu_grammar::{Fixed, Symbol};

@@ -4,7 +4,9 @@ use crate::expression::condition::Stage;
 use crate::expression::machine::{Frame, Position};
 use mu_grammar::{Bracket, Fixed};
 use mu_io::Name;
-use mu_tree::{Branch, Clause, Decl, Equation, Expr, Model, Prefix, Ref, SettingItem, SettingName, Statement};
+use mu_tree::{
+    Branch, Clause, Decl, Equation, Expr, Model, Prefix, Ref, SettingItem, SettingName, Statement,
+};
 
 /// A model whose name, components and sections so far are parsed.
 #[derive(Drop)]

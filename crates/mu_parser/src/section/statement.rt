@@ -1,17 +1,8 @@
 //! Transitions in statements and initial equations, and in loops over them.
 
 ghost use Rattle.std.specs.Prelude.{◌≡◌, ◌≤◌, ◌<◌, ◌^◌, List, ℕ, IfOk};
-ghost use Rattle.mu_tree.specs.ModelTree.{EachStatement, statement, statements_of};
-ghost use Rattle.mu_grammar.specs.BodyMachine.{
-  begin_start,
-  begin_statement,
-  leave,
-  put_start,
-  put_statement,
-};
-ghost use Rattle.mu_grammar.specs.States.{branch_level, in_branch, in_starts, level};
+ghost use Rattle.mu_parser.specs.Prelude.{EachStatement, statement, statements_of, begin_start, begin_statement, leave, put_start, put_statement, branch_level, in_branch, in_starts, level, symbol_view};
 ghost use Rattle.mu_parser.specs.SectionViews.{body_of, branch_of, draft_of, effect_of, statement_loop, statement_loops};
-ghost use Rattle.mu_grammar.specs.SymbolViews.{symbol_view};
 
 use crate::parser::parse_with_kept;
 use crate::section::clause::{clause_level, end_clause_branch};

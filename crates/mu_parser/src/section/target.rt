@@ -2,25 +2,8 @@
 //! them.
 
 ghost use Rattle.std.specs.Prelude.{◌≡◌, ◌<◌, ◌^◌, List, ℕ, IfOk};
-ghost use Rattle.mu_tree.specs.Expression.{expression, reference};
-ghost use Rattle.mu_tree.specs.ModelTree.{Algebraic, Assign, Derivative, Restart, equation, statement};
-ghost use Rattle.mu_grammar.specs.BodyMachine.{
-  close_assignment,
-  close_equation,
-  close_index,
-  close_restart,
-  close_side,
-  follow_target,
-  follow_target_name,
-  put_equation,
-  put_start,
-  put_statement,
-  target_token,
-};
-ghost use Rattle.mu_grammar.specs.ReaderMachines.{advances};
-ghost use Rattle.mu_grammar.specs.States.{aim_level, begin, for_side};
+ghost use Rattle.mu_parser.specs.Prelude.{expression, reference, Algebraic, Assign, Derivative, Restart, equation, statement, close_assignment, close_equation, close_index, close_restart, close_side, follow_target, follow_target_name, put_equation, put_start, put_statement, target_token, advances, aim_level, begin, for_side, symbol_view};
 ghost use Rattle.mu_parser.specs.SectionViews.{aim_of, body_of, branch_of, draft_of, effect_of, equation_loops, statement_loops};
-ghost use Rattle.mu_grammar.specs.SymbolViews.{symbol_view};
 
 use crate::expression::machine::{Position, whole};
 use crate::parser::parse_with_kept;
