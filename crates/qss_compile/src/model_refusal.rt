@@ -4,6 +4,7 @@
 ghost use Rattle.std.specs.Prelude.{◌≡◌, ◌++◌, ◌∷◌, [], map, codes, decimal, IfOk, OnOk};
 ghost use Rattle.qss_compile.specs.Prelude.{signed_decimal};
 ghost use Rattle.qss_compile.specs.Words.{field_text, without_names};
+ghost use Rattle.qss_compile.specs.Causes.{of_forms, of_lexer, of_names, of_order, of_parser, of_rounding, of_unrolling};
 ghost use Rattle.qss_compile.specs.RefusalLines as Spec;
 
 use mu_affine::{AffineErr, MachineErr};
@@ -41,9 +42,6 @@ pub enum ModelErr {
 }
 
 impl From<LexErr> for ModelErr {
-    ghost use Rattle.std.specs.Prelude.{◌≡◌};
-    ghost use Rattle.qss_compile.specs.Causes.{of_lexer};
-
     ghost from_gives = { λ fault e. e ≡ of_lexer fault };
 
     fn from(fault: LexErr) -> ModelErr {
@@ -55,9 +53,6 @@ impl From<LexErr> for ModelErr {
 }
 
 impl From<ParseErr> for ModelErr {
-    ghost use Rattle.std.specs.Prelude.{◌≡◌};
-    ghost use Rattle.qss_compile.specs.Causes.{of_parser};
-
     ghost from_gives = { λ fault e. e ≡ of_parser fault };
 
     fn from(fault: ParseErr) -> ModelErr {
@@ -69,9 +64,6 @@ impl From<ParseErr> for ModelErr {
 }
 
 impl From<NameErr> for ModelErr {
-    ghost use Rattle.std.specs.Prelude.{◌≡◌};
-    ghost use Rattle.qss_compile.specs.Causes.{of_names};
-
     ghost from_gives = { λ fault e. e ≡ of_names fault };
 
     fn from(fault: NameErr) -> ModelErr {
@@ -83,9 +75,6 @@ impl From<NameErr> for ModelErr {
 }
 
 impl From<UnrollErr> for ModelErr {
-    ghost use Rattle.std.specs.Prelude.{◌≡◌};
-    ghost use Rattle.qss_compile.specs.Causes.{of_unrolling};
-
     ghost from_gives = { λ fault e. e ≡ of_unrolling fault };
 
     fn from(fault: UnrollErr) -> ModelErr {
@@ -97,9 +86,6 @@ impl From<UnrollErr> for ModelErr {
 }
 
 impl From<CausalErr> for ModelErr {
-    ghost use Rattle.std.specs.Prelude.{◌≡◌};
-    ghost use Rattle.qss_compile.specs.Causes.{of_order};
-
     ghost from_gives = { λ fault e. e ≡ of_order fault };
 
     fn from(fault: CausalErr) -> ModelErr {
@@ -111,9 +97,6 @@ impl From<CausalErr> for ModelErr {
 }
 
 impl From<AffineErr> for ModelErr {
-    ghost use Rattle.std.specs.Prelude.{◌≡◌};
-    ghost use Rattle.qss_compile.specs.Causes.{of_forms};
-
     ghost from_gives = { λ fault e. e ≡ of_forms fault };
 
     fn from(fault: AffineErr) -> ModelErr {
@@ -125,9 +108,6 @@ impl From<AffineErr> for ModelErr {
 }
 
 impl From<MachineErr> for ModelErr {
-    ghost use Rattle.std.specs.Prelude.{◌≡◌};
-    ghost use Rattle.qss_compile.specs.Causes.{of_rounding};
-
     ghost from_gives = { λ fault e. e ≡ of_rounding fault };
 
     fn from(fault: MachineErr) -> ModelErr {

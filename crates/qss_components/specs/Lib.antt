@@ -1,3 +1,4 @@
+pub mod Words
 pub mod Prelude
 pub mod Messages
 pub mod Integrators

@@ -37,9 +37,7 @@ pub struct CrossingModel {
 impl Atomic for CrossingModel {
     ghost use Rattle.std.specs.Prelude.{◌≡◌, ℕ, Option, Some};
     ghost use Rattle.qss_components.specs.Prelude.{holds_at};
-    ghost use Rattle.qss_components.specs.ComponentModels.{crossing_of};
-    ghost use Rattle.qss_components.specs.Crossings.{IsCrossingNext, crossing_after_transition, crossing_after_message, AreSmallAt};
-    ghost use Rattle.qss_components.specs.declared.atomic.Message.TheVariants.{Truth};
+    ghost use Rattle.qss_components.specs.Words.{crossing_of, IsCrossingNext, crossing_after_transition, crossing_after_message, AreSmallAt, Truth};
 
     ghost part_of = { λ c. c.machine.value };
 

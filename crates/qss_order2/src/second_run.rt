@@ -26,9 +26,8 @@ pub(crate) struct SecondRun {
 
 impl Simulation for SecondRun {
     ghost use Rattle.std.specs.Prelude.{◌-◌, None};
-    ghost use Rattle.qss_order2.specs.Events.{rows2_left};
+    ghost use Rattle.qss_order2.specs.Words.{rows2_left, nearest_change};
     ghost use Rattle.qss_order2.specs.RemainingSecondRows.{row2_lines, overflow_ahead, outcome2_of, EndsAs, IsAble};
-    ghost use Rattle.qss_order2.specs.SecondSteps.{nearest_change};
 
     ghost machine = { λ run. run.sim.run.machine };
 

@@ -3,7 +3,7 @@
 
 ghost use Rattle.std.specs.Prelude.{◌≡◌, ◌<◌, ◌≤◌, [], ◌+◌, ◌∷◌, ◌++◌, true, false, length, IfOk, OnOk, OnErr, None, IsSome, IfSome};
 ghost use Rattle.qss_rows.specs.Prelude.{writer_pending, default_writer, row_text, state_count, discrete_count};
-ghost use Rattle.qss_rows.specs.PlainFields.{csv_line, number_text};
+ghost use Rattle.qss_rows.specs.PlainFields.{csv_line, IsPlain, number_text};
 ghost use Rattle.qss_rows.specs.Writers.{IsBetween, given_to, Gains};
 ghost use Rattle.qss_rows.specs.RowTexts as Spec;
 
@@ -35,8 +35,6 @@ pub struct LineWriter {
 
 impl LineWriter {
     ghost use Rattle.qss_rows.specs.HeldLines.{AddsRow, lines_in, is_finished};
-    ghost use Rattle.qss_rows.specs.PlainFields.{IsPlain};
-    ghost use Rattle.qss_rows.specs.RowTexts as Spec;
 
     /// A writer without lines.
     pub fn new(alloc: Global) -> LineWriter

@@ -2,8 +2,8 @@
 
 ghost use Rattle.std.specs.Prelude.{◌≡◌, ◌≢◌, ◌+◌, ◌^◌, ◌<◌, ◌≤◌, ◌↔◌, ◌*◌, ◌%◌, if◌then◌else◌, ℕ, IsTrue, List, Option, None, Some, length, slice_set, vec_len, vec_capacity, IfOk};
 ghost use Rattle.qss_sched.specs.Prelude.{wheel_places};
-ghost use Rattle.qss_sched.specs.Agendas.{ArePartTaken, AreTaken, IsTakenAt};
-ghost use Rattle.qss_sched.specs.Ranks.{due_at};
+ghost use Rattle.qss_sched.specs.Agendas.{ArePartTaken, AreTaken, IsFirst, IsTakenAt};
+ghost use Rattle.qss_sched.specs.Ranks.{due_at, HasNone, IsLeast, IsNextTick};
 ghost use Rattle.qss_sched.specs.Wheels.{IsFirstGroup, IsWheel};
 
 use crate::due_heap::{due_tick_at, is_same_due, no_due_ticks, put_due_tick};
@@ -32,9 +32,6 @@ impl Model for Wheel {
 }
 
 impl Wheel {
-    ghost use Rattle.qss_sched.specs.Agendas.{IsFirst};
-    ghost use Rattle.qss_sched.specs.Ranks.{IsLeast, IsNextTick, HasNone};
-
     /// Returns a wheel of n places without due ticks. Errors: allocation failure.
     pub(crate) fn with_places(alloc: Global, n: u32) -> Result<Wheel, AllocError>
         ensures places { IfOk result (λ wheel. length wheel ≡ n) }

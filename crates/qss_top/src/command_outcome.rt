@@ -2,6 +2,8 @@
 
 ghost use Rattle.std.specs.Prelude.{◌≡◌, ◌⊎◌, ◌≤◌, true, ℕ, List, codes, IfOk};
 ghost use Rattle.qss_top.specs.Words.{overflow_line, status_of_refusal, IsLineWritten};
+ghost use Rattle.qss_top.specs.CertificateOutcomes.{outcome_by, outcome_of_run};
+ghost use Rattle.qss_top.specs.CommandOutcomes.{refused_so};
 ghost use Rattle.qss_top.specs.CommandOutcomes as Spec;
 
 use crate::status::Status;
@@ -26,9 +28,6 @@ pub enum Outcome {
 }
 
 impl From<Refused> for Outcome {
-    ghost use Rattle.std.specs.Prelude.{◌≡◌};
-    ghost use Rattle.qss_top.specs.CommandOutcomes.{refused_so};
-
     ghost from_gives = { λ refused what. what ≡ refused_so refused };
 
     fn from(refused: Refused) -> Outcome {
@@ -40,9 +39,6 @@ impl From<Refused> for Outcome {
 }
 
 impl From<AnswerResult> for Outcome {
-    ghost use Rattle.std.specs.Prelude.{◌≡◌};
-    ghost use Rattle.qss_top.specs.CertificateOutcomes.{outcome_by};
-
     ghost from_gives = { λ ended what. what ≡ outcome_by ended };
 
     fn from(ended: AnswerResult) -> Outcome {
@@ -56,9 +52,6 @@ impl From<AnswerResult> for Outcome {
 }
 
 impl From<RunResult> for Outcome {
-    ghost use Rattle.std.specs.Prelude.{◌≡◌};
-    ghost use Rattle.qss_top.specs.CertificateOutcomes.{outcome_of_run};
-
     ghost from_gives = { λ ended what. what ≡ outcome_of_run ended };
 
     fn from(ended: RunResult) -> Outcome {
