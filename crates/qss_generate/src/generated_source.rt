@@ -11,7 +11,7 @@ use std::alloc::{AllocError, Global};
 /// the seed. Errors: allocation failure.
 pub fn generate(alloc: Global, seed: u64, cells: u32) -> Result<Vec<u8>, AllocError>
     requires least { 1 ≤ cells }
-    requires most { cells ≤ 4096 }
+    requires most { cells ≤ Spec.cell_limit }
     ensures text { IfOk result (λ text. text.items ≡ Spec.source seed cells) }
     ensures short { IfOk result (λ text. length text.items ≤ 2 ^ 20) }
 {
@@ -48,7 +48,7 @@ fn add_generated_number(number: u32, text: &mut Vec<u8>) -> Result<(), AllocErro
 
 // Appends the lines of the start values.
 fn add_generated_start_lines(seed: u64, cells: u32, text: &mut Vec<u8>) -> Result<(), AllocError>
-    requires { cells ≤ 4096 }
+    requires { cells ≤ Spec.cell_limit }
     ensures { OnOk result (text.new.items ≡ text.old.items ++ Spec.start_lines seed 0 cells) }
 {
     let mut number = seed;
