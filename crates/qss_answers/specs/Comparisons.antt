@@ -91,10 +91,10 @@ Overflows m second_order tick var = IsSecondRefusal m (overs.Over tick var)
 Overflows m (traced bytes) tick var = ⊥
 
 -- the bytes of this source are rejected as a trace
-abbrev pub IsTextRefused : Machine → RunSource → Refusal → Type 0
-IsTextRefused m first_order why = ⊥
-IsTextRefused m second_order why = ⊥
-IsTextRefused m (traced bytes) why = IsRefusal m bytes why
+abbrev pub IsTraceRefused : Machine → RunSource → Refusal → Type 0
+IsTraceRefused m first_order why = ⊥
+IsTraceRefused m second_order why = ⊥
+IsTraceRefused m (traced bytes) why = IsRefusal m bytes why
 
 -- the run of this source is not compared, for this reason: a quantum exceeds the certificate's, or
 -- the machine's own run is too long
@@ -106,7 +106,7 @@ IsRunRefused m c run given why =
 
 -- this source has no usable trace, for this reason; `run` is 1 or 2
 abbrev pub HasNoRunTrace : Machine → Certificate → (run : ℕ) → RunSource → ComparisonStop → Type 0
-HasNoRunTrace m c run given (stops.Refused why) = IsTextRefused m given why ⊎ IsRunRefused m c run given why
+HasNoRunTrace m c run given (stops.Refused why) = IsTraceRefused m given why ⊎ IsRunRefused m c run given why
 HasNoRunTrace m c run given (stops.Over tick var) = (m.last ≤ longest) × Overflows m given tick var
 HasNoRunTrace m c run given stops.Memory = ⊥
 

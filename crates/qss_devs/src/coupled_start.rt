@@ -223,8 +223,8 @@ pub(crate) fn start_integrators(
     for j in 0..v.levels.len() {
         let var = j as u32;
         let line = start_coupled_line(m, v, var);
-        let machine = add_reference(shared)?;
-        let quantizer = add_reference(q)?;
+        let machine = shared.clone()?;
+        let quantizer = q.clone()?;
         let integrator = start_coupled_integrator(machine, quantizer, var, line);
         integrators.push_reserved(integrator);
     }
@@ -246,13 +246,6 @@ fn start_coupled_line(m: &Machine, v: &StartValues, j: u32) -> Integrator
         slope,
         level,
     }
-}
-
-// Another reference to a shared value.
-fn add_reference<T: Drop>(shared: &Rc<T>) -> Result<Rc<T>, AllocError>
-    ensures { IfOk result (λ copy. copy.value ≡ shared.now.value) }
-{
-    shared.clone()
 }
 
 // An integrator with this line.
@@ -294,7 +287,7 @@ pub(crate) fn start_functions(
     let mut functions: Vec<FunctionModel> = Vec::with_capacity(alloc, lists.len())?;
     for j in 0..lists.len() {
         let row = j as u32;
-        let machine = add_reference(shared)?;
+        let machine = shared.clone()?;
         let inputs = replace(&mut lists[j], Vec::new(alloc));
         let function = start_coupled_function(machine, row, inputs);
         functions.push_reserved(function);
@@ -367,7 +360,7 @@ fn add_start_crossings(
 {
     let count = coupled_branch_count(m, clause);
     for branch in 0..count {
-        let machine = add_reference(shared)?;
+        let machine = shared.clone()?;
         let condition = coupled_branch_condition(m, clause, branch);
         let inputs = start_inputs(alloc, m, v, condition)?;
         let detector = start_coupled_detector(m, condition, inputs.as_slice());

@@ -16,7 +16,7 @@ use Rattle.cert_check.specs.declared.text_err.TextErr.{TextErr}
 use Rattle.qss_answers.specs.Answers.{Answer, refused}
 use Rattle.qss_answers.specs.CertificateAnswers.{limit, IsRefusal, IsRead, IsAnswer, IsCertified}
 use Rattle.qss_answers.specs.CertificateAnswers.{certified, upgraded}
-use Rattle.qss_guarantees.specs.CertificateLaws.{AnswersAreOne}
+use Rattle.qss_guarantees.specs.CertificateLaws.{CertificateAnswersAreOne}
 use Rattle.qss_answers.specs.declared.refusal.Refusal.{Refusal}
 use Rattle.qss_answers.specs.declared.refusal.Refusal.TheVariants as refusal
 use Rattle.qss_answers.proofs.Scopes.{not_outside}
@@ -101,7 +101,7 @@ one_certified m c a b p q =
     p.2 ∙ ap (certified m c) (verdicts.one (system_of m) (certificate_data c) p.0 q.0 p.1 q.1)
     ∙ sym q.2
 
-pub one_each : AnswersAreOne
+pub one_each : CertificateAnswersAreOne
 one_each = record {
   some_certification = λ m bytes. some_answer m bytes (IsCertified m) (some_certified m);
   one_certification = λ m bytes a b. one_answer m bytes (IsCertified m) (one_certified m) a b;

@@ -22,7 +22,7 @@ use Rattle.qss_answers.proofs.TraceEnds.{one_read, accepted_fine}
 use Rattle.qss_answers.specs.Answers.{Answer, refused, written}
 use Rattle.qss_answers.specs.TraceAnswers.{limit, IsRefusal, IsRead, IsChecked}
 use Rattle.qss_answers.specs.TraceAnswers.{summary}
-use Rattle.qss_guarantees.specs.TraceLaws.{AnswersAreOne}
+use Rattle.qss_guarantees.specs.TraceLaws.{TraceAnswersAreOne}
 use Rattle.qss_answers.specs.declared.refusal.Refusal.{Refusal}
 use Rattle.qss_answers.specs.declared.refusal.Refusal.TheVariants as refusal
 
@@ -118,5 +118,5 @@ some_answer m bytes = by (scope_of m) (cases_lt limit (length bytes))
         read scope short (judged (state_count m) bytes (record
         { some = scope.some; few = scope.few }) short)
 
-pub one_each : AnswersAreOne
+pub one_each : TraceAnswersAreOne
 one_each = record { some_answer = some_answer; one_answer = one_answer }

@@ -21,7 +21,7 @@ use Rattle.qss_answers.specs.Answers.{Answer}
 use Rattle.qss_answers.specs.TraceAnswers.{IsChecked}
 use Rattle.qss_answers.specs.Comparisons.{RunSource, first_order, second_order, traced, longest}
 use Rattle.qss_answers.specs.Comparisons.{IsGivenRun, HasQuanta, IsFirstAbove, IsRunTrace, IsOwn}
-use Rattle.qss_answers.specs.Comparisons.{Overflows, IsTextRefused, HasNoRunTrace}
+use Rattle.qss_answers.specs.Comparisons.{Overflows, IsTraceRefused, HasNoRunTrace}
 use Rattle.qss_guarantees.specs.TraceLaws.{IsJudged}
 use Rattle.qss_answers.specs.declared.comparison_ending.ComparisonStop.{ComparisonStop}
 use Rattle.qss_answers.specs.declared.comparison_ending.ComparisonStop.TheVariants as stops
@@ -85,7 +85,7 @@ one_given m (traced bytes) a b p q = one-trace (state_count m) bytes a b p.read.
 
 -- a run that is given has a trace, where it is not refused, not too long and does not overflow
 given_refused : (m : Machine) (given : RunSource) (t : Trace) (cause : Refusal)
-    → IsGivenRun m given t → IsTextRefused m given cause → ⊥
+    → IsGivenRun m given t → IsTraceRefused m given cause → ⊥
 given_refused m first_order t cause p q = q
 given_refused m second_order t cause p q = q
 given_refused m (traced bytes) t cause p q = accepted_fine m bytes cause t q p
@@ -104,20 +104,20 @@ given_ends m (traced bytes) t tick var p q = q
 
 -- ---- one reason
 
-same_refusal : (m : Machine) (given : RunSource) (a b : Refusal) → IsTextRefused m given a
-    → IsTextRefused m given b → a ≡ b
+same_refusal : (m : Machine) (given : RunSource) (a b : Refusal) → IsTraceRefused m given a
+    → IsTraceRefused m given b → a ≡ b
 same_refusal m first_order a b p q = absurd p
 same_refusal m second_order a b p q = absurd p
 same_refusal m (traced bytes) a b p q = one_refusal m bytes a b p q
 
-text_own : (m : Machine) (given : RunSource) (cause : Refusal) → IsTextRefused m given cause
+text_own : (m : Machine) (given : RunSource) (cause : Refusal) → IsTraceRefused m given cause
     → IsOwn given → ⊥
 text_own m first_order cause p own = p
 text_own m second_order cause p own = p
 text_own m (traced bytes) cause p own = own
 
 text_over : (m : Machine) (given : RunSource) (cause : Refusal) (tick var : ℕ)
-    → IsTextRefused m given cause → Overflows m given tick var → ⊥
+    → IsTraceRefused m given cause → Overflows m given tick var → ⊥
 text_over m first_order cause tick var p q = p
 text_over m second_order cause tick var p q = p
 text_over m (traced bytes) cause tick var p q = q
@@ -131,7 +131,7 @@ same_over m (traced bytes) tick var tick' var' p q = absurd p
 module _ (m : Machine) (c : Certificate) (run : ℕ) (given : RunSource) where
   -- why there is no trace
   data Cause (stop : ComparisonStop) : Type 0 where
-    refusing : (cause : Refusal) → stop ≡ stops.Refused cause → IsTextRefused m given cause
+    refusing : (cause : Refusal) → stop ≡ stops.Refused cause → IsTraceRefused m given cause
         → Cause stop
     coarse : (state : ℕ) (t : Trace) → stop ≡ stops.Refused (refusal.Quantum run state)
         → IsGivenRun m given t → IsFirstAbove c t state → Cause stop

@@ -8,7 +8,7 @@ use Rattle.qss_answers.specs.CertificateAnswers.{IsCertification, IsUpgrade}
 use Rattle.qss_answers.specs.AcceptedBounds.{IsSoundCertification}
 
 -- a machine and bytes determine exactly one result of `certify`, and one of `upgrade`
-pub record AnswersAreOne : Type 0 where
+pub record CertificateAnswersAreOne : Type 0 where
   pub some_certification : (m : Machine) (bytes : List ℕ) → (answer : Answer)
       × IsCertification m bytes answer
   pub one_certification : (m : Machine) (bytes : List ℕ) (answer other : Answer)

@@ -14,7 +14,7 @@ use Rattle.qss_answers.specs.ComparedBounds.{AreWithinBound}
 use Rattle.qss_answers.specs.declared.comparison_ending.ComparisonStop.{ComparisonStop}
 
 -- a machine and bytes determine exactly one result
-pub record AnswersAreOne : Type 0 where
+pub record TraceAnswersAreOne : Type 0 where
   pub some_answer : (m : Machine) (bytes : List ℕ) → (answer : Answer) × IsChecked m bytes answer
   pub one_answer : (m : Machine) (bytes : List ℕ) (answer other : Answer) → IsChecked m bytes answer
       → IsChecked m bytes other → answer ≡ other

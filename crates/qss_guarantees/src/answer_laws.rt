@@ -1,9 +1,9 @@
 //! Theorems about the results for certificates, traces and proposals, each the contract of a
 //! function that does nothing.
 
-ghost use Rattle.qss_guarantees.specs.CertificateLaws.{AnswersAreOne, BoundsHold, UpgradesKeep};
+ghost use Rattle.qss_guarantees.specs.CertificateLaws.{CertificateAnswersAreOne, BoundsHold, UpgradesKeep};
 ghost use Rattle.qss_guarantees.specs.ProposalLaws.{ProposalsAreKept, ProposalsAreOne};
-ghost use Rattle.qss_guarantees.specs.TraceLaws.{AnswersAreOne as TraceAnswersAreOne, RunsAreAccepted, ComparisonsAreJudged, ComparedRunsAreWithinBound};
+ghost use Rattle.qss_guarantees.specs.TraceLaws.{TraceAnswersAreOne, RunsAreAccepted, ComparisonsAreJudged, ComparedRunsAreWithinBound};
 
 /// A machine and the bytes of a trace determine exactly one result of `check`.
 pub fn trace_answers_are_unique()
@@ -28,7 +28,7 @@ pub fn compared_runs_are_within_bound()
 /// A machine and the bytes of a certificate determine exactly one result of `certify` and of
 /// `upgrade`.
 pub fn certificate_answers_are_unique()
-    ensures { AnswersAreOne }
+    ensures { CertificateAnswersAreOne }
 {}
 
 /// If a certificate is accepted, the runs of the machine are within the printed bounds.

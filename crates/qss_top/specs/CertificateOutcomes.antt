@@ -63,8 +63,8 @@ kind_in two.Check = kinds.Trace
 kind_in (two.Compare sides) = kinds.Certificate
 
 -- the machine has no certificates and traces, or the text is too long, and this is the outcome
-abbrev pub IsTextRefused : FileKind → Machine → (text : List ℕ) → Outcome → Type 0
-IsTextRefused kind m text what =
+abbrev pub IsTextUnparsed : FileKind → Machine → (text : List ℕ) → Outcome → Type 0
+IsTextUnparsed kind m text what =
     ((why : Outside) × IsOutsideBy m why × (what ≡ outcome.Rejected (reasons.Outside why)))
     ⊎ (IsInScope m × (limit_of kind < length text) × (what ≡ long_outcome kind))
 
@@ -75,7 +75,7 @@ abbrev pub IsRefusedBefore : (share : ℕ) → (source : List ℕ) → FileKind 
 IsRefusedBefore share source kind text what =
     ((model_length_limit < length source) × (what ≡ outcome.TooLong))
     ⊎ ((length source ≤ model_length_limit) × IsRefusedFor (IsRefused source) what)
-    ⊎ ((m : Machine) × IsSourceMachine share source m × IsTextRefused kind m text what)
+    ⊎ ((m : Machine) × IsSourceMachine share source m × IsTextUnparsed kind m text what)
 
 -- the outcome for the result of a certificate, a trace or a proposal
 abbrev pub outcome_by : AnswerResult → Outcome

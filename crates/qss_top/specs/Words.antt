@@ -1,5 +1,5 @@
 -- The names of this crate that clauses of many subjects cite, passed on from one place. Declares nothing.
-pub use Rattle.qss_top.specs.CertificateOutcomes.{IsRefusedBefore, IsTextRefused}
+pub use Rattle.qss_top.specs.CertificateOutcomes.{IsRefusedBefore, IsTextUnparsed}
 pub use Rattle.qss_top.specs.CertifiedRuns.{AreCertifiedBy}
 pub use Rattle.qss_top.specs.CommandAnswers.{ComparisonAnswers, IsScopedMachine}
 pub use Rattle.qss_top.specs.ComparisonOutcomes.{FirstRunAnswers, IsCompareAnswer, IsStopOutcome, ObtainsTrace, PairAnswer, SecondRunAnswers, names_of}

@@ -2,7 +2,7 @@
 
 ghost use Rattle.std.specs.Prelude.{◌≡◌, ◌≤◌, false, List, ℕ, length, IfOk, OnOk, IfErr};
 ghost use Rattle.qss_top.specs.Prelude.{Appends, relative_limit, IsInScope, Certificate, IsSoundCertification, state_count, Machine, IsTextOf, IsRunOf, Trace};
-ghost use Rattle.qss_top.specs.Words.{IsCertifyAnswer, IsCheckAnswer, IsMachineAnswer, IsPrintAnswer, IsSourceMachine, IsUpgradeAnswer, IsRefusedBefore, IsTextRefused, IsScopedMachine, IsCompareAnswer, AreCertifiedBy, given_in, task_goes, IsSourceAnswer, WritesAnswer};
+ghost use Rattle.qss_top.specs.Words.{IsCertifyAnswer, IsCheckAnswer, IsMachineAnswer, IsPrintAnswer, IsSourceMachine, IsUpgradeAnswer, IsRefusedBefore, IsTextUnparsed, IsScopedMachine, IsCompareAnswer, AreCertifiedBy, given_in, task_goes, IsSourceAnswer, WritesAnswer};
 ghost use Rattle.qss_top.specs.FileReadings as Files;
 
 use crate::command::print_source;
@@ -147,7 +147,7 @@ fn machine_for_text(
 fn test_text(m: &Machine, text: &[u8], kind: FileKind) -> Result<(), Outcome>
     ensures scope { OnOk result (IsInScope m.now) }
     ensures short { OnOk result (length text.now ≤ Files.limit_of kind) }
-    ensures refused { IfErr result (IsTextRefused kind m.now text.now) }
+    ensures refused { IfErr result (IsTextUnparsed kind m.now text.now) }
 {
     match scope(m) {
         Ok(_states) if text.len() > limit_of(kind) => Err(too_long(kind)),
