@@ -17,6 +17,7 @@ from typing import Callable, Dict, Iterable, List, NamedTuple, Optional, Sequenc
 from qss_tools.fault import FINE, WARNED, Arguments, Fault, read_text, run_tool
 from qss_tools.program import ROOT
 
+from .file_heads import head_of, is_stacked, late_types, own_impls
 from .rattle_source import Function, crates_of, files_of, functions, masked
 
 LIMITS = os.path.join(os.path.dirname(os.path.abspath(__file__)), "house_limits.tsv")
@@ -157,6 +158,25 @@ def shared_clauses(sources: Sources, crates: Sequence[str]) -> List[Place]:
     return [(len(it), text) for text, it in clause_texts(sources, crates).items()]
 
 
+def file_measures(sources: Sources) -> List[Measure]:
+    """The measures of the heads of files of code, and of the order of their items."""
+    files = [(crate, *it) for crate in sources.crates for it in sources.code[crate].items()]
+    stacked = [(int(is_stacked(file, text)), "crates/%s/%s" % (crate, file)) for crate, file, text in files]
+    headless = [(int(not head_of(text)), "crates/%s/%s" % (crate, file)) for crate, file, text in files]
+    late = [(late_types(masked(text)), "crates/%s/%s" % (crate, file)) for crate, file, text in files]
+    blocks = [
+        (count, "crates/%s/%s %s" % (crate, file, head))
+        for crate, file, text in files
+        for head, count in own_impls(masked(text))
+    ]
+    return [
+        Measure("stacked heads", 0, stacked),
+        Measure("files without a `//!` head", 0, headless),
+        Measure("types after the first function of a file", 0, late),
+        Measure("own `impl` blocks of a type in a file", 1, blocks),
+    ]
+
+
 def measures(sources: Sources) -> List[Measure]:
     """All measures of a checkout."""
     everywhere = sources.of_files([sources.code, sources.specs, sources.proofs])
@@ -182,6 +202,7 @@ def measures(sources: Sources) -> List[Measure]:
             5,
             shared_clauses(sources, TOP),
         ),
+        *file_measures(sources),
     ]
 
 

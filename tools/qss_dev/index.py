@@ -1,13 +1,14 @@
-"""Writes docs/INDEX.md: the crates by layer, and their files of definitions, with their first comment lines.
+"""Writes docs/INDEX.md: the crates by layer, and their files of definitions, with their first sentences.
 
   tools/make-index          writes docs/INDEX.md
   tools/make-index --check  writes nothing
 
-The text of a crate is the first line of its root file, src/lib.rt or src/main.rt. The text of a file of specs/ is its
-first line. Both are comments. Layers and dependencies come from crates.txt.
+The text of a crate is the first sentence of the head of its root file, src/lib.rt or src/main.rt. The text of a file
+of specs/ is the first sentence of the comment with which it begins. Layers and dependencies come from crates.txt.
 
 Status: 0 the page is written or is current, 1 with --check: it is not, 2 a fault.
 """
+import itertools
 import os
 import re
 import sys
@@ -20,11 +21,13 @@ PAGE = os.path.join(ROOT, "docs", "INDEX.md")
 LIST = "crates.txt"
 ROOT_FILES = ("src/lib.rt", "src/main.rt")
 LIB = "Lib.antt"
+# Where a sentence ends: two points stand for what is left out.
+SENTENCE = re.compile(r"(?<=[^.]\.) +")
 
 HEAD = """# Index
 
 The crates by layer, lowest first, and their files of definitions. `tools/make-index` writes this page from the first
-comment lines of the files. [ARCHITECTURE.md](ARCHITECTURE.md) has the picture.
+sentences of the files. [ARCHITECTURE.md](ARCHITECTURE.md) has the picture.
 """
 
 
@@ -50,11 +53,13 @@ def lines_of(path: str) -> List[str]:
 
 
 def comment_of(path: str, mark: str) -> str:
-    """The first line of a file, which must be a comment."""
+    """The first sentence of a file, which must begin with a comment."""
     lines = lines_of(path)
-    if not lines or not lines[0].startswith(mark + " "):
+    comment = list(itertools.takewhile(lambda line: line.startswith(mark + " "), lines))
+    if not comment:
         raise Fault("%s: the first line must be a comment that begins with '%s '" % (path, mark))
-    return lines[0][len(mark) :].strip()
+    text = " ".join(line[len(mark) :].strip() for line in comment)
+    return SENTENCE.split(text, maxsplit=1)[0]
 
 
 def specs_of(folder: str) -> Iterator[Tuple[str, str]]:

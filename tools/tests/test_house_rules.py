@@ -4,8 +4,8 @@ import unittest
 
 from support import InFolder, run
 
-from qss_dev import house_rules
-from qss_dev.rattle_source import functions
+from qss_dev import file_heads, house_rules
+from qss_dev.rattle_source import functions, masked
 
 CODE = """//! A crate.
 #![tactic(auto)]
@@ -115,6 +115,73 @@ class Measures(InFolder):
 
     def test_no_crate(self):
         self.assert_fault(run("house-rules", "--root", os.path.join(self.folder, "crates")), "no crate with a function")
+
+
+STACKED = """//! Reads a certificate from its text.
+//! The expected record at each line of a certificate's text.
+
+fn one() {}
+"""
+FILLED = """//! Reads a trace from its text, record by record. Each record must have its keyword, its count of
+//! fields, and numbers within their limits.
+
+fn one() {}
+"""
+ROOT_HEAD = """//! Shapes.
+//! Main items: `shapes::area`, and the type `shapes::Square` with its
+//! methods.
+//! Depends on no other crate.
+"""
+LATE = """//! Shapes.
+
+fn sum() {}
+
+impl Square {
+    fn side(&self) {}
+}
+
+/// A type in a comment: struct Round
+pub struct Square;
+
+impl Drop for Square {}
+
+impl Square {}
+"""
+
+
+class Heads(unittest.TestCase):
+    """The heads of files, and the order of their items."""
+
+    def test_captions_of_several_files(self):
+        self.assertTrue(file_heads.is_stacked("src/parser.rt", STACKED))
+        self.assertTrue(file_heads.is_stacked("src/parser.rt", "//! " + "\n//! ".join(9 * [96 * "x"]) + "\n"))
+
+    def test_a_paragraph(self):
+        self.assertFalse(file_heads.is_stacked("src/parser.rt", FILLED))
+        self.assertFalse(file_heads.is_stacked("src/parser.rt", "//! One line.\n"))
+
+    def test_a_root_file_has_three_parts(self):
+        full = ROOT_HEAD.replace("with its\n//! methods", "with its methods")
+        self.assertFalse(file_heads.is_stacked("src/lib.rt", full))
+        self.assertTrue(file_heads.is_stacked("src/lib.rt", ROOT_HEAD))
+        self.assertTrue(file_heads.is_stacked("src/shapes.rt", full))
+
+    def test_a_comment_of_another_form_is_no_head(self):
+        self.assertEqual(file_heads.head_of("// A crate.\n\nfn one() {}\n"), [])
+        self.assertEqual(file_heads.head_of(ROOT_HEAD)[0], "Shapes.")
+
+    def test_names_of_root_heads(self):
+        found = {"src/lib.rt": ROOT_HEAD, "src/shapes.rt": "pub struct Square;\n\npub fn areas() {}\n"}
+        self.assertEqual(file_heads.missing_names({"plane": found}), ["crates/plane/src/lib.rt: shapes::area"])
+
+    def test_every_name_of_a_root_head_exists(self):
+        self.assertEqual(file_heads.missing_names(house_rules.Sources(house_rules.ROOT).code), [])
+
+    def test_types_after_functions(self):
+        code = masked(LATE)
+        self.assertEqual(file_heads.late_types(code), 1)
+        self.assertEqual(file_heads.late_types(masked(LATE.replace("fn sum() {}\n", ""))), 0)
+        self.assertEqual(list(file_heads.own_impls(code)), [("impl Square", 2)])
 
 
 class Repeats(InFolder):
