@@ -18,6 +18,7 @@ from qss_tools.fault import FINE, WARNED, Arguments, Fault, read_text, run_tool
 from qss_tools.program import ROOT
 
 from .file_heads import head_of, is_stacked, late_types, own_impls
+from .file_names import ghost_uses, literal_limits, repeats_file
 from .rattle_source import Function, crates_of, files_of, functions, masked
 
 LIMITS = os.path.join(os.path.dirname(os.path.abspath(__file__)), "house_limits.tsv")
@@ -119,12 +120,12 @@ def longest_clauses(sources: Sources) -> List[Place]:
 
 
 def longest_lines(files: Iterable[Tuple[str, str]]) -> List[Place]:
-    """The length of each line that is longer than 100 columns and no `ghost use`, which rt fmt keeps on one line."""
+    """The length of each line over 100 columns, except imports of clauses, which are one line each."""
     return [
         (len(line), "%s:%d" % (path, number))
         for path, text in files
         for number, line in enumerate(text.split("\n"), 1)
-        if len(line) > 100 and not line.lstrip().startswith("ghost use ")
+        if len(line) > 100 and not line.lstrip().startswith(("ghost use ", "pub use "))
     ]
 
 
@@ -177,6 +178,27 @@ def file_measures(sources: Sources) -> List[Measure]:
     ]
 
 
+def name_measures(sources: Sources) -> List[Measure]:
+    """The measures of names, imports of definitions and literal limits."""
+    code = sources.of_files([sources.code])
+    named = [
+        (1, place(crate, it))
+        for crate, it in sources.functions
+        if not it.owner and not it.trait
+        if repeats_file(crate, it.name, it.file)
+    ]
+    literals = [
+        (len(literal_limits(clause.text)), "%s %s" % (place(crate, it), clause.name))
+        for crate, it in sources.functions
+        for clause in it.clauses
+    ]
+    return [
+        Measure("functions with the name of their file", 0, named),
+        Measure("`ghost use` lines of a file", 8, [(ghost_uses(text), path) for path, text in code]),
+        Measure("literal limits of a clause", 0, literals),
+    ]
+
+
 def measures(sources: Sources) -> List[Measure]:
     """All measures of a checkout."""
     everywhere = sources.of_files([sources.code, sources.specs, sources.proofs])
@@ -203,6 +225,7 @@ def measures(sources: Sources) -> List[Measure]:
             shared_clauses(sources, TOP),
         ),
         *file_measures(sources),
+        *name_measures(sources),
     ]
 
 

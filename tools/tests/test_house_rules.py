@@ -4,7 +4,7 @@ import unittest
 
 from support import InFolder, run
 
-from qss_dev import file_heads, house_rules
+from qss_dev import file_heads, file_names, house_rules
 from qss_dev.rattle_source import functions, masked
 
 CODE = """//! A crate.
@@ -216,6 +216,23 @@ class Repeats(InFolder):
     def test_other_crates(self):
         self.assertEqual(self.listed("other", "--more-than", "0"), (1, ["1 IsSmall pair.0"]))
         self.assert_fault(run("clause-repeats", "--root", self.folder, "none"), "none: no crate of")
+
+
+class Names(unittest.TestCase):
+    def test_names_of_files(self):
+        self.assertTrue(file_names.contains_name("schedule_event_step_risen", "event_steps"))
+        self.assertTrue(file_names.contains_name("dependency_graph_of", "dependency_graph"))
+        self.assertFalse(file_names.contains_name("schedule_step_event", "event_steps"))
+        self.assertFalse(file_names.contains_name("parse_title", "parse"))
+        self.assertFalse(file_names.repeats_file("mu_num", "times_power_of_two", "src/powers_of_two.rt"))
+
+    def test_imports_of_definitions(self):
+        text = "ghost use A.{a};\nuse b;\n    ghost use C.{c,\n    d};\n"
+        self.assertEqual(file_names.ghost_uses(text), 2)
+
+    def test_literal_limits(self):
+        self.assertEqual(len(file_names.literal_limits("requires { IsWithin 43 x × n ≤ 4096 }")), 2)
+        self.assertEqual(file_names.literal_limits("ensures { result ≡ repeated 4096 (IsWithin 44 x) }"), [])
 
 
 class Limits(unittest.TestCase):

@@ -1,8 +1,6 @@
-//! Theorems about the answers of the program, each the contract of a function. The theorems are
-//! about the bytes that a command reads, or about files with known contents.
-//! Main functions: `answers_have_properties`, `sessions_have_properties` and
-//! `run_on_known_contents`. Depends on qss_top (the program as a function, its specification) and
-//! qss_answers.
+//! Theorems about the answers of the program, for the bytes that it reads or known contents.
+//! Main items: `answers_have_properties`, `sessions_have_properties`, `run_on_known_contents`.
+//! Depends on qss_top (the program as a function, its specification) and qss_answers.
 #![tactic(auto)]
 
 mod answer_laws;

@@ -17,6 +17,7 @@ fn a_quantizer_keeps_a_level_within_its_quantum(rt: HostRuntime) {
     assert!(&rt; quantizer.level(215040, 60, 4, 4096) == 52);
 }
 
+// 53 is the least level that is not below the state 215040 / 4096.
 #[test]
 fn a_quantizer_without_a_name_takes_the_level_of_its_rule(rt: HostRuntime) {
     let quantizer = Quantizer::new(ceiling_rule, None);
@@ -24,6 +25,7 @@ fn a_quantizer_without_a_name_takes_the_level_of_its_rule(rt: HostRuntime) {
     assert!(&rt; quantizer.level(215040, 60, 4, 4096) == 53);
 }
 
+// The rule takes the greatest change that is not above the quotient, 1.75 or -1.75.
 #[test]
 fn a_slope_rule_need_not_take_the_nearest_slope(rt: HostRuntime) {
     let rule = SlopeRule::new(floor_slope_rule, false);
