@@ -27,7 +27,7 @@ PATHS, SEARCH, ANSWERS, LEMMAS, OTHER = "generated paths", "search", "answers", 
 KINDS = (PATHS, SEARCH, ANSWERS, LEMMAS, OTHER)
 KIND_OF = {"Lts": PATHS, "Proof": SEARCH, "Answers": ANSWERS, "Invariants": ANSWERS}
 # Each function has these modules.
-OF_FUNCTION = ("Lts", "Code", "Statement")
+OF_FUNCTION = ("Lts", "Code")
 
 Words = Tuple[str, ...]  # the name of a module below `proofs`
 Saves = Sequence[Tuple[float, str]]  # when each module was saved, and its name
