@@ -1,6 +1,6 @@
 """The tools of qss, and what is installed.
 
-  tools/qss-tools               lists the tools, with a line for each
+  tools/qss-tools               lists the tools, with a line for each, and then those for work on qss
   tools/qss-tools --version     prints the version, the commit, the kit, and whether the program is proved
 
 Status: 0, or 2 a fault.
@@ -16,7 +16,7 @@ from typing import Iterator, Optional, Sequence, Tuple
 
 from .fault import FINE, Arguments, read_bytes, run_tool
 from .program import BUILT, ROOT, UNPROVED, is_current
-from .scripts import modules
+from .scripts import PACKAGES, scripts_of
 
 VERSION = "0.1.0"
 # The file that `make install` writes next to the program: the lines of --version.
@@ -55,9 +55,9 @@ def version_lines() -> Sequence[str]:
     return [*lines, "python: %s" % platform.python_version()]
 
 
-def tools() -> Iterator[Tuple[str, str]]:
-    """The name of each tool, with the first sentence of what describes it."""
-    for name, module in sorted(modules().items()):
+def tools(package: str) -> Iterator[Tuple[str, str]]:
+    """The name of each tool of a package, with the first sentence of what describes it."""
+    for name, module in sorted(scripts_of(package).items()):
         found = importlib.util.find_spec(module)
         if found is not None and found.origin is not None:
             yield name, first_sentence(ast.parse(read_bytes(found.origin)))
@@ -85,10 +85,11 @@ def tool(arguments: Sequence[str]) -> int:
     if args.version:
         print("\n".join(version_lines()))
         return FINE
-    found = list(tools())
-    width = max(len(name) for name, _ in found)
-    for name, sentence in found:
-        print("%-*s  %s" % (width, name, sentence))
+    user, developer = (list(tools(package)) for package in PACKAGES)
+    width = max(len(name) for name, _ in user + developer)
+    heads = [("", ""), ("For work on qss:", "")] if developer else []
+    lines = [f"{name:{width}}  {sentence}".rstrip() for name, sentence in [*user, *heads, *developer]]
+    print("\n".join(lines))
     return FINE
 
 

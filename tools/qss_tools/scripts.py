@@ -22,10 +22,14 @@ SCRIPTS: Dict[str, str] = {
 }
 
 
+def scripts_of(package: str) -> Dict[str, str]:
+    """The module of each tool of a package, or nothing where the package is not here."""
+    if importlib.util.find_spec(package) is None:
+        return {}
+    found: Dict[str, str] = importlib.import_module(f"{package}.scripts").SCRIPTS
+    return found
+
+
 def modules() -> Dict[str, str]:
     """The module of each tool that is here."""
-    found: Dict[str, str] = {}
-    for package in PACKAGES:
-        if importlib.util.find_spec(package) is not None:
-            found.update(importlib.import_module(f"{package}.scripts").SCRIPTS)
-    return found
+    return {name: module for package in PACKAGES for name, module in scripts_of(package).items()}

@@ -105,6 +105,14 @@ class Package(InFolder):
         self.assertEqual({module.split(".")[0] for module in user.SCRIPTS.values()}, {"qss_tools"})
         self.assertEqual({module.split(".")[0] for module in developer.SCRIPTS.values()}, {"qss_dev"})
 
+    def test_the_list_of_tools(self):
+        status, out, err = run("qss-tools")
+        self.assertEqual((status, err), (0, ""))
+        first, second = (
+            [line.split()[0] for line in part.splitlines()] for part in out.split("\n\nFor work on qss:\n")
+        )
+        self.assertEqual((first, second), (sorted(user.SCRIPTS), sorted(developer.SCRIPTS)))
+
     def test_entry_points_are_the_tools_for_all(self):
         found = re.findall(r'^([\w-]+) = "([\w.]+):main"$', project(), re.MULTILINE)
         self.assertEqual(sorted(found), sorted(user.SCRIPTS.items()))
