@@ -14,7 +14,7 @@ SCRIPTS: Dict[str, str] = {
     "qss-measure": "qss_tools.tables.measure",
     "qss-plot": "qss_tools.plot.plot",
     "qss-run": "qss_tools.runs.run_model",
-    "qss-sweep": "qss_tools.sweep.sweeps",
+    "qss-sweep": "qss_tools.sweeps.sweep",
     "qss-table": "qss_tools.tables.table",
     "qss-tools": "qss_tools.overview",
     "rows-to-trace": "qss_tools.certificates.rows_to_trace",

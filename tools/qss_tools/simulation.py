@@ -22,9 +22,9 @@ from .runs.columns import chosen
 from .runs.measures import measured, requests
 from .runs.rows import Rows, Run, exact, lines_of
 from .runs.trajectories import Trajectory, trajectories
-from .sweep.clusters import by_dask, by_processes, processors
-from .sweep.grids import MOST_POINTS, Points
-from .sweep.jobs import Job
+from .sweeps.clusters import by_dask, by_processes, processors
+from .sweeps.grids import MOST_POINTS, Points
+from .sweeps.jobs import Job
 from .tables import table
 from .tables.measure import lines_by_name, number_of
 

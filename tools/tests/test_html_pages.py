@@ -14,9 +14,9 @@ from models import BALL, BALL_ROWS, GROWING, GROWING_ROWS
 from support import PROGRAM, STAND_IN, InFolder, python_with, run, run_by
 from test_measures import line
 
-from qss_tools.certificates.band import bands_of
+from qss_tools.plot.bands import bands_of
 from qss_tools.plot.differences import Difference
-from qss_tools.plot.html_plot import MOST_BUCKETS, Firings, Knots
+from qss_tools.plot.knots import MOST_BUCKETS, Firings, Knots
 
 # The levels of BALL_ROWS, and its times: y changes at 0.5, 0.75 and 1.
 Y_POINTS = [(0, 1), (0.5, 0.25), (0.75, -1), (1, -0.5), (1.25, -0.5)]

@@ -11,6 +11,7 @@ import unittest
 
 from support import ROOT, TOOLS, InFolder, modules_of, run
 
+import qss_tools
 from qss_dev import scripts as developer
 from qss_tools import scripts as user
 
@@ -90,6 +91,11 @@ class Imports(unittest.TestCase):
                 others = {it.rpartition(".")[0] for it in found if it.count(".") == 2}
                 packages.setdefault(".".join(words[:2]), set()).update(others - {".".join(words[:2])})
         self.assertIsNone(cycle(packages))
+
+    def test_no_module_has_a_public_name(self):
+        """Else its import would replace a function of the package."""
+        public = {f"qss_tools.{name}" for name in qss_tools.__all__}
+        self.assertEqual(public & set(self.graph), set())
 
     def test_the_tools_for_all_import_none_for_developers(self):
         wrong = [(name, it) for name, found in self.graph.items() for it in found if name.startswith("qss_tools")]

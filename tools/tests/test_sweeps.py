@@ -10,8 +10,8 @@ from support import PROGRAM, TOOLS, InFolder, python_with, run
 
 from qss_tools.fault import Fault
 from qss_tools.model.changes import changed_text, value_text
-from qss_tools.sweep.clusters import grouped
-from qss_tools.sweep.grids import Points
+from qss_tools.sweeps.clusters import grouped
+from qss_tools.sweeps.grids import Points
 
 CANONICAL = """model m parameter Real a = 1 ;
 parameter Integer n = 2 ;
@@ -226,8 +226,8 @@ class Runs(InFolder):
     def identity(self, *words):
         """The first line of the part of a sweep that was interrupted at its start."""
         script = (
-            "import sys; sys.path.insert(0, %r)\nfrom qss_tools import sweeps\n"
-            "def stop(*_): raise KeyboardInterrupt\nsweeps.by_processes = stop\nsweeps.main(sys.argv[1:])" % TOOLS
+            "import sys; sys.path.insert(0, %r)\nfrom qss_tools.sweeps import sweep\n"
+            "def stop(*_): raise KeyboardInterrupt\nsweep.by_processes = stop\nsweep.main(sys.argv[1:])" % TOOLS
         )
         words = [self.model, *words, *MEASURE, "--program", PROGRAM, "--force"]
         done = subprocess.run([sys.executable, "-c", script] + words, stderr=subprocess.PIPE)
