@@ -166,13 +166,13 @@ def at_work(words: Sequence[str], folder: str) -> "Iterator[Tuple[subprocess.Pop
         raise Fault(f"{words[0]} cannot be started: {why.strerror}") from None
     lines: List[str] = []
     reader = threading.Thread(target=lambda: lines.extend(child.stdout or ()), daemon=True)
-    reader.start()
-    try:
-        yield child, lines
-        reader.join()
-    finally:
-        child.kill()
-        child.wait()
+    with child:
+        reader.start()
+        try:
+            yield child, lines
+        finally:
+            child.kill()
+            reader.join()
 
 
 def measure(crates: Crates, crate: str) -> Times:

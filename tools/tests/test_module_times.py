@@ -1,11 +1,14 @@
 """Where the time of a proof goes: modules are given to functions and kinds, and tables have their sums."""
 import os
 import unittest
+from types import SimpleNamespace
 
 from support import InFolder, run
 
 from qss_dev import module_times
+from qss_dev.crates import Crates
 from qss_dev.module_times import Times, spent_at, times_of
+from qss_tools.fault import Fault
 
 # A proof with a pause of 4 s from the time 12 on, in which another process had the processor.
 LOOKS = [(10.0, 0.0), (12.0, 2.0), (16.0, 2.0), (26.0, 12.0)]
@@ -83,6 +86,65 @@ class Saved(InFolder):
         for name in ("Words.antt", "rows/put_row/Answers.antt", "rows/notes.md"):
             self.file(name, "")
         self.assertEqual(sorted(module_times.lemma_files(self.folder)), [("Words",), ("rows", "put_row", "Answers")])
+
+
+RATTLE = """#!/bin/sh
+echo "$*" > "$(dirname "$0")/words"
+while [ "$1" != --incremental ]; do shift; done
+[ -e "$(dirname "$0")/fails" ] && { echo "src/lib.rt:1:1: error"; exit 1; }
+: > "$2/Rattle-high-proofs.rows.put_row.Lts.oantt"
+: > "$2/Rattle-high-proofs.Words.oantt"
+"""
+
+
+class Measured(InFolder):
+    """A crate is checked by a stand-in for the prover, over the statements of the crate below it."""
+
+    def setUp(self):
+        super().setUp()
+        for name in ("low", "high"):
+            os.makedirs(os.path.join(self.folder, "crates", name, "src"))
+            self.file(f"crates/{name}/src/lib.rt", "")
+        os.makedirs(os.path.join(self.folder, "crates", "high", "proofs"))
+        self.file("crates/high/proofs/Words.antt", "")
+        os.makedirs(os.path.join(self.folder, "kit", "bin"))
+        os.chmod(self.file("kit/bin/rattle", RATTLE), 0o755)
+        self.file("crates.txt", "low:\nhigh: low\nqss: high\n")
+        self.crates = Crates(self.folder, SimpleNamespace(folder=os.path.join(self.folder, "kit"), version="a kit"))
+
+    def build_low(self):
+        """Leaves statements of the low crate, as a build does."""
+        os.makedirs(self.crates.built("low"))
+        self.crates.note("low", self.crates.stamp("low", {}))
+
+    def test_a_crate(self):
+        self.build_low()
+        module_times.check_below(self.crates, "high")
+        times = module_times.measure(self.crates, "high")
+        self.assertEqual((list(times.functions), list(times.lemmas)), (["rows::put_row"], ["Words"]))
+        with open(os.path.join(self.folder, "kit", "bin", "words"), encoding="utf-8") as file:
+            words = file.read().split()
+        self.assertEqual(words[:4], ["check", "--crate-name", "high", "src/lib.rt"])
+        self.assertIn("low=" + self.crates.built("low"), words)
+        self.assertEqual(words[words.index("--jobs") + 1], "1")
+        self.assertNotIn("-o", words)
+
+    def test_what_is_not_built_or_not_proved(self):
+        with self.assertRaises(Fault) as caught:
+            module_times.check_below(self.crates, "high")
+        wanted = "the statements of low, below high, are not built from these sources: ./prove builds them"
+        self.assertEqual(str(caught.exception), wanted)
+        self.build_low()
+        self.file("crates/low/src/lib.rt", "//\n")
+        with self.assertRaises(Fault):
+            module_times.check_below(self.crates, "high")
+        with self.assertRaises(Fault) as caught:
+            module_times.check_below(self.crates, "none")
+        self.assertEqual(str(caught.exception), "crates/none is no crate here")
+        self.file("kit/bin/fails", "")
+        with self.assertRaises(Fault) as caught:
+            module_times.measure(self.crates, "high")
+        self.assertEqual(caught.exception.lines, ["src/lib.rt:1:1: error"])
 
 
 class Faults(unittest.TestCase):
