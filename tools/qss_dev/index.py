@@ -6,13 +6,15 @@
 The text of a crate is the first sentence of the head of its root file, src/lib.rt or src/main.rt. The text of a file
 of specs/ is the first sentence of the comment with which it begins. Layers and dependencies come from crates.txt.
 
+A crate is directly below another one if no other library of that one depends on it.
+
 Status: 0 the page is written or is current, 1 with --check: it is not, 2 a fault.
 """
 import itertools
 import os
 import re
 import sys
-from typing import Iterator, List, NamedTuple, Optional, Sequence, Tuple
+from typing import Dict, Iterator, List, NamedTuple, Optional, Sequence, Set, Tuple
 
 from qss_tools.fault import FINE, WARNED, Arguments, Fault, read_text, run_tool
 from qss_tools.program import ROOT
@@ -28,6 +30,9 @@ HEAD = """# Index
 
 The crates by layer, lowest first, and their files of definitions. `tools/make-index` writes this page from the first
 sentences of the files. [ARCHITECTURE.md](ARCHITECTURE.md) has the picture.
+
+The list in `crates.txt` has all crates that the text of a crate names, because the kit requires this. The last column
+of this page leaves out each crate on which another one of the column depends.
 """
 
 
@@ -92,6 +97,18 @@ def layers_of(root: str) -> List[Layer]:
     return layers
 
 
+def uses_of(name: str, every: Dict[str, Crate]) -> Set[str]:
+    """All libraries on which a crate depends."""
+    uses = every[name].uses if name in every else []
+    return set(uses).union(*(uses_of(it, every) for it in uses))
+
+
+def directly_below(crate: Crate, every: Dict[str, Crate]) -> List[str]:
+    """The libraries of the kit that a crate names, and the crates of the repository that are directly below it."""
+    deeper: Set[str] = set().union(*(uses_of(it, every) for it in crate.uses))
+    return [it for it in crate.uses if it not in every or it not in deeper]
+
+
 def table(head: Sequence[str], rows: Sequence[Sequence[str]]) -> Iterator[str]:
     """A Markdown table."""
     yield "| %s |" % " | ".join(head)
@@ -104,12 +121,13 @@ def page(root: str) -> str:
     """The text of the page."""
     layers = layers_of(root)
     crates = [crate for layer in layers for crate in layer.crates]
+    every = {crate.name: crate for crate in crates}
     files = sum(len(crate.specs) for crate in crates)
     parts = [HEAD, "%d crates, %d files of definitions.\n" % (len(crates), files), "## Crates\n"]
     for layer in layers:
         parts.append("### %s\n" % layer.title.rstrip("."))
-        rows = [("`%s`" % it.name, it.text, " ".join(it.uses)) for it in layer.crates]
-        parts.append("\n".join(table(("crate", "what it is for", "names"), rows)) + "\n")
+        rows = [("`%s`" % it.name, it.text, " ".join(directly_below(it, every))) for it in layer.crates]
+        parts.append("\n".join(table(("crate", "what it is for", "directly below it"), rows)) + "\n")
     parts.append("## Definitions\n")
     for crate in crates:
         if crate.specs:

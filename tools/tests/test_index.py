@@ -30,6 +30,13 @@ class Index(unittest.TestCase):
         self.assertEqual(len(rows), len(set(rows)))
         self.assertEqual(set(rows), files)
 
+    def test_dependencies_are_those_that_no_other_one_implies(self):
+        below = dict(re.findall(r"^\| `([a-z_0-9]+)` \| \S.*\| ([a-z_0-9 ]*) \|$", self.page, re.MULTILINE))
+        self.assertEqual(below["mu_parser"], "mu_grammar")
+        self.assertEqual(below["qss"], "qss_top")
+        self.assertEqual(below["qss_components"], "qss_events")
+        self.assertEqual(below["qss_machine"], "mu_io mu_num")
+
 
 if __name__ == "__main__":
     unittest.main()
