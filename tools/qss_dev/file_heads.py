@@ -11,7 +11,6 @@ from .rattle_source import modules_of
 MARK = "//!"
 COLUMNS = 100
 MOST_LINES = 4
-PART = re.compile(r"(?:Main |Depends on )")
 VISIBLE = r"^(?:pub(?:\([a-z]+\))? )?"
 FUNCTION = re.compile(VISIBLE + r"(?:const |unsafe )*fn \w", re.MULTILINE)
 TYPE = re.compile(VISIBLE + r"(?:struct|enum|trait|type) (\w+)", re.MULTILINE)
@@ -36,11 +35,10 @@ def is_root(file: str) -> bool:
 
 
 def is_stacked(file: str, text: str) -> bool:
-    """Whether a head is several captions: it has many lines, or a line ends before it is full."""
+    """Whether a head is several captions: it has many lines, or a line ends before it is full (except in a root)."""
     lines = head_of(text)
-    early = any(
-        len(MARK) + 2 + len(line) + len(after.split(" ")[0]) <= COLUMNS and not (is_root(file) and PART.match(after))
-        for line, after in zip(lines, lines[1:])
+    early = not is_root(file) and any(
+        len(MARK) + 2 + len(line) + len(after.split(" ")[0]) <= COLUMNS for line, after in zip(lines, lines[1:])
     )
     return early or len(lines) > MOST_LINES
 

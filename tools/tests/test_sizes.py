@@ -7,13 +7,8 @@ from support import ROOT, run
 
 # What README's drawing and the table of READING count, by the word that begins or names the row.
 THEOREMS = {
-    "run_prints_the_run": ["qss_guarantees.MainTheorems.RunPrintsTheRun"],
-    "run2_prints_the_run": ["qss_guarantees.MainTheorems.Run2PrintsTheRun"],
-    "certify_accepts_exactly": ["qss_guarantees.MainTheorems.CertifyAcceptsExactly"],
-    "certified_runs_stay_within_bounds": ["qss_guarantees.CertifiedFiles.CertifiedRunsStayWithinBounds"],
-    "proposed_runs_stay_within_bounds": ["qss_guarantees.ProposedRuns.ProposedRunsStayNear"],
-    "checked_traces_are_runs": ["qss_guarantees.CheckedTraces.CheckedTracesAreRuns"],
-    "compared_runs_stay_within_bound": ["qss_guarantees.ComparedRuns.ComparedRunsStayWithinBound"],
+    "sessions_have_properties": ["qss_guarantees.CallProperties.SessionsHaveProperties"],
+    "printed_runs_are_near_solution": ["qss_guarantees.RunAndCertificate.PrintedRunsAreNearSolution"],
     "IsTrueToReads": ["qss_top.Calls.IsTrueToReads"],
     "runs_are_accepted": ["qss_guarantees.TraceLaws.RunsAreAccepted"],
     "compared_runs_are_within_bound": ["qss_guarantees.TraceLaws.ComparedRunsAreWithinBound"],

@@ -1,5 +1,6 @@
 -- Explicit numbers that bound the errors of forward Euler.
--- They are large, and serve only to show that these errors are at most a constant times the step size.
+-- They are large, and serve only to show that these errors are at most a constant times the step
+-- size.
 use Rattle.std.specs.Prelude.{ℕ, ◌+◌, ◌*◌, ◌^◌, List, ℤ, ◌+ℤ◌, ◌*ℤ◌, unsigned_abs}
 use Rattle.qss_machine.specs.declared.compiled_machine.Machine.{Machine}
 use Rattle.mu_num.specs.IndexedSums.{int_at, sum_below, abs_of}
@@ -8,7 +9,8 @@ use Rattle.qss_machine.specs.Legitimate.{start_coefficient, start_constant_part}
 
 -- the sum of the absolute values of the numbers in row j of the equation
 unfoldable pub row_size : Machine → ℕ → ℤ
-row_size m j = sum_below (state_count m) (λ k. abs_of (start_coefficient m j k)) +ℤ level_unit m *ℤ abs_of (start_constant_part m j)
+row_size m j = sum_below (state_count m) (λ k. abs_of (start_coefficient m j k)) +ℤ level_unit m *ℤ
+    abs_of (start_constant_part m j)
 
 -- a Lipschitz constant of the equation: the sum of all rows
 unfoldable pub stiffness : Machine → ℕ
@@ -24,8 +26,10 @@ growth g ticks = (4 ^ g) ^ ticks
 
 -- up to tick `last`, Euler's values with step size 1/r tick are within value_rate/r of the solution
 unfoldable pub value_rate : Machine → List ℤ → ℕ → ℕ
-value_rate m start last = growth (stiffness m) last * (growth (stiffness m) last * start_bound m start * stiffness m)
+value_rate m start last = growth (stiffness m) last *
+    (growth (stiffness m) last * start_bound m start * stiffness m)
 
 -- up to tick `last`, a difference quotient over 1/r tick is within slope_rate/r of the slope
 unfoldable pub slope_rate : Machine → List ℤ → ℕ → ℕ
-slope_rate m start last = (stiffness m * 4 ^ stiffness m) * ((growth (stiffness m) last * start_bound m start) * stiffness m)
+slope_rate m start last = (stiffness m * 4 ^ stiffness m) *
+    ((growth (stiffness m) last * start_bound m start) * stiffness m)

@@ -1,4 +1,4 @@
--- The names of other crates that the clauses of this crate cite, passed on from one place. Declares nothing.
+-- Definitions of other crates that clauses of this crate cite. Declares nothing.
 pub use Rattle.std.specs.Io.KnownBytes.{Appends}
 pub use Rattle.cert_check.specs.CertificateData.{certificate_data}
 pub use Rattle.cert_check.specs.CheckVerdicts.{IsVerdict}

@@ -1,4 +1,4 @@
--- The names of other crates that the clauses of this crate cite, passed on from one place. Declares nothing.
+-- Definitions of other crates that clauses of this crate cite. Declares nothing.
 pub use Rattle.std.specs.Io.KnownBytes.{Appends}
 pub use Rattle.mu_io.specs.Sinks.{AppendsPrefix, EndsByFault}
 pub use Rattle.mu_num.specs.IndexedSums.{first_exceeding, int_at, tabulate}

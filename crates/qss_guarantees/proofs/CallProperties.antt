@@ -57,7 +57,8 @@ sessions_have_properties command call out_faults err_faults s defined =
     whole = calls_have_properties command (seen call.status s.text s.line call.reads) s.computes
         defined
 
-    by : (call.text ≡ s.text) ⊎ ((call.status ≡ ends.Memory) × IsAccepted s.text call.text out_faults)
+    by : (call.text ≡ s.text) ⊎ ((call.status ≡ ends.Memory) × IsAccepted s.text call.text
+        out_faults)
         → HasPropertiesOfReads command (seen call.status call.text s.line call.reads)
     by (inl same) = subst (λ (text : List ℕ). HasPropertiesOfReads command
         (seen call.status text s.line call.reads)) (sym same) whole

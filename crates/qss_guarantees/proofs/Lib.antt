@@ -15,6 +15,5 @@ mod Properties
 mod CallProperties
 mod PrintedStates
 mod RunAndCertificate
-mod Headline
 mod Completeness
 mod KnownFiles

@@ -64,7 +64,8 @@ module _ (m : Machine) where
   HasFieldsFrom tick states levels row = row.var < state_count m → row.kind ≢ kind.Overflow
       → (i : ℕ) × (row.tick ≡ tick + i) × (i < length states) × (fields_of m row
       ≡ decimal row.tick ∷ word_of row.kind ∷ name_of m row.var
-      ∷ signed_decimal (entry_at levels i row.var) ∷ signed_decimal (entry_at states i row.var) ∷ [])
+      ∷ signed_decimal (entry_at levels i row.var) ∷ signed_decimal (entry_at states i row.var) ∷
+      [])
 
   is_state : (var : ℕ) → var < state_count m → nat_lt var (state_count m) ≡ true
   is_state var h = grind (arith, nat_tests)
@@ -74,7 +75,8 @@ module _ (m : Machine) where
       → fields_with (name_of m j) state (state_row k tick levels states j) ≡ decimal tick
       ∷ word_of k ∷ name_of m j ∷ signed_decimal (int_at levels j)
       ∷ signed_decimal (int_at states j) ∷ [])
-      → name_field m k j ≡ name_of m j → HasFields tick states levels (state_row k tick levels states j)
+      → name_field m k j ≡ name_of m j → HasFields tick states levels
+      (state_row k tick levels states j)
   state_fields k tick levels states j fields name inside other =
       (refl, rw name (fields (nat_lt j (state_count m)) (is_state j inside)))
 
@@ -144,7 +146,12 @@ module _ (m : Machine) where
         → HasFieldsFrom tick (states ∷ more) (levels ∷ others) row
     first_place tick states levels more others row has inside other =
         let (at, fields) = has inside other in
-        (0, omega (arith, at), omega arith, rw at fields)
+        let here : fields_of m row ≡ decimal row.tick ∷ word_of row.kind ∷ name_of m row.var
+        ∷ signed_decimal (int_at levels row.var) ∷ signed_decimal (int_at states row.var) ∷ [] =
+        subst (λ (t : ℕ). fields_of m row ≡ decimal t ∷ word_of row.kind ∷ name_of m row.var
+        ∷ signed_decimal (int_at levels row.var) ∷ signed_decimal (int_at states row.var) ∷ [])
+        (sym at) fields in
+        (0, omega (arith, at), omega arith, here)
 
     -- the rows at later places
     later_place : (tick : ℕ) (states levels : List ℤ) (more others : List (List ℤ)) (row : Row)

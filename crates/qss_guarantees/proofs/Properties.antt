@@ -1,10 +1,10 @@
 -- Each answer of the specification has the properties of its command.
 use Rattle.std.proofs.Common.{◌≡◌, ◌⊎◌, ℕ, List, [], ◌∷◌, length, refl, sym, ap, ◌∙◌}
-use Rattle.std.proofs.Common.{subst, inl, inr, Bool, true, false, ◌^◌, nat_lt, suc, ◌++◌, append-nil}
+use Rattle.std.proofs.Common.{subst, inl, inr, Bool, true, false, ◌^◌, nat_lt, suc, ◌++◌}
+use Rattle.std.proofs.Common.{append-nil}
 use Rattle.std.specs.Prelude.{◌≢◌, ◌↔◌, MatchBool}
 use Rattle.qss_compile.specs.Compilation.{IsRefused, IsParseRefusal}
 use Rattle.qss_compile.specs.declared.model_refusal.Refused.{Refused}
-use Rattle.cert_check.specs.Bounds.{CoversOwnRuns}
 use Rattle.cert_check.specs.CertificateData.{certificate_data}
 use Rattle.cert_check.specs.Written.{certificate_text}
 use Rattle.cert_check.specs.Systems.{system_of}
@@ -45,7 +45,6 @@ use Rattle.qss_cli.specs.Commands.{RunOptions, plain_options, run_model, print_m
 use Rattle.qss_cli.specs.Commands.{certify_model, upgrade_model, generate_model, check_model}
 use Rattle.qss_cli.specs.Commands.{propose_model, second_model, compare_runs, coupled_model, Side}
 use Rattle.qss_guarantees.specs.AnswerLaws.{AnswersHaveProperties}
-use Rattle.qss_top.specs.CertifiedRuns.{AreCertifiedBy}
 use Rattle.qss_top.specs.CommandAnswers.{RunAnswers, Run2Answers, PrintAnswers, ProposeAnswers}
 use Rattle.qss_top.specs.CommandAnswers.{GenerationAnswers, CertifyAnswers, UpgradeAnswers}
 use Rattle.qss_top.specs.CommandAnswers.{CheckAnswers, CompareAnswers, IsOutOfScope}
@@ -58,11 +57,11 @@ use Rattle.qss_top.specs.MachineAnswers.{summary_answer, text_answer, model_answ
 use Rattle.qss_top.specs.MachineAnswers.{IsCertifyAnswer, refusal, refused, too_long}
 use Rattle.qss_top.specs.MachineAnswers.{IsCheckAnswer, IsUpgradeAnswer}
 use Rattle.qss_top.specs.MachineAnswers.{status_of_refusal, second_run_answer}
-use Rattle.qss_guarantees.specs.Guarantees.{Compiles, IsRunStatus, AreComparedRuns}
+use Rattle.qss_guarantees.specs.Guarantees.{Compiles, IsRunStatus, IsRunText, AreComparedRuns}
 use Rattle.qss_guarantees.specs.Guarantees.{ConditionsHoldInRange}
 use Rattle.qss_guarantees.specs.Theorems.{RunPrintsRowsOfMachine, Run2PrintsSecondOrderRows}
 use Rattle.qss_guarantees.specs.Theorems.{PrintPrintsCanonicalText, GenPrintsSummary}
-use Rattle.qss_guarantees.specs.Theorems.{CertifyIsSound, CertifyCoversOwnRuns, CertifyIsComplete}
+use Rattle.qss_guarantees.specs.Theorems.{CertifyIsSound, CertifyIsComplete}
 use Rattle.qss_guarantees.specs.Theorems.{ProposeIsSound, ProposeIsComplete, CheckAcceptsRuns}
 use Rattle.qss_guarantees.specs.Theorems.{CompareIsComplete}
 use Rattle.qss_guarantees.specs.Theorems.{UpgradeKeepsCertificate, UpgradeIsComplete}
@@ -115,15 +114,6 @@ not_done share source answer (inr (m, means, (why, is, e))) done =
     refusal_status (reasons.Outside why)
     (subst IsRunStatus (ap (λ (x : Answer). x.status) e) done)
 
--- the contents are those of a source for which this holds
-abbrev pub IsForSource : (contents : List (List ℕ)) → (Holds : List ℕ → Type 0) → Type 0
-IsForSource contents Holds = (source : List ℕ) × (contents ≡ source ∷ []) × Holds source
-
--- the contents are those of a source and a second text for which this holds
-abbrev pub IsForTexts : (contents : List (List ℕ)) → (Holds : List ℕ → List ℕ → Type 0) → Type 0
-IsForTexts contents Holds =
-    (source : List ℕ) × (text : List ℕ) × (contents ≡ source ∷ text ∷ []) × Holds source text
-
 -- ---- runs
 
 -- the answer for the machine of the source
@@ -144,16 +134,6 @@ run_prints options source answer h = (
   compiled options.share (printed_run_answer options) source answer h,
   answered_as options.share (printed_run_answer options) source answer h,
 )
-
--- with status 0 or 6 the source compiles, and the run is printed
-pub run_done : (options : RunOptions) (contents : List (List ℕ)) (answer : Answer)
-    → RunAnswers options contents answer → IsRunStatus answer.status
-    → IsForSource contents (λ source. (m : Machine) × IsSourceMachine options.share source m
-    × (answer ≡ printed_run_answer options m))
-run_done options (source ∷ []) answer (inl refuses) done =
-    absurd (not_run IsRefused source answer refuses done)
-run_done options (source ∷ []) answer (inr run) done = (source, refl, run)
-run_done options _ answer h done = absurd h
 
 plain_answer : (m : Machine) → length m.clauses ≡ 0 → run2_answer m ≡ second_run_answer m
 plain_answer m none = rw none refl
@@ -226,15 +206,6 @@ module _ (m : Machine) (text : List ℕ) where
       accepts (system_of m) (certificate_data c) some.0 holds ranges some.1 in
       inr (c, read, (some.0, some.1, sym (ap (certified m c) is)))
 
--- with status 0 the bounds of the certificate are printed, and they hold
-certified_by : (share : ℕ) (source text : List ℕ) (m : Machine)
-    → IsSourceMachine share source m → (answer : Answer) → answer.status ≡ ends.Ok
-    → IsCertifyAnswer m text answer → AreCertifiedBy share source text answer.out
-certified_by share source text m means answer ok is =
-    let accepted = accepted_certificate m text answer.out
-    (text_of (IsCertification m text) answer is ok).0 in
-    record { machine = m; means = means; spelled = accepted.0; kept = accepted.1 }
-
 module _ (share : ℕ) (source text : List ℕ) (answer : Answer)
     (h : CertifyAnswers share (source ∷ text ∷ []) answer) where
   -- the certificate that is accepted with status 0
@@ -243,7 +214,8 @@ module _ (share : ℕ) (source text : List ℕ) (answer : Answer)
 
   pub certify_sound : CertifyIsSound share source text answer
   certify_sound ok =
-      let (c, law, conditions, read) = accepted_certificate h.0 text answer.out (printed ok) in record {
+      let (c, law, conditions, read) = accepted_certificate h.0 text answer.out (printed ok) in
+      record {
         machine = h.0;
         means = h.1.means;
         certificate = c;
@@ -254,33 +226,16 @@ module _ (share : ℕ) (source text : List ℕ) (answer : Answer)
         bounds = law.promised;
         solutions = law.solutions.solution;
         own_solution = law.halved.solution;
+        own_runs = law.admitted;
       }
 
-  pub certify_covers : CertifyCoversOwnRuns share source text answer
-  certify_covers ok m c means parsed =
-      let same : h.0 ≡ m = one_source_machine share source h.0 m h.1.means means in
-      let a = accepted_certificate m text answer.out
-      (subst (λ (m : Machine). IsCertification m text (Results.written answer.out)) same
-      (printed ok)) in
-      subst (λ (c : Certificate). CoversOwnRuns m c)
-      (judged_texts.one_certificate m text a.0 c a.1.reads parsed) a.1.admitted
-
   pub certify_complete : CertifyIsComplete share source text answer
-  certify_complete m c means read conditions =
+  certify_complete m c means (read, conditions) =
       let same : h.0 ≡ m = one_source_machine share source h.0 m h.1.means means in
       let own : IsCertifyAnswer m text answer =
       subst (λ (m : Machine). IsCertifyAnswer m text answer) same h.2 in
       own.2 ∙ ap answer_for (one_each.one_certification m text own.0
       (Results.written (bounds_text m c)) own.1 (certified_answer m text c read conditions))
-
--- with status 0 a source and a certificate were read
-pub certify_done : (share : ℕ) (contents : List (List ℕ)) (answer : Answer)
-    → CertifyAnswers share contents answer → answer.status ≡ ends.Ok
-    → IsForTexts contents (λ source text. AreCertifiedBy share source text answer.out)
-certify_done share (source ∷ []) answer h ok = absurd (not_done share source answer h (inl ok))
-certify_done share (source ∷ text ∷ []) answer h ok =
-    (source, text, refl, certified_by share source text h.0 h.1.means answer ok h.2)
-certify_done share _ answer h ok = absurd h
 
 pub upgrade_keeps : (source text : List ℕ) (answer : Answer)
     → UpgradeAnswers (source ∷ text ∷ []) answer → UpgradeKeepsCertificate source text answer
@@ -305,7 +260,7 @@ propose_sound source answer (inr (m, means, is)) ok =
 
 pub propose_complete : (source : List ℕ) (answer : Answer) → ProposeAnswers (source ∷ []) answer
     → ProposeIsComplete source answer
-propose_complete source answer h m c means scope is =
+propose_complete source answer h m c means (scope, is) =
     one_proposing source answer (text_answer (certificate_text c)) h
     (inr (
       m,
@@ -317,19 +272,7 @@ propose_complete source answer h m c means scope is =
       ),
     ))
 
--- with status 0 a source was read
-pub propose_done : (contents : List (List ℕ)) (answer : Answer) → ProposeAnswers contents answer
-    → answer.status ≡ ends.Ok → IsForSource contents (λ source. (m : Machine)
-    × IsSourceMachine 0 source m × ((c : Certificate) × IsSoundProposal m answer.out c))
-propose_done (source ∷ []) answer h ok =
-    (source, refl, propose_sound source answer h ok)
-propose_done _ answer h ok = absurd h
-
 -- ---- traces
-
--- the text parses as the trace of a legitimate run of the machine
-abbrev HasRun : (text : List ℕ) → Machine → Type 0
-HasRun text m = (t : Trace) × IsTraceRead m text t × IsRunOf m t
 
 module _ (source text : List ℕ) (answer : Answer) (h : CheckAnswers (source ∷ text ∷ []) answer)
   where
@@ -361,23 +304,17 @@ module _ (source text : List ℕ) (answer : Answer) (h : CheckAnswers (source �
         is)
 
     pub check_accepts : CheckAcceptsRuns source text answer
-    check_accepts = (λ ok. (h.0, h.1.means), λ m means. (both m means, summarized m means))
+    check_accepts = (
+      λ done. (h.0, h.1.means),
+      λ m means. (both m means, λ t (read, run). summarized m means t read run),
+    )
       where
-        both : (m : Machine) → IsSourceMachine 0 source m → answer.status ≡ ends.Ok ↔ HasRun text m
+        both : (m : Machine) → IsSourceMachine 0 source m
+            → answer.status ≡ ends.Ok ↔ ((t : Trace) × IsRunText m text t)
         both m means = (
-          λ ok. let run = accepted_run ok m means in (run.0, run.1, run.2),
-          λ some. ap (λ (x : Answer). x.status) (summarized m means some.0 some.1 some.2),
+          λ ok. let run = accepted_run ok m means in (run.0, (run.1, run.2)),
+          λ (t, (read, run)). ap (λ (x : Answer). x.status) (summarized m means t read run),
         )
-
--- with status 0 a source and a trace were read
-pub check_done : (contents : List (List ℕ)) (answer : Answer) → CheckAnswers contents answer
-    → answer.status ≡ ends.Ok → IsForTexts contents (λ source text. (m : Machine)
-    × IsSourceMachine 0 source m × ((t : Trace) × IsTraceRead m text t × IsRunOf m t
-    × (answer ≡ text_answer (summary t))))
-check_done (source ∷ []) answer h ok = absurd (not_done 0 source answer h (inl ok))
-check_done (source ∷ text ∷ []) answer h ok =
-    (source, text, refl, (h.0, h.1.means, accepted_run source text answer h ok h.0 h.1.means))
-check_done _ answer h ok = absurd h
 
 -- ---- comparisons
 
@@ -422,29 +359,21 @@ module _ (one two : Side) (source text : List ℕ) (traces : List (List ℕ)) (a
 pub compare_complete : (one two : Side) (source text : List ℕ) (traces : List (List ℕ))
     (answer : Answer) → CompareAnswers one two (source ∷ text ∷ traces) answer
     → CompareIsComplete one two source text traces answer
-compare_complete one two source text traces answer h m c t1 t2 line means usable runs is =
+compare_complete one two source text traces answer h m line means has =
+    let c = has.certificate in
+    let usable = has.usable in
     let same : h.0 ≡ m = one_source_machine 0 source h.0 m h.1.means means in
     let own : ComparisonAnswers (origin_of one) (origin_of two) m text traces answer =
     subst (λ (m : Machine). ComparisonAnswers (origin_of one) (origin_of two) m text traces answer)
     same h.2 in
     let such : ComparisonAnswers (origin_of one) (origin_of two) m text traces (text_answer line) =
-    compared c t1 t2 line usable runs is refl in
+    compared c has.first has.second line usable has.named has.compared refl in
     let whole : ComparisonAnswers (origin_of one) (origin_of two) m text (traces ++ [])
     (text_answer line) =
     subst (λ (ts : List (List ℕ)). ComparisonAnswers (origin_of one) (origin_of two) m text ts
     (text_answer line)) (sym (append-nil traces)) such in
     (one_comparison (origin_of one) (origin_of two) m usable.accepted.read.scope text traces []
     answer (text_answer line) own whole).1
-
--- with status 0 a source, a certificate and the traces of runs were read
-pub compare_done : (one two : Side) (contents : List (List ℕ)) (answer : Answer)
-    → CompareAnswers one two contents answer → answer.status ≡ ends.Ok
-    → (source : List ℕ) × (text : List ℕ) × (traces : List (List ℕ))
-    × (contents ≡ source ∷ text ∷ traces) × AreComparedRuns one two source text traces answer.out
-compare_done one two [] answer h ok = absurd h
-compare_done one two (source ∷ []) answer h ok = absurd (not_done 0 source answer h (inl ok))
-compare_done one two (source ∷ text ∷ traces) answer h ok =
-    (source, text, traces, refl, compare_sound one two source text traces answer ok h)
 
 -- ---- all commands
 
@@ -459,7 +388,6 @@ have_properties (propose_model _) (source ∷ []) answer h =
 have_properties (certify_model _ _ share) (source ∷ []) answer h = not_done share source answer h
 have_properties (certify_model _ _ share) (source ∷ text ∷ []) answer h = (
   certify_sound share source text answer h,
-  certify_covers share source text answer h,
   certify_complete share source text answer h,
 )
 have_properties (check_model _ _) (source ∷ []) answer h = not_done 0 source answer h

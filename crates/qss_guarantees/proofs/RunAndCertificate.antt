@@ -1,9 +1,10 @@
 -- A printed run lies within half of the printed bounds of the solution.
-use Rattle.std.proofs.Common.{◌≡◌, ◌<◌, ◌+◌, Bool, true, ℕ, List, [], ◌∷◌, length, take, refl, sym, ap}
+use Rattle.std.proofs.Common.{◌≡◌, ◌<◌, ◌+◌, Bool, true, ℕ, List, [], ◌∷◌, length, take, refl, sym}
+use Rattle.std.proofs.Common.{ap}
 use Rattle.std.proofs.Common.{◌∙◌, subst, inl, inr, get_or, arith, map}
 use Rattle.std.proofs.lemmas.List.{length-map}
 use Rattle.std.specs.Prelude.{All}
-use Rattle.mu_io.specs.Readings.{Reading, reading, fully_read}
+use Rattle.mu_io.specs.Readings.{Reading, Stage, reading, fully_read, faulted}
 use Rattle.cert_solution.proofs.Halved.{halves}
 use Rattle.qss_cli.specs.Commands.{Command, RunOptions, run_model, certify_model, files_of}
 use Rattle.qss_events.specs.RunTexts.{run_by_rule}
@@ -26,7 +27,6 @@ use Rattle.qss_guarantees.specs.Guarantees.{IsRunStatus, IsCertified}
 use Rattle.qss_guarantees.specs.RunAndCertificate.{ExecutesCommand, ReadSameSource}
 use Rattle.qss_guarantees.specs.RunAndCertificate.{PrintsState, PrintsNearSolution}
 use Rattle.qss_guarantees.specs.RunAndCertificate.{states_by_rule, PrintedRunsAreNearSolution}
-use Rattle.qss_guarantees.specs.Theorems.{CertifyCoversOwnRuns}
 use Rattle.qss_guarantees.proofs.CallProperties.{sessions_have_properties}
 use Rattle.qss_guarantees.proofs.PrintedStates.{HasFieldsFrom, printed_fields}
 use Rattle.qss_guarantees.proofs.Sources.{one_source_machine}
@@ -47,6 +47,19 @@ module _ (command : Command) (call : Call) (done : is_defined call.status ≡ tr
       sessions_have_properties command call out_faults err_faults session done in
       (line, has)
 
+-- the state of the last reading, its bytes, and the bytes of the reading before it
+abbrev last_stage : List Reading → Stage
+last_stage [] = faulted
+last_stage (last ∷ before) = last.stage
+
+abbrev last_bytes : List Reading → List ℕ
+last_bytes [] = []
+last_bytes (last ∷ before) = last.bytes
+
+abbrev earlier_bytes : List Reading → List ℕ
+earlier_bytes [] = []
+earlier_bytes (last ∷ before) = last_bytes before
+
 -- `run` printed the run of the machine to which the source compiles
 abbrev IsPrinted : RunOptions → (source out : List ℕ) → Type 0
 IsPrinted options source out = (m : Machine) × IsSourceMachine options.share source m
@@ -66,24 +79,18 @@ printed_run model options source call has done reads =
         → IsPrinted options source call.text
     by [] answer read ran text none = absurd (none ran)
     by (bytes ∷ []) answer (inl read) ran text (compiles, prints) =
-        let same : bytes ≡ source = cc (read, reads) in
+        let same : bytes ≡ source = sym (ap last_bytes read) ∙ ap last_bytes reads in
         let (m, means) = compiles ran in
         (m, rw same at means, text ∙ ap (λ (x : Answer). x.out) (prints m means))
     by (bytes ∷ []) answer (inr (stopped, last, more, read)) ran text both =
-        absurd (cc (read, reads))
+        absurd (cc (sym (ap last_stage read) ∙ ap last_stage reads))
     by (bytes ∷ other ∷ contents) answer read ran text none = absurd (none ran)
-
--- `certify` accepted the certificate
-abbrev IsAcceptedFor : (share : ℕ) → (source text out : List ℕ) → Type 0
-IsAcceptedFor share source text out = IsCertified share source text out
-    × ((answer : Answer) × (answer.status ≡ ends.Ok)
-    × CertifyCoversOwnRuns share source text answer)
 
 accepted_text : (model certificate : List ℕ) (share : ℕ) (source text : List ℕ) (call : Call)
     → HasPropertiesOfReads (certify_model model certificate share) call
     → call.status ≡ ends.Ok → call.reads
     ≡ reading certificate text fully_read ∷ reading model source fully_read ∷ []
-    → IsAcceptedFor share source text call.text
+    → IsCertified share source text call.text
 accepted_text model certificate share source text call has ok reads =
     by has.contents has.answer has.read (sym has.status_is ∙ ok) has.text_is has.properties
   where
@@ -92,18 +99,18 @@ accepted_text model certificate share source text call has ok reads =
         (take (length contents) (model ∷ certificate ∷ [])) contents [] call.reads
         → answer.status ≡ ends.Ok → call.text ≡ answer.out
         → HasProperties (certify_model model certificate share) contents answer
-        → IsAcceptedFor share source text call.text
+        → IsCertified share source text call.text
     by [] answer read done out none = absurd (none (inl done))
     by (bytes ∷ []) answer read done out none = absurd (none (inl done))
-    by (bytes ∷ own ∷ []) answer (inl (inl read)) done out (sound, covers, complete) =
-        let first : bytes ≡ source = cc (read, reads) in
-        let second : own ≡ text = cc (read, reads) in
-        let is : IsCertified share bytes own answer.out = sound done in (
-          rw (← first, ← second, out) is,
-          (answer, done, rw (← first, ← second) covers),
-        )
+    by (bytes ∷ own ∷ []) answer (inl (inl read)) done out (sound, complete) =
+        let first : bytes ≡ source = sym (ap earlier_bytes read) ∙ ap earlier_bytes reads in
+        let second : own ≡ text = sym (ap last_bytes read) ∙ ap last_bytes reads in
+        let is : IsCertified share bytes own answer.out = sound done in
+        subst (λ (t : List ℕ). IsCertified share source text t) (sym out)
+        (subst (λ (t : List ℕ). IsCertified share source t answer.out) second
+        (subst (λ (t : List ℕ). IsCertified share t own answer.out) first is))
     by (bytes ∷ own ∷ []) answer (inl (inr (stopped, last, more, read))) done out both =
-        absurd (cc (read, reads))
+        absurd (cc (sym (ap last_stage read) ∙ ap last_stage reads))
     by (bytes ∷ own ∷ []) answer (inr (stopped, last, more, read)) done out both =
         absurd (cc last)
     by (bytes ∷ own ∷ other ∷ contents) answer read done out none = absurd (none (inl done))
@@ -128,7 +135,7 @@ near_solution options source text run certified both =
     let (other_line, holds) =
     properties (certify_model both.other both.certificate options.share) certified
     (run_defined certified.status (inl both.certified_status)) both.certified_is in
-    let (is, (answer, done, covers)) =
+    let is =
     accepted_text both.other both.certificate options.share source text
     (seen certified.status certified.text other_line certified.reads) holds
     both.certified_status both.certified_reads in
@@ -146,7 +153,7 @@ near_solution options source text run certified both =
           let snapshots = (run_by_rule options.rule is.machine).snapshots in
           let inside : tick < length (states_by_rule options.rule is.machine) = low in
           (halves is.machine is.certificate is.conditions).own
-          (covers done is.machine is.certificate is.means is.read.text) start snapshots
+          is.own_runs start snapshots
           (run_leads options.rule is.machine) tick j
           (omega (arith, inside, length-map snapshots (λ (w : Snapshot). w.states))) h;
     }

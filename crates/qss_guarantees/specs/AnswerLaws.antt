@@ -1,5 +1,5 @@
 -- Existence, uniqueness and properties of the specified answers.
-use Rattle.std.specs.Prelude.{◌≡◌, ℕ, List, [], ◌∷◌, Option, Some}
+use Rattle.std.specs.Prelude.{◌≡◌, ◌↔◌, ℕ, List, [], ◌∷◌, Option, Some}
 use Rattle.mu_io.specs.Files.{Files}
 use Rattle.qss_answers.specs.Comparisons.{RunSource}
 use Rattle.qss_cli.specs.declared.request.Task.{Task}
@@ -16,7 +16,7 @@ use Rattle.qss_guarantees.specs.ExpectedResults.{ExpectedResult, IsExpectedResul
 use Rattle.qss_guarantees.specs.Guarantees.{IsRunStatus}
 use Rattle.qss_guarantees.specs.Theorems.{RunPrintsRowsOfMachine, Run2PrintsSecondOrderRows}
 use Rattle.qss_guarantees.specs.Theorems.{PrintPrintsCanonicalText, GenPrintsSummary}
-use Rattle.qss_guarantees.specs.Theorems.{CertifyIsSound, CertifyCoversOwnRuns, CertifyIsComplete}
+use Rattle.qss_guarantees.specs.Theorems.{CertifyIsSound, CertifyIsComplete}
 use Rattle.qss_guarantees.specs.Theorems.{ProposeIsSound, ProposeIsComplete, CheckAcceptsRuns}
 use Rattle.qss_guarantees.specs.Theorems.{CompareIsSound, CompareIsComplete}
 use Rattle.qss_guarantees.specs.Theorems.{UpgradeKeepsCertificate, UpgradeIsComplete}
@@ -59,8 +59,7 @@ HasProperties (generate_model seed cells) [] answer = GenPrintsSummary seed cell
 HasProperties (propose_model model) (source ∷ []) answer =
     ProposeIsSound source answer × ProposeIsComplete source answer
 HasProperties (certify_model model certificate share) (source ∷ text ∷ []) answer =
-    CertifyIsSound share source text answer × CertifyCoversOwnRuns share source text answer
-    × CertifyIsComplete share source text answer
+    CertifyIsSound share source text answer × CertifyIsComplete share source text answer
 HasProperties (check_model model trace) (source ∷ text ∷ []) answer =
     CheckAcceptsRuns source text answer
 HasProperties (compare_runs model certificate one two) (source ∷ text ∷ traces) answer =
@@ -74,6 +73,12 @@ HasProperties _ _ answer = IsRunStatus answer.status → ⊥
 abbrev pub AnswersHaveProperties : Type 0
 AnswersHaveProperties = (command : Command) (contents : List (List ℕ)) (answer : Answer)
     → Commands.Answers command contents answer → HasProperties command contents answer
+
+-- `devs` has the answers of `run` without options
+abbrev pub DevsAnswersAsRun : Type 0
+DevsAnswersAsRun = (model : List ℕ) (contents : List (List ℕ)) (answer : Answer)
+    → Commands.Answers (coupled_model model) contents answer
+    ↔ Commands.Answers (run_model model plain_options) contents answer
 
 -- arguments and files determine at most one result
 abbrev pub AnswersAreUnique : Type 0

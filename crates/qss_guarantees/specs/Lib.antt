@@ -1,4 +1,3 @@
-pub mod Words
 pub mod Prelude
 -- the theorems about the answers for the bytes that a command reads
 pub mod Guarantees
@@ -13,8 +12,3 @@ pub mod RunAndCertificate
 -- the theorems about the results for known files
 pub mod ExpectedResults
 pub mod Replies
-pub mod MainTheorems
-pub mod CertifiedFiles
-pub mod ProposedRuns
-pub mod CheckedTraces
-pub mod ComparedRuns

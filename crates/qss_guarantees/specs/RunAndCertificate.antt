@@ -92,7 +92,8 @@ pub record PrintsNearSolution (options : RunOptions) (source text : List ℕ) (r
       (half_bound machine certificate j)
       (run_value 1 (states_by_rule options.rule machine) tick j)
 
--- if `run` and `certify` read the same source, the printed run lies within half of the printed bounds
+-- if `run` and `certify` read the same source, the printed run lies within half of the printed
+-- bounds
 -- of the solution
 abbrev pub PrintedRunsAreNearSolution : Type 0
 PrintedRunsAreNearSolution = (options : RunOptions) (source text : List ℕ) (run certified : Call)

@@ -2,11 +2,12 @@
 
 ghost use Rattle.std.specs.Prelude.{[], ℕ};
 ghost use Rattle.qss_guarantees.specs.Prelude.{RunOptions, Side, RunAnswers, Run2Answers, PrintAnswers, GenerationAnswers, CertifyAnswers, UpgradeAnswers, ProposeAnswers, CheckAnswers, CompareAnswers};
-ghost use Rattle.qss_guarantees.specs.Words.{CertifiedRunsStayWithinBounds, CheckedTracesAreRuns, ComparedRunsStayWithinBound, RunPrintsTheRun, DevsAnswersAsRun, Run2PrintsTheRun, CertifyAcceptsExactly, AnswersAreUnique, AnswersExist, BytesDetermineAnswers, AnswersHaveProperties, ByteAnswersAreUnique, EachAnswer, EachForSource, EachForText, EachForTraces, RunPrintsRowsOfMachine, Run2PrintsSecondOrderRows, PrintPrintsCanonicalText, GenPrintsSummary, CertifyIsSound, CertifyCoversOwnRuns, CertifyIsComplete, ProposeIsSound, ProposeIsComplete, CheckAcceptsRuns, CompareIsSound, CompareIsComplete, UpgradeKeepsCertificate, UpgradeIsComplete, ProposedRunsStayNear};
+ghost use Rattle.qss_guarantees.specs.AnswerLaws.{AnswersAreUnique, AnswersExist, BytesDetermineAnswers, DevsAnswersAsRun, AnswersHaveProperties, ByteAnswersAreUnique, EachAnswer, EachForSource, EachForText, EachForTraces};
+ghost use Rattle.qss_guarantees.specs.Theorems.{RunPrintsRowsOfMachine, Run2PrintsSecondOrderRows, PrintPrintsCanonicalText, GenPrintsSummary, CertifyIsSound, CertifyIsComplete, ProposeIsSound, ProposeIsComplete, CheckAcceptsRuns, CompareIsSound, CompareIsComplete, UpgradeKeepsCertificate, UpgradeIsComplete};
 
 // ---- For the bytes of the files that a command reads.
 
-/// Each answer of the specification has the properties of its command. The next fourteen theorems
+/// Each answer of the specification has the properties of its command. The next thirteen theorems
 /// state these properties one by one.
 pub fn answers_have_properties()
     ensures { AnswersHaveProperties }
@@ -39,16 +40,12 @@ pub fn gen_prints_summary()
 {}
 
 /// If `certify` has status 0, the conditions of the certificate hold, and all their sums are in
-/// range. Any two covered runs are within the printed bounds E of each other. Each covered run is within E of the solutions of the
-/// machine's differential equation, and within E/2 of the solution from the run's own start.
+/// range. Any two covered runs are within the printed bounds E of each other. Each covered run is
+/// within E of the solutions of the machine's differential equation, and within E/2 of the solution
+/// from the run's own start. The certificate covers the machine's own runs, under every rule, from
+/// the certificate's starts.
 pub fn certify_is_sound()
     ensures { (share : ℕ) → EachForText (CertifyAnswers share) (CertifyIsSound share) }
-{}
-
-/// If `certify` has status 0, the certificate covers the machine's own runs, under every rule, from
-/// the certificate's starts.
-pub fn certify_covers_own_runs()
-    ensures { (share : ℕ) → EachForText (CertifyAnswers share) (CertifyCoversOwnRuns share) }
 {}
 
 /// If the conditions of a certificate hold and all their sums are in range, `certify` has status 0
@@ -113,6 +110,11 @@ pub fn byte_answers_are_unique()
     ensures { ByteAnswersAreUnique }
 {}
 
+/// `devs` has the answers of `run` without options, for all contents.
+pub fn devs_answers_as_run()
+    ensures { DevsAnswersAsRun }
+{}
+
 // ---- For arguments and files, whose contents may be known.
 
 /// Arguments and files determine at most one result and the files that are read.
@@ -123,56 +125,4 @@ pub fn answers_are_unique()
 /// Arguments and known files determine a result, possibly that a file is missing.
 pub fn answers_exist()
     ensures { AnswersExist }
-{}
-
-/// `run` prints the header and the rows of the run of the file's model, with the rule of the
-/// arguments, restricted by their filter.
-pub fn run_prints_the_run()
-    ensures { RunPrintsTheRun }
-{}
-
-/// `devs` prints what `run` without options prints, for all files.
-pub fn devs_answers_as_run()
-    ensures { DevsAnswersAsRun }
-{}
-
-/// `run2` prints the header and the rows of the second-order run of the file's model, and rejects a
-/// machine with clauses.
-pub fn run2_prints_the_run()
-    ensures { Run2PrintsTheRun }
-{}
-
-/// `certify` returns status 0 with the bounds if and only if the inequalities hold and all their
-/// sums are in range.
-pub fn certify_accepts_exactly()
-    ensures { CertifyAcceptsExactly }
-{}
-
-/// Theorem: if a certificate is accepted, any two legitimate runs of the machine that the model
-/// denotes, from the certificate's starts, lie within the printed bounds E. If the machine's start
-/// is one of the two, the machine's own runs are among these runs. Each of these runs lies within E
-/// of the solution of the machine's differential equation, and within E/2 of the solution from its
-/// own start.
-pub fn certified_runs_stay_within_bounds()
-    ensures { CertifiedRunsStayWithinBounds }
-{}
-
-/// Theorem: if a certificate is proposed, its text reads back, any two legitimate runs from the
-/// machine's start lie within its bounds E, and the machine's own runs are among these runs. Each
-/// of these runs lies within E/2 of the solution of the machine's differential equation from its
-/// own start.
-pub fn proposed_runs_stay_within_bounds()
-    ensures { ProposedRunsStayNear }
-{}
-
-/// If two runs are compared, both are legitimate runs from the machine's start with quanta at most
-/// the certificate's, and the greatest V of their difference is printed and at most the bound.
-pub fn compared_runs_stay_within_bound()
-    ensures { ComparedRunsStayWithinBound }
-{}
-
-/// Theorem: if a trace is accepted, it is a legitimate run of the machine that the model denotes,
-/// from the machine's start, and its summary is printed.
-pub fn checked_traces_are_runs()
-    ensures { CheckedTracesAreRuns }
 {}

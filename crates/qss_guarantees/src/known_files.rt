@@ -1,12 +1,8 @@
 //! What the contract of the program implies if the contents of the files are known.
 
 ghost use Rattle.std.specs.Prelude.{◌≡◌, ◌≢◌, ◌≤◌, ◌⊎◌, [], true, List, ℕ, map, None, Some, Contains};
-ghost use Rattle.qss_guarantees.specs.Prelude.{Appends, HasOneMoreFault, Files, AppendsPrefix, EndsByFault, Answer, Command, Side, certify_model, check_model, compare_runs, files_of, propose_model, command_of, writes_as_it_goes, leaves_out, IsOutOfMemoryPrefix};
-ghost use Rattle.qss_guarantees.specs.CertifiedFiles.{AreCertified};
-ghost use Rattle.qss_guarantees.specs.CheckedTraces.{IsCheckedTrace};
-ghost use Rattle.qss_guarantees.specs.ComparedRuns.{AreCompared};
+ghost use Rattle.qss_guarantees.specs.Prelude.{Appends, HasOneMoreFault, AppendsPrefix, EndsByFault, Answer, Command, command_of, files_of, writes_as_it_goes, leaves_out, IsOutOfMemoryPrefix};
 ghost use Rattle.qss_guarantees.specs.ExpectedResults.{ExpectedResult, IsExpectedResult, answered};
-ghost use Rattle.qss_guarantees.specs.ProposedRuns.{AreProposed};
 ghost use Rattle.qss_guarantees.specs.Replies.{IsReplyGiven, HasReply, text_of, SomeFaultCounted, IsStatusReported};
 
 use mu_io::{Shelf, Sink};
@@ -55,51 +51,6 @@ pub fn run_on_known_contents<S: Shelf, O: Sink, E: Sink>(
         → ¬ HasOneMoreFault (O.faults out.old) (O.faults out.new)
         → result ≢ Status.Memory
         → (result ≡ answer.status) × Appends (O.written out.old) (O.written out.new) answer.out }
-
-    // If a certificate is accepted, any two legitimate runs of the machine that the model denotes,
-    // from the certificate's starts, lie within the bounds that out gains. Each of these runs lies
-    // within the bounds of the solution of the machine's differential equation, and within half of
-    // them of the solution from its own start.
-    ensures certified { (files : Files) (model certificate : List ℕ) (share : ℕ)
-        → S.files shelf.old ≡ Some files
-        → command_of (map (λ word. word.now) words.now)
-        ≡ Some (certify_model model certificate share)
-        → result ≡ Status.Ok
-        → (text : List ℕ)
-        × (Appends (O.written out.old) (O.written out.new) text
-        × AreCertified model certificate share files text) }
-
-    // If a certificate is proposed, out gains its text, which reads back, and any two legitimate
-    // runs from the machine's start lie within its bounds, and each within half of them of the
-    // solution from its own start.
-    ensures proposed { (files : Files) (model : List ℕ)
-        → S.files shelf.old ≡ Some files
-        → command_of (map (λ word. word.now) words.now) ≡ Some (propose_model model)
-        → result ≡ Status.Ok
-        → (text : List ℕ)
-        × (Appends (O.written out.old) (O.written out.new) text
-        × AreProposed model files text) }
-
-    // If a trace is accepted, it is a legitimate run of the machine that the model denotes, from
-    // the machine's start, and out gains its summary.
-    ensures checked { (files : Files) (model trace : List ℕ)
-        → S.files shelf.old ≡ Some files
-        → command_of (map (λ word. word.now) words.now) ≡ Some (check_model model trace)
-        → result ≡ Status.Ok
-        → (text : List ℕ)
-        × (Appends (O.written out.old) (O.written out.new) text
-        × IsCheckedTrace model trace files text) }
-
-    // If two runs are compared, both are legitimate runs of the machine that the model denotes, and
-    // the greatest V of their difference, which out gains, is at most the certificate's bound.
-    ensures compared { (files : Files) (model certificate : List ℕ) (one two : Side)
-        → S.files shelf.old ≡ Some files
-        → command_of (map (λ word. word.now) words.now)
-        ≡ Some (compare_runs model certificate one two)
-        → result ≡ Status.Ok
-        → (text : List ℕ)
-        × (Appends (O.written out.old) (O.written out.new) text
-        × AreCompared model certificate one two files text) }
 
     // Also if the contents are not known: status 3 occurs only for a file of the command, whose
     // fault count is incremented. The fault count of every file that is not a file of the command is

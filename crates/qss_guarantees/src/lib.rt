@@ -15,14 +15,10 @@ pub use answer_laws::{
 };
 pub use command_laws::{
     answers_are_unique, answers_exist, answers_have_properties, byte_answers_are_unique,
-    bytes_determine_answers, certified_runs_stay_within_bounds, certify_accepts_exactly,
-    certify_covers_own_runs, certify_is_complete, certify_is_sound, check_accepts_runs,
-    checked_traces_are_runs, compare_is_complete, compare_is_sound,
-    compared_runs_stay_within_bound, devs_answers_as_run, gen_prints_summary,
-    print_prints_canonical_text, propose_is_complete, propose_is_sound,
-    proposed_runs_stay_within_bounds, run_prints_rows_of_machine, run_prints_the_run,
-    run2_prints_second_order_rows, run2_prints_the_run, upgrade_is_complete,
-    upgrade_keeps_certificate,
+    bytes_determine_answers, certify_is_complete, certify_is_sound, check_accepts_runs,
+    compare_is_complete, compare_is_sound, devs_answers_as_run, gen_prints_summary,
+    print_prints_canonical_text, propose_is_complete, propose_is_sound, run_prints_rows_of_machine,
+    run2_prints_second_order_rows, upgrade_is_complete, upgrade_keeps_certificate,
 };
 pub use known_files::run_on_known_contents;
 pub use session_laws::{

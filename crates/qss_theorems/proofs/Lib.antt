@@ -1,6 +1,6 @@
 mod Listings
 mod Courses
-mod Printed
+pub mod Printed
 mod Names
 mod Lines
 mod SecondOrderLines

@@ -1,4 +1,4 @@
--- The names of this crate that clauses of many subjects cite, passed on from one place. Declares nothing.
+-- Definitions of this crate that clauses of many subjects cite. Declares nothing.
 pub use Rattle.qss_theorems.specs.AffectedStates.{AffectedStatesAreBounded}
 pub use Rattle.qss_theorems.specs.CertificateLengths.{WrittenCertificatesAreShort}
 pub use Rattle.qss_theorems.specs.CommaLines.{BoundLinesAreFields, LinesAreFields, SecondOrderLinesAreFields}

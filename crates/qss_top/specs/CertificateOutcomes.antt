@@ -53,7 +53,8 @@ abbrev pub files_after_text : TwoFileTask → List (List ℕ)
 files_after_text (two.Certify share) = []
 files_after_text two.Upgrade = []
 files_after_text two.Check = []
-files_after_text (two.Compare sides) = files_of_side (side_in sides.one) ++ files_of_side (side_in sides.two)
+files_after_text (two.Compare sides) = files_of_side (side_in sides.one) ++ files_of_side
+    (side_in sides.two)
 
 -- what the second file contains
 abbrev pub kind_in : TwoFileTask → FileKind

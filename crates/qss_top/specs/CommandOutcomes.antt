@@ -44,7 +44,8 @@ refused_so r = if is_memory r.error then outcome.Memory else outcome.Refused r
 
 -- the outcome of a rejection for such a reason, or out of memory
 abbrev pub IsRefusedFor : (Refused → Type 0) → Outcome → Type 0
-IsRefusedFor Refuses what = (what ≡ outcome.Memory) ⊎ ((r : Refused) × Refuses r × (what ≡ outcome.Refused r))
+IsRefusedFor Refuses what = (what ≡ outcome.Memory) ⊎
+    ((r : Refused) × Refuses r × (what ≡ outcome.Refused r))
 
 -- whether the line of an outcome is allocated
 abbrev pub takes_memory : Outcome → Bool
@@ -53,7 +54,8 @@ takes_memory (outcome.Overflow name tick) = true
 takes_memory (outcome.Rejected why) = true
 takes_memory _ = false
 
--- the outcome and the written text are possible for the answer: at a specified status they are those
+-- the outcome and the written text are possible for the answer: at a specified status they are
+-- those
 -- of the answer, else only a prefix of its text is written
 pub record IsOutcome (answer : Answer) (what : Outcome) (old new : Option (List ℕ)) : Type 0 where
   pub defined : is_defined (status_of what) ≡ true → (status_of what ≡ answer.status)

@@ -43,7 +43,8 @@ pub data Message : Type 0 where
 
 -- the usage line
 abbrev pub usage_line : List ℕ
-usage_line = codes "usage: qss VERB [WORD] [WORD] [WORD] [WORD] [--rule RULE] [--only NAME] [--relative N]\n"
+usage_line = codes
+    "usage: qss VERB [WORD] [WORD] [WORD] [WORD] [--rule RULE] [--only NAME] [--relative N]\n"
 
 -- the line for a source of more than 2^20 bytes
 abbrev pub too_long_line : List ℕ
@@ -51,7 +52,8 @@ too_long_line = codes "refused: top 1\n"
 
 -- the line for a run that overflows
 abbrev pub overflow_line : (name : List ℕ) → (tick : ℕ) → List ℕ
-overflow_line name tick = codes "overflow: " ++ name ++ codes " at tick " ++ decimal tick ++ codes "\n"
+overflow_line name tick = codes "overflow: " ++ name ++ codes " at tick " ++ decimal tick ++ codes
+    "\n"
 
 -- the text is the line for a rejected source; of several cycles in its equations it names one
 pub record IsRefusalText (bytes text : List ℕ) : Type 0 where
@@ -99,7 +101,12 @@ abbrev pub printed_run_answer : RunOptions → Machine → Answer
 printed_run_answer options m = answer_by (run_by_rule options.rule m)
   where
     answer_by : Run → Answer
-    answer_by run = record { status = status_of_run run; out = run_text options.only m run; line = line_of_run m run }
+    answer_by run = record {
+      status = status_of_run run;
+      out = run_text options.only m run;
+      line =
+          line_of_run m run;
+    }
 
 -- the answer that prints a model
 abbrev pub model_answer : ModelTree → Answer
@@ -108,7 +115,9 @@ model_answer tree = record { status = ends.Ok; out = canonical_text tree; line =
 -- the answer that rejects a source: it has more than 2^20 bytes, or is rejected for such a reason
 abbrev pub IsRefusalFor : (List ℕ → Refused → Type 0) → List ℕ → Answer → Type 0
 IsRefusalFor Refuses bytes answer =
-    MatchBool (nat_lt model_length_limit (length bytes)) (answer ≡ refusal ends.ModelRefused too_long) ((r : Refused) × Refuses bytes r × (answer ≡ refusal ends.ModelRefused (refused bytes)))
+    MatchBool (nat_lt model_length_limit (length bytes))
+    (answer ≡ refusal ends.ModelRefused too_long)
+    ((r : Refused) × Refuses bytes r × (answer ≡ refusal ends.ModelRefused (refused bytes)))
 
 -- the answer that rejects a source which does not compile
 abbrev pub IsSourceRefusal : List ℕ → Answer → Type 0
@@ -132,15 +141,18 @@ pub record IsSourceTree (bytes : List ℕ) (tree : ModelTree) : Type 0 where
 
 -- the answer to a source: it is rejected, or this is the answer for its machine
 abbrev pub IsMachineAnswer : (share : ℕ) → (Machine → Answer → Type 0) → List ℕ → Answer → Type 0
-IsMachineAnswer share IsSuch bytes answer = IsSourceRefusal bytes answer ⊎ ((m : Machine) × IsSourceMachine share bytes m × IsSuch m answer)
+IsMachineAnswer share IsSuch bytes answer = IsSourceRefusal bytes answer ⊎
+    ((m : Machine) × IsSourceMachine share bytes m × IsSuch m answer)
 
 -- the answer of `run`: the source is rejected, or the run of its machine is printed
 abbrev pub IsRunAnswer : RunOptions → List ℕ → Answer → Type 0
-IsRunAnswer options bytes answer = IsMachineAnswer options.share (λ m such. such ≡ printed_run_answer options m) bytes answer
+IsRunAnswer options bytes answer = IsMachineAnswer options.share
+    (λ m such. such ≡ printed_run_answer options m) bytes answer
 
 -- the answer of `print`: the source is rejected, or its model is printed
 abbrev pub IsPrintAnswer : List ℕ → Answer → Type 0
-IsPrintAnswer bytes answer = IsTreeRefusal bytes answer ⊎ ((tree : ModelTree) × IsSourceTree bytes tree × (answer ≡ model_answer tree))
+IsPrintAnswer bytes answer = IsTreeRefusal bytes answer ⊎
+    ((tree : ModelTree) × IsSourceTree bytes tree × (answer ≡ model_answer tree))
 
 -- the summary of a run: a header, then the number of cells, the last tick, the number of changes of
 -- levels, and the sum of the levels at the end
@@ -150,7 +162,8 @@ summary_of cells last levels sum =
     ∷ decimal levels ∷ codes "," ∷ signed_decimal sum ∷ codes "\n" ∷ [])
 
 abbrev pub summary_text : (cells : ℕ) → Machine → Run → List ℕ
-summary_text cells m run = summary_of cells m.last (level_count (run_rows m run)) (end_sum (run_rows m run))
+summary_text cells m run = summary_of cells m.last (level_count (run_rows m run))
+    (end_sum (run_rows m run))
 
 -- the answer with the summary of the machine's run with the rule `floor`
 abbrev pub summary_answer : (cells : ℕ) → Machine → Answer
@@ -161,7 +174,12 @@ summary_answer cells m = answer_by (run_by_rule Floor m)
     text_by run (Some var) = []
 
     answer_by : Run → Answer
-    answer_by run = record { status = status_of_run run; out = text_by run run.overflow; line = line_of_run m run }
+    answer_by run = record {
+      status = status_of_run run;
+      out = text_by run run.overflow;
+      line =
+          line_of_run m run;
+    }
 
 -- the answer of `gen`: the generated source is rejected, or the run of its machine is summarized
 abbrev pub IsGenerationAnswer : (seed cells : ℕ) → Answer → Type 0
@@ -210,7 +228,8 @@ IsProposeAnswer m answer = IsAnswerFor (IsProposed m) answer
 -- the answer for a comparison that stops for this reason
 abbrev pub comparison_stop_answer : Machine → ComparisonStop → Answer
 comparison_stop_answer m (stops.Refused why) = rejection why
-comparison_stop_answer m (stops.Over tick var) = refusal ends.Overflow (overflowed (name_of m var) tick)
+comparison_stop_answer m (stops.Over tick var) = refusal ends.Overflow
+    (overflowed (name_of m var) tick)
 comparison_stop_answer m stops.Memory = refusal ends.Memory quiet
 
 -- the status of a second-order run, and the content of its line
@@ -233,9 +252,15 @@ abbrev pub second_run_answer : Machine → Answer
 second_run_answer m = answer_by (second_order_run m)
   where
     answer_by : Run2 → Answer
-    answer_by run = record { status = status_of_second_run run; out = second_run_text m run; line = line_of_second_run m run }
+    answer_by run = record {
+      status = status_of_second_run run;
+      out = second_run_text m run;
+      line =
+          line_of_second_run m run;
+    }
 
--- the answer of `run2`: a machine with clauses is rejected with their number; otherwise the machine's
+-- the answer of `run2`: a machine with clauses is rejected with their number; otherwise the
+-- machine's
 -- second-order run is printed
 abbrev pub run2_answer : Machine → Answer
 run2_answer m = by (length m.clauses)

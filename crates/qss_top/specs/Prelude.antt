@@ -1,4 +1,4 @@
--- The names of other crates that the clauses of this crate cite, passed on from one place. Declares nothing.
+-- Definitions of other crates that clauses of this crate cite. Declares nothing.
 pub use Rattle.std.specs.Io.KnownBytes.{Appends}
 pub use Rattle.cert_check.specs.Scope.{IsInScope}
 pub use Rattle.cert_check.specs.declared.certificate.Certificate.{Certificate}
@@ -6,7 +6,8 @@ pub use Rattle.mu_io.specs.Sinks.{EndsByFault}
 pub use Rattle.mu_num.specs.Limits.{model_length_limit, relative_limit}
 pub use Rattle.mu_tree.specs.ModelTree.{model}
 pub use Rattle.qss_answers.specs.AcceptedBounds.{IsSoundCertification}
-pub use Rattle.qss_answers.specs.Comparisons.{HasNoRunTrace, IfMemory, IsRunTrace, MayStop, TakesMemory}
+pub use Rattle.qss_answers.specs.Comparisons.{HasNoRunTrace, IfMemory, IsRunTrace, MayStop}
+pub use Rattle.qss_answers.specs.Comparisons.{TakesMemory}
 pub use Rattle.qss_cli.specs.Commands.{command_of, files_of, plain_options, writes_as_it_goes}
 pub use Rattle.qss_cli.specs.RelativeQuanta.{share_of_task}
 pub use Rattle.qss_cli.specs.Requests.{command_in, command_on, command_with, options_in, side_in}

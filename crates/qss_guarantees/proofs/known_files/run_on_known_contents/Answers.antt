@@ -3,8 +3,7 @@ use Rattle.std.specs.Prelude.{map}
 use Rattle.qss_cli.specs.Commands.{files_of}
 use Rattle.qss_guarantees.specs.ExpectedResults.{ExpectedResult, IsExpectedResult}
 use Rattle.qss_guarantees.specs.Replies.{IsReplyGiven}
-use Rattle.qss_guarantees.proofs.Completeness.{whole_answer, certified_end, proposed_end}
-use Rattle.qss_guarantees.proofs.Completeness.{checked_end, compared_end}
+use Rattle.qss_guarantees.proofs.Completeness.{whole_answer}
 use Rattle.qss_guarantees.proofs.KnownFiles.{main_call, reply_met, line_reported}
 use Rattle.qss_guarantees.proofs.KnownFiles.{no_fault_unwritten, fault_expected, fault_counted}
 use Rattle.qss_guarantees.proofs.KnownFiles.{others_unchanged, fault_of_command}
@@ -32,10 +31,6 @@ returns g c =
           whole_answer words known status old new replied expected answer h is
           (λ e. no_read (fault_counted k expected.files_read e (fault_expected k expected h e)))
           (λ e. no_write ((call.fault_was_last e).one)) memory;
-      certified = certified_end words known status old new replied;
-      proposed = proposed_end words known status old new replied;
-      checked = checked_end words known status old new replied;
-      compared = compared_end words known status old new replied;
       command_read_fault = λ command is e.
           fault_counted k (files_of command) e (fault_of_command k command is e);
       command_counts = λ command is.
