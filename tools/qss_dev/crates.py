@@ -9,6 +9,8 @@ from qss_tools.fault import Fault
 
 # The crate of the program.
 PROGRAM = "qss"
+# The crates of the theorems about the program, its answers and the language, which the build proves too.
+THEOREMS = ("qss_guarantees", "qss_theorems", "mu_meaning")
 # The status of a build that fails.
 FAILED = 9
 # How many lines of output a failed build reports.
@@ -94,7 +96,8 @@ class Crates:
 
     def __init__(self, root: str, kit: Kit) -> None:
         self.root, self.kit, self.below = root, kit, below_each(root)
-        self.every = needed(self.below, PROGRAM)
+        tops = [it for it in (PROGRAM, *THEOREMS) if it in self.below]
+        self.every = set().union(*(needed(self.below, it) for it in tops))
 
     def folder(self, name: str) -> str:
         return f"{self.root}/crates/{name}"
