@@ -29,6 +29,11 @@ verdict_line (verdict.Range number place) =
     concat (codes "rejected: range inequality " ∷ decimal number ∷ codes " place " ∷ decimal place
     ∷ codes "\n" ∷ [])
 
+-- the line for a text whose first record has the number of no version
+abbrev pub version_line : (kind : List ℕ) → (got : ℤ) → List ℕ
+version_line kind got =
+    concat (kind ∷ codes " refused: 5 " ∷ signed_decimal got ∷ codes "\n" ∷ [])
+
 -- the line for a text that is not of this kind (certificate or trace); an allocation failure has a
 -- line of its own
 abbrev pub cause_line : (kind : List ℕ) → TextErr → List ℕ
@@ -42,8 +47,7 @@ cause_line kind (cause.Number line field) =
     ∷ [])
 cause_line kind (cause.Missing line) =
     concat (kind ∷ codes " refused: 4 " ∷ decimal line ∷ codes "\n" ∷ [])
-cause_line kind (cause.Form got) =
-    concat (kind ∷ codes " refused: 5 " ∷ signed_decimal got ∷ codes "\n" ∷ [])
+cause_line kind (cause.Form got) = version_line kind got
 cause_line kind cause.Memory = []
 
 -- the line that reports the first fact that fails, with its place, number, state and two sides

@@ -66,7 +66,7 @@ pub fn cause_line(alloc: Global, kind: &str, cause: TextErr) -> Result<Vec<u8>, 
         )?,
         TextErr::Number { line, field } => format!(in alloc; "{kind} refused: 3 {line} {field}\n")?,
         TextErr::Missing { line } => format!(in alloc; "{kind} refused: 4 {line}\n")?,
-        TextErr::Form { got } => format!(in alloc; "{kind} refused: 5 {got}\n")?,
+        TextErr::Form { got } => return version_line(alloc, kind, got),
         TextErr::Memory => return Ok(Vec::new(alloc)),
     };
     Ok(line.into_bytes())
@@ -94,4 +94,12 @@ pub fn verdict_line(alloc: Global, verdict: Verdict) -> Result<Vec<u8>, AllocErr
             Ok(line.into_bytes())
         }
     }
+}
+
+// The line for a text whose first record has the number of no version.
+fn version_line(alloc: Global, kind: &str, got: i128) -> Result<Vec<u8>, AllocError>
+    ensures { IfOk result (λ line. line.items ≡ Spec.version_line kind.now got) }
+{
+    let line = format!(in alloc; "{kind} refused: 5 {got}\n")?;
+    Ok(line.into_bytes())
 }

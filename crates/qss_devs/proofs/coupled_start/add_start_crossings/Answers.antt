@@ -56,7 +56,7 @@ start_coupled_crossing-crossing-requires-clause-stays c =
     let m = c.args.m.now in
     let condition : Condition = c.coupled_branch_condition-condition.result.now in
     let given : All (IsGiven m 0) (map (first_input m (start_values m)) condition.form.entries) = inputs_given m condition.form.entries c.coupled_branch_condition-condition.ensures.form.entries.known in
-    subst (λ (n : Machine). All (StaysIfDiscrete (state_count n)) c.in_ok-inputs.inputs.items) (sym (c.in_ok-machine.ensures ∙ c.requires.same))
+    subst (λ (n : Machine). All (StaysIfDiscrete (state_count n)) c.in_ok-inputs.inputs.items) (sym (c.in_ok-machine.ensures.cases ∙ c.requires.same))
     (subst (All (StaysIfDiscrete (state_count m))) (sym c.in_ok-inputs.ensures) (λ k d h. (given k d h).stays))
 
 pub start_coupled_crossing-crossing-requires-clause-parts : goal.start_coupled_crossing-crossing-requires-clause-parts
@@ -87,7 +87,7 @@ loop-branch-preserved c =
     } in
     let crossing_with : DetectorView → List Input → Crossing = λ w xs. record { place = place; detector = w; inputs = xs; time = condition.form.time; gamma = condition.form.gamma } in
     let first : IsFirstCrossing m place condition c.start_coupled_crossing-crossing.result = record {
-      machine = c.start_coupled_crossing-crossing.ensures.machine ∙ c.in_ok-machine.ensures ∙ c.requires.same;
+      machine = c.start_coupled_crossing-crossing.ensures.machine ∙ c.in_ok-machine.ensures.cases ∙ c.requires.same;
       crossing = c.start_coupled_crossing-crossing.ensures.crossing
           ∙ ap (λ n. record { place = n; detector = c.start_coupled_detector-detector.result; inputs = c.in_ok-inputs.inputs.items; time = condition.form.time; gamma = condition.form.gamma }) count
           ∙ ap (λ (w : DetectorView). crossing_with w c.in_ok-inputs.inputs.items) (c.start_coupled_detector-detector.ensures ∙ ap watch_of (c.as_slice.ensures.value ∙ inputs))

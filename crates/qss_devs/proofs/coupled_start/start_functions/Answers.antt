@@ -31,7 +31,7 @@ start_coupled_function-function-requires-clause-known c =
       c.in_ok-lists.lists.ok.0,
       c.in_ok-lists.ensures.count,
     ) in
-    subst (λ (m : Machine). c.loop-j.j < state_count m) (sym (c.in_ok-machine.ensures ∙ c.requires.same)) known
+    subst (λ (m : Machine). c.loop-j.j < state_count m) (sym (c.in_ok-machine.ensures.cases ∙ c.requires.same)) known
 
 pub start_coupled_function-function-requires-clause-inputs :
     goal.start_coupled_function-function-requires-clause-inputs
@@ -51,7 +51,7 @@ start_coupled_function-function-requires-clause-inputs c =
     j list.items) (sym (c.replace-inputs.ensures.value ∙ c.index_mut.ensures.value))
     (c.loop-j.invariant.rest j c.index_mut.result.now (omega arith)
     (omega (arith, known, c.loop-j.invariant.count))) in
-    subst (λ (t : Machine). AreInputs t j items) (sym (c.in_ok-machine.ensures ∙ c.requires.same))
+    subst (λ (t : Machine). AreInputs t j items) (sym (c.in_ok-machine.ensures.cases ∙ c.requires.same))
     (all_inputs m j known items first)
 
 pub loop-j-init : goal.loop-j-init
@@ -88,7 +88,7 @@ loop-j-preserved c =
     subst (λ (list : Vec FunctionInput Global). AreFirstInputs m (state_count m + discrete_count m)
     j list.items) (sym (c.replace-inputs.ensures.value ∙ c.index_mut.ensures.value))
     (inv.rest j c.index_mut.result.now (omega arith) (omega (arith, known, inv.count))) in
-    let shared : c.in_ok-machine.machine.value ≡ m = c.in_ok-machine.ensures ∙ c.requires.same in
+    let shared : c.in_ok-machine.machine.value ≡ m = c.in_ok-machine.ensures.cases ∙ c.requires.same in
     let own : IsFirstFunction m j c.start_coupled_function-function.result = record {
       machine = c.start_coupled_function-function.ensures.machine ∙ shared;
       summing = c.start_coupled_function-function.ensures.summing

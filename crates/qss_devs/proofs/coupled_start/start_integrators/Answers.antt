@@ -17,7 +17,7 @@ start_coupled_line-line-requires-clause-known g c = omega (arith, c.loop-j-test.
 pub start_coupled_integrator-integrator-requires : goal.start_coupled_integrator-integrator-requires
 start_coupled_integrator-integrator-requires g c =
     let known : c.loop-j.j < state_count c.args.m.now = omega (arith, c.loop-j-test.true, c.args.v.now.levels.ok.0, ap (λ (v : Values). length v.levels) c.requires.values, (start_each c.args.m.now).levels) in
-    subst (λ (m : Machine). c.loop-j.j < state_count m) (sym (c.in_ok-machine.ensures ∙ c.requires.same)) known
+    subst (λ (m : Machine). c.loop-j.j < state_count m) (sym (c.in_ok-machine.ensures.cases ∙ c.requires.same)) known
 
 pub loop-j-init : goal.loop-j-init
 loop-j-init g c = record {
@@ -31,8 +31,8 @@ pub loop-j-preserved : goal.loop-j-preserved
 loop-j-preserved g c =
     let inv = c.loop-j.invariant in
     let own : IsFirstIntegrator c.args.m.now c.args.q.now.value c.loop-j.j c.start_coupled_integrator-integrator.result = record {
-      machine = c.start_coupled_integrator-integrator.ensures.machine ∙ c.in_ok-machine.ensures ∙ c.requires.same;
-      quantizer = c.start_coupled_integrator-integrator.ensures.quantizer ∙ c.in_ok-quantizer.ensures;
+      machine = c.start_coupled_integrator-integrator.ensures.machine ∙ c.in_ok-machine.ensures.cases ∙ c.requires.same;
+      quantizer = c.start_coupled_integrator-integrator.ensures.quantizer ∙ c.in_ok-quantizer.ensures.cases;
       own = c.start_coupled_integrator-integrator.ensures.own;
       line = c.start_coupled_integrator-integrator.ensures.line ∙ c.start_coupled_line-line.ensures;
     } in
