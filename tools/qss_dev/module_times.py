@@ -8,6 +8,7 @@ a function are, beside others: `Lts`, the paths through its code; `Proof`, the s
 import bisect
 import contextlib
 import os
+import signal
 import subprocess
 import tempfile
 import threading
@@ -183,7 +184,8 @@ def measure(crates: Crates, crate: str) -> Times:
         with at_work(words, folder) as (child, lines):
             looks, memory = measured(child)
         if child.returncode:
-            raise Fault(f"{crate} is not proved; its last lines:", [it.rstrip() for it in lines[-LAST:]])
+            ended = f"status {child.returncode}" if child.returncode > 0 else signal.Signals(-child.returncode).name
+            raise Fault(f"{crate} is not proved ({ended}); its last lines:", [it.rstrip() for it in lines[-LAST:]])
         found = times_of(crate, saves_in(kept), looks, lemma_files(f"{folder}/proofs"))
     found.memory = memory
     return found
