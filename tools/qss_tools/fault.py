@@ -8,6 +8,8 @@ import os
 import sys
 from typing import Any, Callable, NoReturn, Optional, Sequence
 
+from .arrays import use_one_with_numpy
+
 FINE = 0
 WARNED = 1  # all was done, and there is something to look at
 FAULTY = 2  # a fault or wrong arguments: nothing was written
@@ -59,9 +61,13 @@ class Arguments(argparse.ArgumentParser):
         sys.exit(FAULTY)
 
 
-def run_tool(name: str, tool: Tool, arguments: Optional[Sequence[str]] = None) -> int:
-    """Runs a tool with these arguments, or those of the process, and returns its status."""
+def run_tool(name: str, tool: Tool, arguments: Optional[Sequence[str]] = None, numeric: bool = False) -> int:
+    """Runs a tool with these arguments, or those of the process, and returns its status. A numeric tool of the process
+    is run by an interpreter that has numpy, if there is one.
+    """
     try:
+        if arguments is None and numeric:
+            use_one_with_numpy()
         status = tool(sys.argv[1:] if arguments is None else arguments)
         sys.stdout.flush()
     except Fault as fault:

@@ -11,22 +11,24 @@ import shutil
 import subprocess
 import tempfile
 import weakref
+from fractions import Fraction
 from typing import Any, ContextManager, Dict, Iterable, List, Mapping, NamedTuple, Optional, Sequence, Tuple, Union
 
+from .arrays import load
 from .fault import Fault
 from .model.changes import shown, value_text, write_changed
 from .plot import plot
 from .plot.differences import Difference
 from .program import OVERFLOWED, canonical_text, find_program
-from .runs.columns import chosen
-from .runs.measures import measured, requests
+from .runs.columns import chosen, columns_of
+from .runs.measures import Request, measured, requests
 from .runs.rows import Rows, Run, exact, lines_of
 from .runs.trajectories import Trajectory, trajectories
 from .sweeps.clusters import by_dask, by_processes, processors
 from .sweeps.grids import MOST_POINTS, Points
 from .sweeps.jobs import Job
 from .tables import table
-from .tables.measure import lines_by_name, number_of
+from .tables.measure import number_of
 
 ROW_TYPES = {"tick": "int64", "event": "category", "name": "category", "level": "Int64", "state": "string"}
 
@@ -60,6 +62,7 @@ class Simulation:
         except Fault as fault:
             raise Fault(str(fault).replace(self.path, label)) from fault
         self.overflow = self._overflow()
+        self._known: Dict[Tuple[int, bool], Trajectory] = {}
 
     def _run(self, rule: Optional[str], relative: Optional[int]) -> str:
         """Runs the model into a file."""
@@ -109,12 +112,13 @@ class Simulation:
         states: bool = False,
         events: bool = False,
         file: Optional[FilePath] = None,
+        all_values: bool = False,
     ) -> Optional[str]:
         """The table of qss-table as a text of CSV with exact decimals; with `file` it is written there."""
         words = [self.path, self.rows, "--program", self.program, "--no-advice"]
         words += ["--names", listed(names)] if names is not None else []
         words += ["--every", value_text(every)] if every is not None else []
-        words += ["--states"] * states + ["--events"] * events
+        words += ["--states"] * states + ["--events"] * events + ["--all-values"] * all_values
         path = os.path.join(self._folder, "table.csv") if file is None else os.fspath(file)
         table.tool(words + ["-o", path])
         if file is not None:
@@ -123,11 +127,24 @@ class Simulation:
             return kept.read()
 
     def frame(
-        self, names: Optional[Names] = None, every: Any = None, states: bool = False, events: bool = False
+        self,
+        names: Optional[Names] = None,
+        every: Any = None,
+        states: bool = False,
+        events: bool = False,
+        all_values: bool = False,
     ) -> Any:
         """The table as a DataFrame of pandas whose index is the time. Between two rows each value is held."""
         pandas = needed("pandas", "frame()")
-        text = self.table(names, every, states, events)
+        with self._lines() as (lines, name):
+            if self.run.order == 1 and load() is not None:
+                from .tables.bulk_table import Choice, Table
+
+                step = None if every is None else table.step_of(value_text(every), self.run)
+                columns = columns_of(self.run, None if names is None else listed(names), states)
+                rows = Rows(self.run, lines, name, may_be_cut=True)
+                return Table(rows, columns, Choice(step, events=events, all_values=all_values)).frame()
+        text = self.table(names, every, states, events, all_values=all_values)
         return pandas.read_csv(io.StringIO(text), index_col="time", dtype={"events": "string"} if events else None)
 
     def raw(self) -> Any:
@@ -136,26 +153,32 @@ class Simulation:
 
     # measures
 
-    def signal(self, name: str) -> "Signal":
+    def signal(self, name: str, all_values: bool = False) -> "Signal":
         """The trajectory of a variable, exact and piecewise linear (a Signal)."""
-        return self.signals([name])[0]
+        return self.signals([name], all_values)[0]
 
-    def signals(self, names: Optional[Names] = None) -> "List[Signal]":
+    def signals(self, names: Optional[Names] = None, all_values: bool = False) -> "List[Signal]":
         """The trajectories of some variables, or of all states and discrete variables."""
         if names is None:
             numbers = chosen(self.run, None)
         else:
             numbers = [number_of(self.run, name) for name in ([names] if isinstance(names, str) else names)]
-        with self._lines() as (lines, name):
-            found, _ = trajectories(self.run, Rows(self.run, lines, name), numbers)
-        return [Signal(line) for line in found]
+        return [Signal(line) for line in self._trajectories(numbers, all_values)]
 
-    def measure(self, text: str) -> Union[float, Dict[str, float]]:
+    def _trajectories(self, numbers: Sequence[int], all_values: bool) -> List[Trajectory]:
+        """The trajectories of variables, each computed once."""
+        missing = [number for number in numbers if (number, all_values) not in self._known]
+        if missing:
+            with self._lines() as (lines, name):
+                found, _ = trajectories(self.run, Rows(self.run, lines, name), missing, all_values)
+            self._known.update(((number, all_values), line) for number, line in zip(missing, found))
+        return [self._known[number, all_values] for number in numbers]
+
+    def measure(self, text: str, all_values: bool = False) -> Union[float, Dict[str, float]]:
         """The value of a measure, as 'mean(iL)', or a dictionary of those of several."""
         asked = requests(text)
         names = list(dict.fromkeys(one.variable for one in asked))
-        with self._lines() as (lines, name):
-            found, _ = lines_by_name(self.run, Rows(self.run, lines, name), names)
+        found = dict(zip(names, self._trajectories([number_of(self.run, name) for name in names], all_values)))
         values = {one.text: float(measured(one, found[one.variable])) for one in asked}
         return values if len(asked) > 1 else values[asked[0].text]
 
@@ -209,9 +232,18 @@ class Signal:
                     found.append(point)
         return found
 
-    def __call__(self, time: Any) -> float:
-        """The value at a time."""
-        return self.measure("at", t=time)
+    def __call__(self, time: Any) -> Any:
+        """The value at a time as a float, or the values at an array or a list of times."""
+        if not hasattr(time, "__len__") or not getattr(time, "shape", (0,)):
+            return float(measured(Request("at(%s)" % self.name, "at", self.name, {"t": Fraction(time)}), self.line))
+        numpy = load()
+        if numpy is None or not isinstance(self.line, array_kind()):
+            return [self(one) for one in time]
+        times = numpy.asarray(time, dtype=float)
+        last = self.line.last * float(self.line.tick)
+        if not ((times >= 0) & (times <= last)).all():
+            raise Fault("%s: a time is not within the run, which ends at %g" % (self.name, last))
+        return self.line.sampled(times)  # type: ignore[attr-defined]
 
     def measure(self, name: str, **options: Any) -> float:
         """A measure of qss-measure, as measure("rise", low=0.2, begin=4)."""
@@ -220,6 +252,13 @@ class Signal:
             for option, value in options.items()
         ]
         return float(measured(requests("%s(%s)" % (name, ", ".join(parts)))[0], self.line))
+
+
+def array_kind() -> Any:
+    """The class of trajectories that are arrays."""
+    from .runs.lines import ArrayTrajectory
+
+    return ArrayTrajectory
 
 
 class Picture:

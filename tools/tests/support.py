@@ -19,6 +19,8 @@ BY_TICKS = os.path.join(TESTS, "by_ticks_program")
 PROGRAM = BUILT if os.path.exists(BUILT) else BY_TICKS
 # Tests use the proved program or a stand-in, and never an unproved one.
 os.environ["QSS_PROVED"] = "1"
+# No tool changes to an interpreter that has numpy, unless a test removes this.
+os.environ["QSS_STARTED_BY"] = "tests"
 # Scripts run by the interpreter of the tests.
 os.environ["PATH"] = os.pathsep.join([os.path.dirname(sys.executable), os.environ.get("PATH", "")])
 # Pictures are those that need no package, unless a test removes this.

@@ -15,51 +15,49 @@ from support import PROGRAM, STAND_IN, InFolder, python_with, run, run_by
 from test_measures import line
 
 from qss_tools.plot.bands import bands_of
+from qss_tools.plot.curves import Curve
 from qss_tools.plot.differences import Difference
-from qss_tools.plot.knots import MOST_BUCKETS, Firings, Knots
+from qss_tools.plot.knots import MOST_COLUMNS, Firings, page_columns
 
 # The levels of BALL_ROWS, and its times: y changes at 0.5, 0.75 and 1.
 Y_POINTS = [(0, 1), (0.5, 0.25), (0.75, -1), (1, -0.5), (1.25, -0.5)]
 
 
 class Curves(unittest.TestCase):
-    def knots(self, begin, end, *points, skips=False):
-        curve = Knots("x", begin, end, skips_short=skips)
+    def curve(self, begin, end, *points):
+        curve = Curve("x", 4000, begin, end)
         for tick, value in points:
             curve.take(tick, value)
         return curve
 
     def test_values_that_hold(self):
-        curve = self.knots(0, 8, (0, 1.0), (3, 2.0))
+        curve = self.curve(0, 8, (0, 1.0), (3, 2.0))
         curve.finish(8)
-        self.assertEqual(curve.knots(), [(0, 1.0), (3, 1.0), (3, 2.0), (8, 2.0)])
+        self.assertEqual(curve.points(), [(0, 1.0), (3, 1.0), (3, 2.0), (8, 2.0)])
         self.assertEqual(curve.changes(), [(0, 1.0), (3, 2.0), (8, 2.0)])
         self.assertEqual(curve.bounds(), (1.0, 2.0))
 
     def test_a_window_cuts_lines(self):
-        curve = self.knots(2, 6, (0, 0.0))
+        curve = self.curve(2, 6, (0, 0.0))
         curve.line_to(4, 8.0)
         curve.line_to(8, 0.0)
         curve.finish(8)
-        self.assertEqual(curve.knots(), [(2, 4.0), (4, 8.0), (6, 4.0)])
-
-    def test_a_value_for_one_tick_is_left_out(self):
-        curve = self.knots(0, 8, (0, 1.0), (3, 9.0), (4, 2.0), skips=True)
-        curve.finish(8)
-        self.assertEqual(curve.bounds(), (1.0, 2.0))
+        self.assertEqual(curve.points(), [(2, 4.0), (4, 8.0), (6, 4.0)])
 
     def test_many_points_keep_their_bounds(self):
-        curve = Knots("x", 0, 100000)
+        curve = Curve("x", MOST_COLUMNS, 0, 100000)
         for tick in range(100001):
             curve.line_to(tick, float((tick * 7919) % 1000) + (5000 if tick == 77777 else 0))
         curve.finish(100000)
-        found = curve.knots()
-        self.assertLessEqual(len(curve.buckets), MOST_BUCKETS)
-        self.assertLessEqual(len(found), 8 * MOST_BUCKETS)
+        found = curve.points()
+        self.assertLessEqual(len(found), 4 * MOST_COLUMNS + 4)
         self.assertEqual(found, sorted(found, key=lambda point: point[0]))
         self.assertEqual(found[0], (0, 0.0))
         self.assertEqual(found[-1][0], 100000)
         self.assertIn((77777, 5000.0 + (77777 * 7919) % 1000), found)
+
+    def test_a_page_of_many_curves_is_not_too_large(self):
+        self.assertEqual([page_columns(count) for count in (1, 10, 40)], [4000, 4000, 1000])
 
     def test_firings_are_thinned(self):
         firings = Firings(0, 10**6)
@@ -69,7 +67,7 @@ class Curves(unittest.TestCase):
         self.assertTrue(75 <= len(firings.ticks["1.1"]) <= 82)
 
     def test_a_band_around_a_curve(self):
-        curve = self.knots(0, 4, (0, 1.0))
+        curve = self.curve(0, 4, (0, 1.0))
         curve.finish(4)
         self.assertEqual(bands_of([curve], 0.0, 2.0), [])
         curve.tube = Namespace(width=2, edges=lambda factor: [(0, 1 - factor, 1 + factor)])

@@ -17,19 +17,26 @@ SVG = "{http://www.w3.org/2000/svg}"
 
 
 class Curves(unittest.TestCase):
-    def test_columns_hold_what_was_seen(self):
-        curve = Curve("x", 4, 0, 8)
-        for tick, value in ((0, 1.0), (1, 5.0), (1, 2.0), (5, 0.0)):
-            curve.take(tick, value)
+    def test_a_column_keeps_its_ends_and_its_bounds(self):
+        """Of six points in the first of two columns the first, the least, the greatest and the last are kept."""
+        curve = Curve("x", 2, 0, 8)
+        for tick, value in ((0, 1.0), (1, 5.0), (2, 2.0), (2.5, 0.5), (3, 3.0), (3.5, 4.0), (5, 0.0)):
+            curve.line_to(tick, value)
         curve.finish(8)
-        self.assertEqual(curve.columns, [[1.0, 1.0, 5.0, 2.0], [2.0] * 4, [2.0, 0.0, 2.0, 0.0], [0.0] * 4])
+        self.assertEqual(curve.points(), [(0, 1.0), (1, 5.0), (2.5, 0.5), (3.5, 4.0), (5, 0.0), (8, 0.0)])
+        self.assertEqual(curve.bounds(), (0.0, 5.0))
+        # (the line from 4 at 3.5 to 0 at 5 is at 8/3 at the edge between the columns)
+        (low, high), (least, greatest) = curve.columns()
+        self.assertEqual((low, high, least), (0.5, 5.0, 0.0))
+        self.assertAlmostEqual(greatest, 8 / 3)
 
     def test_a_window_begins_with_the_value_that_stands(self):
         curve = Curve("x", 2, 4, 8)
         for tick, value in ((0, 1.0), (3, 2.0), (6, 3.0), (9, 4.0)):
             curve.take(tick, value)
         curve.finish(9)
-        self.assertEqual(curve.columns, [[2.0] * 4, [2.0, 2.0, 3.0, 3.0]])
+        self.assertEqual(curve.points(), [(4, 2.0), (6, 2.0), (6, 3.0), (8, 3.0)])
+        self.assertEqual(curve.columns(), [(2.0, 2.0), (2.0, 3.0)])
 
     def test_steps_are_round(self):
         self.assertEqual(nice_steps(0, 10, 5), [0, 2, 4, 6, 8, 10])
@@ -222,21 +229,29 @@ class Pictures(InFolder):
             self.assertEqual(max(numbers) > 2, most > 2, (words, numbers))
 
     def test_states_are_joined_by_lines(self):
+        """v falls by 1.25 in each tick of 1/8 for six ticks, jumps to 1.875, and falls again: three lines."""
         picture = self.picture(self.ball, self.rows, "--names", "v", "--states", "--height", "100")
-        levels = self.picture(self.ball, self.rows, "--names", "v", "--height", "100")
-        count = lambda drawn: len(re.findall("[vl]", self.curves(drawn)[0].get("d")))
-        self.assertGreater(count(picture), 20 * count(levels))
+        path = self.curves(picture)[0].get("d")
+        self.assertNotIn("v", path)
+        self.assertEqual(len(re.findall("l", path)), len(re.findall("l|h", path)))
 
     def test_a_run_of_second_order(self):
-        """The level of x rises from 1 by 1/2 in a tick up to tick 4, and then rests."""
+        """The level of x rises from 1 by 1/2 in a tick up to tick 4, and then rests: a line over half of the picture."""
         model, rows = self.file("line.mo", LINE), self.file("line.csv", LINE_ROWS)
         picture = self.picture(model, rows, "--height", "100")
         path = self.curves(picture)[0].get("d")
-        heights = [0]
-        for part in re.findall(r"v(-?\d+)", path):
-            heights.append(heights[-1] - int(part))
-        self.assertEqual(sorted(heights), heights)
-        self.assertGreater(len(heights), 100)
+        # (from 1 to 3 in a picture of 100 pixels with 4 parts of a hundred of room: 400 * 2 / 2.16 units)
+        self.assertEqual(re.findall(r"[Mhvl][-\d ]+", path), ["M0 385", "l1440 -370", "h1440"])
+
+    def test_a_triangle_of_many_periods_is_a_band(self):
+        """10,000 periods over 720 columns: each column goes from the least to the greatest value, with few points."""
+        curve = Curve("x", 720, 0, 40000)
+        for tick in range(40001):
+            curve.line_to(tick, float((0, 1, 0, -1)[tick % 4]))
+        curve.finish(40000)
+        self.assertEqual(set(curve.columns()), {(-1.0, 1.0)})
+        self.assertLessEqual(len(curve.points()), 4 * 721)
+        self.assertEqual(curve.points(), sorted(curve.points(), key=lambda point: point[0]))
 
 
 LIMITED = """model limit

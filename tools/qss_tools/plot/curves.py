@@ -1,102 +1,134 @@
-"""The curves of a picture: what each column shows of a variable, computed while rows are read."""
+"""The curves of a picture: straight lines between points, thinned by columns while rows are read."""
 import math
-from typing import Dict, List, Optional, Set, Tuple
+from typing import Any, Dict, List, Optional, Set, Tuple
 
 from ..certificates.band import Tube
 
+Point = Tuple[float, float]
+FULL = 4  # points of a column that are kept
+MANY = 16  # points of a column that are held before they are thinned
+
 
 class Curve:
-    """A variable over time, as the first, least, greatest and last value in each column of a picture.
+    """A variable over time, as straight lines between points (tick, value).
 
-    With `skips_short` values are left out that hold for one tick only. A limit that is a clause of its own acts a tick
-    late, so that a value past the limit shows for that tick.
+    The picture has columns. Of a column with many points the first, the least, the greatest and the last one are kept,
+    so that lines through these points cover the same pixels.
     """
 
-    def __init__(self, label: str, width: int, begin: float, end: float, skips_short: bool = False):
+    def __init__(self, label: str, width: int, begin: float, end: float):
         self.label = label
         self.unit: Optional[str] = None
         self.width = width
-        self.begin = begin
+        self.begin, self.end = begin, end
         self.scale = width / (end - begin) if end > begin else 0.0
-        self.columns: List[List[float]] = []  # [first, least, greatest, last]
         self.value: Optional[float] = None
-        self.tube: Optional[Tube] = None  # the certified band around it
         self.at = begin
-        self.skips_short = skips_short
-        self.waiting: Optional[Tuple[float, float]] = None  # a value and its tick, until it has held for more than one
+        self.tube: Optional[Tube] = None  # the certified band around it
+        self.is_held = True  # no value moves on a line
+        self.place: Optional[int] = None  # the last column, whose points are in `column`
+        self.column: List[Point] = []
+        self.found: List[Point] = []
+        self.before: Optional[Point] = None
+        self.is_over = False
 
     def take(self, tick: float, value: float) -> None:
         """The variable has this value from this tick on."""
-        if not self.skips_short:
-            self.step(tick, value)
-            return
-        if self.waiting is not None and (self.value is None or tick - self.waiting[0] > 1):
-            self.step(*self.waiting)
-        self.waiting = tick, value
+        if self.value is not None:
+            self.add(tick, self.value)
+        self.reach(tick, value)
 
     def line_to(self, tick: float, value: float) -> None:
         """The variable moves on a straight line to this value at this tick."""
-        if self.value is None or not self.scale:
-            self.step(tick, value)
-            return
-        begun, first = self.at, self.value
-        left, right = (begun - self.begin) * self.scale, (tick - self.begin) * self.scale
-        if right <= left or right < 0 or left >= self.width:
-            self.step(tick, value)
-            return
+        self.is_held = False
+        self.reach(tick, value)
 
-        def between(place: float) -> float:
-            return first + (value - first) * (place - left) / (right - left)
-
-        for place in range(max(0, math.floor(left)), min(math.floor(right), self.width - 1) + 1):
-            ends = between(max(left, place)), between(min(right, place + 1))
-            if len(self.columns) <= place:
-                self.columns.append([ends[0], min(ends), max(ends), ends[1]])
-            column = self.columns[place]
-            column[1], column[2], column[3] = min(column[1], *ends), max(column[2], *ends), ends[1]
+    def reach(self, tick: float, value: float) -> None:
+        self.add(tick, value)
         self.value, self.at = value, tick
-
-    def step(self, tick: float, value: float) -> None:
-        """The variable jumps to this value at this tick."""
-        self.at = tick
-        place = math.floor((tick - self.begin) * self.scale)
-        if self.value is not None:
-            self.fill(min(place, self.width - 1))
-        self.value = value
-        if 0 <= place < self.width:
-            if not self.columns:
-                self.columns = [[value] * 4 for _ in range(place + 1)]
-            column = self.columns[-1]
-            column[1], column[2], column[3] = min(column[1], value), max(column[2], value), value
-
-    def fill(self, place: int) -> None:
-        """The value stands up to this column."""
-        assert self.value is not None
-        while len(self.columns) <= place:
-            self.columns.append([self.value] * 4)
 
     def finish(self, tick: float) -> None:
         """The run ends at a tick."""
-        if self.waiting is not None:
-            self.step(*self.waiting)
         if self.value is not None:
-            self.fill(min(math.floor((tick - self.begin) * self.scale), self.width - 1))
+            self.add(max(tick, self.at), self.value)
+        self.found += thinned(self.column)
+        self.column = []
+
+    def set_points(self, points: List[Point], is_held: bool) -> None:
+        """Takes all points, which are thinned already."""
+        self.found, self.is_held = points, is_held
+
+    def add(self, tick: float, value: float) -> None:
+        """Adds a straight line to this point. What is outside of the picture is cut off."""
+        last, self.before = self.before, (tick, value)
+        if tick < self.begin or self.is_over:
+            return
+        if last is not None and last[0] < self.begin < tick:
+            self.keep(self.begin, between(last, (tick, value), self.begin))
+        if tick > self.end:
+            self.is_over = True
+            if last is not None and last[0] < self.end:
+                self.keep(self.end, between(last, (tick, value), self.end))
+            return
+        self.keep(tick, value)
+
+    def keep(self, tick: float, value: float) -> None:
+        place = int((tick - self.begin) * self.scale)
+        column = self.column
+        if place != self.place:
+            self.found += thinned(column)
+            self.place, self.column = place, [(tick, value)]
+        elif column[-1] != (tick, value):
+            column.append((tick, value))
+            if len(column) > MANY:
+                self.column = thinned(column)
 
     def bounds(self) -> Tuple[float, float]:
         """The least and the greatest value that is drawn, with the band."""
-        least, greatest = min(column[1] for column in self.columns), max(column[2] for column in self.columns)
+        values = [value for _, value in self.found]
+        least, greatest = min(values), max(values)
         wide = self.tube.bounds() if self.tube else None
         return (min(least, wide[0]), max(greatest, wide[1])) if wide else (least, greatest)
 
-    def points(self) -> List[Tuple[int, float]]:
-        """The curve as points (column, value), in steps."""
-        found: List[Tuple[int, float]] = []
-        for place, (first, least, greatest, last) in enumerate(self.columns):
-            for value in (first, least, greatest, last) if first <= last else (first, greatest, least, last):
-                if not found or found[-1] != (place, value):
-                    found.append((place, value))
-            found.append((place + 1, last))
+    def points(self) -> List[Point]:
+        """The points in their order, with both ends of each jump."""
+        return self.found
+
+    def changes(self) -> List[Point]:
+        """The last point of each tick: between two of them the value is held."""
+        found = self.found
+        ends: List[Any] = [*found[1:], None]
+        return [point for point, after in zip(found, ends) if after is None or after[0] != point[0]]
+
+    def columns(self) -> List[Optional[Tuple[float, float]]]:
+        """The least and the greatest value in each column, or None where there is no curve."""
+        found: List[Optional[Tuple[float, float]]] = [None] * self.width
+        for one, other in zip(self.found, self.found[1:] or self.found):
+            first, last = ((tick - self.begin) * self.scale for tick, _ in (one, other))
+            end = math.ceil(last) if last > first else math.floor(first) + 1
+            for place in range(max(0, math.floor(first)), min(self.width, end)):
+                parts = [min(max(edge, first), last) for edge in (place, place + 1)]
+                values = [between((first, one[1]), (last, other[1]), part) for part in parts] if last > first else []
+                values = values or [one[1], other[1]]
+                known = found[place]
+                if known is not None:
+                    values += known
+                found[place] = min(values), max(values)
         return found
+
+
+def between(one: Point, other: Point, tick: float) -> float:
+    """The value at a tick on the line between two points."""
+    return one[1] + (other[1] - one[1]) * (tick - one[0]) / (other[0] - one[0])
+
+
+def thinned(points: List[Point]) -> List[Point]:
+    """The first, the least, the greatest and the last of these points, in their order."""
+    if len(points) <= FULL:
+        return points
+    values = [value for _, value in points]
+    places = {0, len(points) - 1, values.index(min(values)), values.index(max(values))}
+    return [points[place] for place in sorted(places)]
 
 
 MOST_POINTS = 200000
@@ -130,6 +162,14 @@ class Marks:
         self.scale = width / (end - begin) if end > begin else 0.0
         self.places: Dict[str, Set[int]] = {}
         self.counts: Dict[str, int] = {}
+
+    def take_all(self, ticks: Any, label: str) -> None:
+        """Takes an array of ticks of a branch."""
+        places = ((ticks - self.begin) * self.scale).clip(-1, self.width + 1).astype(int)
+        inside = places[(ticks >= self.begin) & (places <= self.width)].clip(0, self.width - 1)
+        self.counts[label] = len(ticks)
+        if len(inside):
+            self.places[label] = set(inside.tolist())
 
     def take(self, tick: float, label: str) -> None:
         place = math.floor((tick - self.begin) * self.scale)

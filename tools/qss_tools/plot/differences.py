@@ -164,7 +164,7 @@ def lines_of_run(run: Run, args: argparse.Namespace, numbers: Sequence[int]) -> 
 
 def curve_of(drawing: Drawing, difference: Difference) -> Curve:
     """A difference as a curve of a picture."""
-    curve = drawing.new_curve(difference.name, drawing.run, False)
+    curve = Curve(difference.name, drawing.width, *drawing.ticks(drawing.run))
     scale = difference.tick * 2**drawing.run.units.time
     before: Optional[float] = None
     for time, value in difference.points:

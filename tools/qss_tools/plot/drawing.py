@@ -13,7 +13,6 @@ from ..numeric.trial import time_like
 from ..runs.columns import AnyColumn, chosen, columns_of
 from ..runs.rows import Run, fraction, run_of
 from .curves import Curve, Marks, Path
-from .knots import Knots
 
 # A panel: its label, and its curves, each with whether it is dashed.
 Panel = Tuple[str, Sequence[Tuple[Curve, bool]]]
@@ -42,9 +41,8 @@ class Drawing:
         if not self.begin < self.end and self.run.last:
             raise Fault("there is nothing to draw from %s to %s" % (float(self.begin), float(self.end)))
         self.labels = self.panel_names(self.run)
-        for label in self.labels:
-            for part in label.split("+"):
-                chosen(self.run, part.strip())
+        for part in self.parts():
+            chosen(self.run, part)
         self.panels: List[Tuple[str, List[Tuple[Curve, bool]]]] = [(label, []) for label in self.labels]
         self.marks: Optional[Marks] = None
         self.paths: List[Path] = []
@@ -65,6 +63,10 @@ class Drawing:
                 plain.append(one.declaration.name)
         return [some_of(run, name) for name in plain[:MOST_PANELS]]
 
+    def parts(self) -> List[str]:
+        """The patterns in all panels."""
+        return [part.strip() for label in self.labels for part in label.split("+")]
+
     def ticks(self, run: Run) -> Tuple[float, float]:
         """The first and the last tick that is drawn."""
         scale = 2**run.units.time
@@ -78,19 +80,13 @@ class Drawing:
             for part in label.split("+"):
                 for column in columns_of(run, part.strip(), self.args.states):
                     name = column.name + (" (second)" if second else "")
-                    skips = column.is_discrete and not self.args.all_values
-                    curve = self.new_curve(name, run, skips)
+                    curve = Curve(name, self.width, *self.ticks(run))
                     columns.append(column)
                     curves.append(curve)
                     found.append((curve, second))
         if len(curves) > MOST_CURVES * MOST_PANELS:
             raise Fault("%d curves are too many: choose some by --names" % len(curves))
         return columns, curves
-
-    def new_curve(self, name: str, run: Run, skips_short: bool) -> Curve:
-        if self.kind == "html":
-            return Knots(name, *self.ticks(run), skips_short=skips_short)
-        return Curve(name, self.width, *self.ticks(run), skips_short=skips_short)
 
     def is_plain(self) -> bool:
         """Whether no package draws, by --plain or by the environment variable QSS_PLAIN."""

@@ -6,7 +6,7 @@ from ..output import Output
 from .bands import NOTE, Band, bands_of
 from .curves import Curve
 from .drawing import Drawing, Panel
-from .knots import Firings, Knots, points_of, shortened, times_of
+from .knots import Firings, points_of, shortened, times_of
 from .svg import COLOURS, SIGNATURE
 
 HELD_END = 0.001  # of the time for which a value is held
@@ -26,14 +26,15 @@ def check_plotly() -> None:
 def drawn_points(curve: Curve, times: Tuple[float, float]) -> List[Tuple[float, float]]:
     """The points (time, value) of a curve of a page; of held values those at which they change.
 
-    A page shows the point that is nearest to the cursor. So a held value has a second point just before it changes.
+    A page shows the point that is nearest to the cursor. So a value that is held for longer than a column has a
+    second point just before it changes.
     """
-    if not isinstance(curve, Knots) or not curve.is_held:
+    if not curve.is_held:
         return points_of(curve, times)
     changes = curve.changes()
     points: List[Tuple[float, float]] = []
     for time, value in zip(times_of([tick for tick, _ in changes], curve, times), (value for _, value in changes)):
-        if points and points[-1][1] != value:
+        if points and points[-1][1] != value and time - points[-1][0] > (times[1] - times[0]) / curve.width:
             begin, held = points[-1]
             points.append((shortened(time - (time - begin) * HELD_END), held))
         points.append((time, value))

@@ -4,21 +4,23 @@ import os
 import shutil
 import subprocess
 import sys
-from typing import Any, List, Optional, Sequence, Set, Tuple
+from typing import Any, Iterator, List, Optional, Sequence, Set, Tuple
 
 from ..advice.warn import add_advice_option, warn
+from ..arrays import load
 from ..certificates.band import States, Tube, add_certificate_option
 from ..fault import FINE, WARNED, Arguments, Fault, run_tool
 from ..output import Output
 from ..program import RULES
-from ..runs.columns import AnyColumn, Column, Watch, columns_of
-from ..runs.rows import Rows, Run, add_run_options, lines_of
+from ..runs.columns import AnyColumn, Column, Watch, chosen, columns_of
+from ..runs.rows import Row, Rows, Run, add_run_options, lines_of
+from ..runs.steady import add_all_values_option, steady_rows
 from ..tables.table import overflow_text
 from . import differences, html_plot, mpl_plot
 from .bands import bands_of
 from .curves import Curve, Marks, Path
 from .drawing import HEIGHT, Drawing, Panel
-from .knots import Firings, points_of
+from .knots import Firings, page_columns, points_of
 from .svg import COLOURS, SIGNATURE, path_picture, picture_of
 from .text_plot import text_of
 
@@ -39,7 +41,8 @@ ABOUT = """A picture of a run, from a model or from its rows.
 A picture is SVG; PNG and PDF need matplotlib or gnuplot (python3-matplotlib or gnuplot-nox of Debian), and a page needs
 plotly (python3-plotly). SVG is drawn by matplotlib if it is installed, and with --plain by no package. The name of the
 file is printed. The unit of time is that of QSS_TimeUnit in the model, if --unit names no other one.
-Values of discrete variables that hold for one tick only are left out, unless --all-values is there.
+A value of a discrete variable that holds for one tick only, between values that hold for longer, is left out, unless
+--all-values is there.
 Status: 0 all was drawn, 1 all was drawn, and the run overflowed or the rows end early, 2 nothing was written."""
 
 
@@ -55,7 +58,7 @@ def parser_of() -> Arguments:
     parser.add_argument("--against", metavar="NAME", help="draw the names against this variable in place of time")
     parser.add_argument("--events", action="store_true", help="mark where branches fire")
     parser.add_argument("--states", action="store_true", help="draw exact states, joined by lines, in place of levels")
-    parser.add_argument("--all-values", action="store_true", help="draw values that hold for one tick only too")
+    add_all_values_option(parser)
     parser.add_argument("--over", metavar="ROWS", help="a second run, dashed")
     parser.add_argument("--over-rule", choices=RULES, help="run the model a second time, by this rule")
     parser.add_argument("--over-model", metavar="MODEL", help="the model of the second run, if it is another one")
@@ -112,6 +115,8 @@ class Plot(Drawing):
             )
         if args.against and self.kind != "svg":
             raise Fault("--against draws only .svg")
+        if self.kind == "html":
+            self.width = page_columns(sum(len(chosen(self.run, part)) for part in self.parts()))
         if args.output is None and not is_replaceable(path):
             raise Fault(f"{path}: this file is there, and qss-plot did not draw it; -o names another one")
 
@@ -149,7 +154,10 @@ class Plot(Drawing):
             takes = Takes(self, 2**run.units.time, columns, curves, paths, marks)
             if self.certified and not second:
                 takes.states = self.with_tubes(States(self.certified, name), columns, curves)
-            self.read(rows, takes, args.rows is None)
+            if load() is None or takes.states or paths is not None or run.order == 2:
+                self.read(rows, takes, args.rows is None)
+            else:
+                self.read_arrays(rows, takes, args.rows is None)
         if rows.cut:
             self.is_cut = True
             print("qss-plot: %s; the picture ends there" % rows.cut, file=sys.stderr)
@@ -169,7 +177,7 @@ class Plot(Drawing):
         run, watch, started, last = rows.run, takes.watch, False, 0
         changed: Set[int] = set()
         tick, end = 0, self.ticks(rows.run)[1]
-        for at, event, variable, level, state in rows:
+        for at, event, variable, level, state in self.taken(rows):
             if is_own and tick > end:
                 break
             if not started and event not in ("start", "slope"):
@@ -185,8 +193,7 @@ class Plot(Drawing):
                 if takes.marks is not None:
                     takes.marks.take(at, variable)
             elif event == "overflow":
-                self.overflowed = at, variable
-                print("qss-plot: %s" % overflow_text((at, variable), run), file=sys.stderr)
+                self.overflows(run, at, variable)
             elif event == "slope":
                 watch.slope(at, variable, level)
             else:
@@ -197,6 +204,39 @@ class Plot(Drawing):
             takes.states.finish(last)
         for curve in takes.curves:
             curve.finish(last)
+
+    def taken(self, rows: Rows) -> Iterator[Row]:
+        """The rows, without values that are left out."""
+        return iter(rows) if self.args.all_values else steady_rows(rows.run, rows)
+
+    def read_arrays(self, rows: Rows, takes: "Takes", is_own: bool) -> None:
+        """Reads rows as arrays, and thins each curve as a whole."""
+        from ..runs import bulk, series
+
+        run, end = rows.run, self.ticks(rows.run)[1]
+        needed = {name for column in takes.columns for name in column.needs}
+        wanted = [run.names[name] for name in needed]
+        with_states = any(isinstance(column, Column) and column.use_state for column in takes.columns)
+        record = bulk.record_of(rows, wanted, with_states, end if is_own else None)
+        values = series.Values(rows, record, self.args.all_values)
+        values.check_started(takes.columns)
+        for column, curve in zip(takes.columns, takes.curves):
+            ticks, numbers = values.floats(column)
+            is_held = not (isinstance(column, Column) and column.use_state)
+            if is_held:
+                ticks, numbers = series.held(ticks, numbers, rows.tick)
+            curve.set_points(series.thinned(ticks, numbers, (curve.begin, curve.end), curve.width), is_held)
+        if takes.marks is not None:
+            for label, fired in series.firings(record).items():
+                takes.marks.take_all(fired, label)
+        overflow = series.overflow_of(record, run)
+        if overflow:
+            self.overflows(run, *overflow)
+
+    def overflows(self, run: Run, tick: int, name: str) -> None:
+        """The run overflowed at this tick."""
+        self.overflowed = tick, name
+        print("qss-plot: %s" % overflow_text((tick, name), run), file=sys.stderr)
 
     def write(self) -> None:
         times = float(self.begin), float(self.end)
@@ -342,7 +382,7 @@ def by_gnuplot(
 
 def main(arguments: Optional[Sequence[str]] = None) -> int:
     """Runs the tool and returns its status."""
-    return run_tool("qss-plot", tool, arguments)
+    return run_tool("qss-plot", tool, arguments, numeric=True)
 
 
 if __name__ == "__main__":

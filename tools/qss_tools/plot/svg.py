@@ -179,7 +179,7 @@ def panel(
     picture: Picture, top: float, width: float, height: float, label: str, curves: Sequence[Tuple[Curve, bool]]
 ) -> None:
     """A panel with its grid, its curves and their names."""
-    bounds = [curve.bounds() for curve, _ in curves if curve.columns]
+    bounds = [curve.bounds() for curve, _ in curves if curve.points()]
     scale = Scale((min(low for low, _ in bounds), max(high for _, high in bounds)) if bounds else (0, 1), height)
     for value in axis_steps(scale.least, scale.greatest, max(3, int(height) // 26)):
         y = top + height - scale.pixel(value)
@@ -191,7 +191,8 @@ def panel(
     opacity = OPACITY if len(curves) > 1 else 1.0
     for place, (curve, dashed) in enumerate(curves):
         colour = COLOURS[place % len(COLOURS)]
-        points = [(x * UNITS, scale.down(value)) for x, value in curve.points()]
+        across = curve.scale * UNITS
+        points = [(round((tick - curve.begin) * across), scale.down(value)) for tick, value in curve.points()]
         picture.curve((LEFT, top), points, colour, dashed, opacity=opacity)
     picture.frame(LEFT, top, width, height)
     picture.upright(14, top + height / 2, label, height)

@@ -36,7 +36,7 @@ def sign_of(place: int) -> str:
 
 def panel(curves: Sequence[Tuple[Curve, bool]]) -> List[str]:
     width = curves[0][0].width
-    bounds = [curve.bounds() for curve, _ in curves if curve.columns]
+    bounds = [curve.bounds() for curve, _ in curves if curve.points()]
     least, greatest = widened(min(low for low, _ in bounds), max(high for _, high in bounds)) if bounds else (0.0, 1.0)
     grid = [[" "] * width for _ in range(HEIGHT)]
 
@@ -44,8 +44,8 @@ def panel(curves: Sequence[Tuple[Curve, bool]]) -> List[str]:
         return min(HEIGHT - 1, max(0, HEIGHT - 1 - int((value - least) / (greatest - least) * HEIGHT)))
 
     for place, (curve, _) in enumerate(curves):
-        for x, (_, low, high, _) in enumerate(curve.columns[:width]):
-            for row in range(row_of(high), row_of(low) + 1):
+        for x, column in enumerate(curve.columns()):
+            for row in range(row_of(column[1]), row_of(column[0]) + 1) if column else ():
                 grid[row][x] = sign_of(place)
     lines = []
     for row in range(HEIGHT):

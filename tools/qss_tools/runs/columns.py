@@ -151,8 +151,12 @@ class Algebraic:
         )
 
     def text(self) -> str:
-        text = decimal_text(Fraction(self.total(), self.below))
-        return text if "/" not in text else SIGNIFICANT % self.number()
+        return self.text_of(self.total())
+
+    def text_of(self, total: int) -> str:
+        """The text of a value."""
+        text = decimal_text(Fraction(total, self.below))
+        return text if "/" not in text else SIGNIFICANT % (total / self.below)
 
     def number(self) -> float:
         return self.total() / self.below

@@ -8,10 +8,12 @@ import math
 import re
 from collections import namedtuple
 from fractions import Fraction
-from typing import Any, Dict, Iterator, List, Optional, Sequence, Tuple
+from typing import Any, Dict, Iterable, Iterator, List, Optional, Sequence, Tuple
 
 from ..fault import Fault
 from .trajectories import Exact, Trajectory
+
+Piece = Tuple[Exact, Exact, Exact, Exact]  # the first time, the value there, the last time, the value there
 
 HARMONICS = 40  # of a distortion, as in IEC 61000
 PART = re.compile(r"[\s,;]*([A-Za-z_]\w*)\s*\(([^()]*)\)")
@@ -35,8 +37,24 @@ class Window:
                 % (line.name, float(self.begin * line.tick), float(self.end * line.tick), float(line.last * line.tick))
             )
 
-    def pieces(self) -> Iterator[Tuple[Exact, Exact, Exact, Exact]]:
+    def pieces(self) -> Iterator[Piece]:
         return self.line.pieces(self.begin, self.end)
+
+    def twice_area(self) -> Exact:
+        """Twice the integral, in ticks and numbers."""
+        return self.twice_area_of(self.pieces())
+
+    @staticmethod
+    def twice_area_of(pieces: Iterable[Piece]) -> Exact:
+        return sum((one + other) * (high - low) for low, one, high, other in pieces)
+
+    def thrice_square(self) -> Exact:
+        """Three times the integral of the square."""
+        return self.thrice_square_of(self.pieces())
+
+    @staticmethod
+    def thrice_square_of(pieces: Iterable[Piece]) -> Exact:
+        return sum((one * (one + other) + other * other) * (high - low) for low, one, high, other in pieces)
 
     def length(self) -> Exact:
         """The length in ticks."""
@@ -100,6 +118,45 @@ class Window:
                 below = not below
         return rising, falling
 
+    def last_outside(self, middle: Exact, room: Exact) -> Optional[Piece]:
+        """The last piece that is not wholly within a band, or None."""
+        found = None
+        for piece in self.pieces():
+            if size(piece[1] - middle) > room or size(piece[3] - middle) > room:
+                found = piece
+        return found
+
+    def spectrum(self, begin: Exact, turn: float, harmonics: Sequence[int]) -> List[complex]:
+        """The integrals of the value times exp(-j h turn t), for harmonics h, from a time of the window on."""
+        sums = [0j] * len(harmonics)
+        unit = float(self.line.unit)
+        for low, one, high, other in self.line.pieces(begin, self.end):
+            length = float(high - low)
+            if not length:
+                continue
+            value, last = float(one) * unit, float(other) * unit
+            slope = (last - value) / length
+            step, stop = cmath.exp(-1j * turn * float(low - begin)), cmath.exp(-1j * turn * float(high - begin))
+            for place, harmonic in enumerate(harmonics):
+                if not harmonic:
+                    sums[place] += (value + last) / 2 * length
+                    continue
+                rate = turn * harmonic
+                bend = slope / rate**2
+                sums[place] += stop**harmonic * (1j * last / rate + bend) - step**harmonic * (
+                    1j * value / rate + bend
+                )
+        return sums
+
+
+def window_of(line: Trajectory, begin: Optional[Exact] = None, end: Optional[Exact] = None) -> Window:
+    """A window of a trajectory of any kind."""
+    if hasattr(line, "ticks"):
+        from .windows import ArrayWindow
+
+        return ArrayWindow(line, begin, end)  # type: ignore[arg-type]
+    return Window(line, begin, end)
+
 
 def plain(value: Fraction) -> Exact:
     """A whole number where a fraction is one: its arithmetic is faster."""
@@ -146,21 +203,17 @@ def at(window: Window, t: Exact) -> Fraction:
 
 def integral(window: Window) -> Fraction:
     """The integral over time."""
-    twice = sum((one + other) * (high - low) for low, one, high, other in window.pieces())
-    return window.value(Fraction(twice) / 2) * window.line.tick
+    return window.value(Fraction(window.twice_area()) / 2) * window.line.tick
 
 
 def mean(window: Window) -> Fraction:
     length = window.length()
-    return window.value(
-        sum((one + other) * (high - low) for low, one, high, other in window.pieces()) / Fraction(2 * length)
-    )
+    return window.value(Fraction(window.twice_area()) / (2 * length))
 
 
 def mean_square(window: Window) -> Fraction:
     """The mean of the square."""
-    thrice = sum((one * (one + other) + other * other) * (high - low) for low, one, high, other in window.pieces())
-    return Fraction(thrice) / (3 * window.length()) * window.line.unit**2
+    return Fraction(window.thrice_square()) / (3 * window.length()) * window.line.unit**2
 
 
 def rms(window: Window) -> float:
@@ -217,13 +270,13 @@ def settling(
     room = size(end - begin) * Fraction(band)
     if size(window.last() - end) > room:
         raise Fault("%s does not settle: it ends at %g" % (window.line.name, float(window.value(window.last()))))
-    settled = window.begin
-    for low, one, high, other in window.pieces():
-        if size(other - end) > room:
-            settled = high
-        elif size(one - end) > room:
-            edge = end + room if one > end else end - room
-            settled = low + Fraction(edge - one) / (other - one) * (high - low)
+    outside = window.last_outside(end, room)
+    if outside is None:
+        return Fraction(0)
+    low, one, settled, other = outside
+    if size(other - end) <= room:
+        edge = end + room if one > end else end - room
+        settled = low + Fraction(edge - one) / (other - one) * (settled - low)
     return window.time(settled - window.begin)
 
 
@@ -283,9 +336,9 @@ def duty(window: Window, level: Optional[Exact] = None) -> Fraction:
     return Fraction(above) / (end - begin)
 
 
-def amplitudes(window: Window, f: Exact, harmonics: int) -> List[complex]:
-    """The complex amplitudes of the harmonics 0 to `harmonics` of a frequency, over the last whole periods."""
-    ticks = 1 / (Fraction(f) * window.line.tick)
+def amplitudes(window: Window, f: Exact, harmonics: Sequence[int]) -> List[float]:
+    """The amplitudes of some harmonics of a frequency, over the last whole periods."""
+    ticks = 1 / (Fraction(f) * window.line.tick) if f else Fraction(0)
     if ticks <= 0:
         raise Fault("f: '%s' is not above 0" % f)
     periods = window.length() // ticks
@@ -293,23 +346,8 @@ def amplitudes(window: Window, f: Exact, harmonics: int) -> List[complex]:
         raise Fault("%s: the window is shorter than a period of the frequency %g" % (window.line.name, float(f)))
     begin = plain(window.end - periods * ticks)
     span = float(periods * ticks)
-    turn = 2 * math.pi / float(ticks)
-    sums = [0j] * (harmonics + 1)
-    unit = float(window.line.unit)
-    for low, one, high, other in window.line.pieces(begin, window.end):
-        length = float(high - low)
-        if not length:
-            continue
-        value, last = float(one) * unit, float(other) * unit
-        slope = (last - value) / length
-        sums[0] += (value + last) / 2 * length
-        step, stop = cmath.exp(-1j * turn * float(low - begin)), cmath.exp(-1j * turn * float(high - begin))
-        here, there = 1 + 0j, 1 + 0j
-        for harmonic in range(1, harmonics + 1):
-            here, there, rate = here * step, there * stop, turn * harmonic
-            bend = slope / rate**2
-            sums[harmonic] += there * (1j * last / rate + bend) - here * (1j * value / rate + bend)
-    return [sums[0] / span] + [2 * one / span for one in sums[1:]]
+    sums = window.spectrum(begin, 2 * math.pi / float(ticks), harmonics)
+    return [abs(one) / span * (2 if number else 1) for one, number in zip(sums, harmonics)]
 
 
 def harmonic(window: Window, f: Exact, n: Exact = 1) -> float:
@@ -317,7 +355,7 @@ def harmonic(window: Window, f: Exact, n: Exact = 1) -> float:
     n = int(n)
     if not 0 <= n <= 1000:
         raise Fault("n: from 0 to 1000")
-    return abs(amplitudes(window, f, n)[n])
+    return amplitudes(window, f, [n])[0]
 
 
 def thd(window: Window, f: Exact, n: Exact = HARMONICS) -> float:
@@ -325,10 +363,10 @@ def thd(window: Window, f: Exact, n: Exact = HARMONICS) -> float:
     n = int(n)
     if not 2 <= n <= 1000:
         raise Fault("n: from 2 to 1000")
-    found = [abs(one) for one in amplitudes(window, f, n)]
-    if not found[1]:
+    found = amplitudes(window, f, range(1, n + 1))
+    if not found[0]:
         raise Fault("%s has no fundamental at the frequency %g" % (window.line.name, float(f)))
-    return math.sqrt(sum(one * one for one in found[2:])) / found[1]
+    return math.sqrt(sum(one * one for one in found[1:])) / found[0]
 
 
 VALUE, TIME, SHARE, OTHER = "value", "time", "share", "other"
@@ -401,5 +439,5 @@ def request(name: str, parts: Sequence[str]) -> Request:
 def measured(asked: Request, line: Trajectory) -> Any:
     """The value of a measure of a trajectory."""
     options = dict(asked.options)
-    window = Window(line, options.pop("from", None), options.pop("to", None))
+    window = window_of(line, options.pop("from", None), options.pop("to", None))
     return MEASURES[asked.name].function(window, **options)

@@ -2,11 +2,10 @@
 import argparse
 import contextlib
 import io
-import itertools
 import subprocess
 import sys
 from fractions import Fraction
-from typing import Iterable, Iterator, Optional, TextIO, Tuple
+from typing import IO, Iterable, Iterator, List, Optional, Tuple
 
 from ..fault import Fault, unreadable
 from ..model.changes import add_set_option, assignments, shown, write_changed
@@ -30,6 +29,7 @@ FOLLOWING = {
     "level": LATER,
     "slope": EVENTS,
 }
+BLOCK = 1 << 20  # bytes that are read at a time
 SECOND_BITS = 6  # levels and states of a second-order run are counted 2^6 times finer
 
 Row = Tuple[int, str, str, Optional[int], Optional[int]]
@@ -118,38 +118,80 @@ def run_of(args: argparse.Namespace) -> Run:
         raise Fault(str(fault).replace(args.model, args.label), fault.lines, fault.status) from fault
 
 
+class Lines:
+    """The lines of rows: one by one, or in blocks of bytes."""
+
+    def __init__(self, stream: IO[bytes]) -> None:
+        self.stream = stream
+        self.first: List[bytes] = []
+
+    def begin(self, count: int) -> List[str]:
+        """The first lines, which are read again later."""
+        while len(self.first) < count:
+            line = self.stream.readline()
+            if not line:
+                break
+            self.first.append(line)
+        return [line.decode("ascii", "replace") for line in self.first[:count]]
+
+    def __iter__(self) -> Iterator[str]:
+        first, self.first = self.first, []
+        for line in first:
+            yield line.decode("ascii", "replace")
+        text = io.TextIOWrapper(self.stream, encoding="ascii", errors="replace", newline="\n")
+        try:
+            yield from text
+        finally:
+            with contextlib.suppress(ValueError):  # (the stream is closed already)
+                text.detach()
+
+    def blocks(self) -> Iterator[bytes]:
+        """Blocks of whole lines; only the last line of the last one may have no end."""
+        kept, self.first = b"".join(self.first), []
+        while True:
+            more = self.stream.read(BLOCK)
+            end = more.rfind(b"\n") + 1
+            if end:
+                yield kept + more[:end]
+                kept = more[end:]
+            elif more:
+                kept += more
+            else:
+                break
+        if kept:
+            yield kept
+
+
 @contextlib.contextmanager
-def lines_of(args: argparse.Namespace, run: Run) -> Iterator[Tuple[Iterable[str], str]]:
+def lines_of(args: argparse.Namespace, run: Run) -> Iterator[Tuple[Lines, str]]:
     """The lines of the rows that were asked for, and a name for faults. The run then has the order of the rows."""
     if args.rows is None:
         with run_lines(args, run) as lines:
             yield ordered(lines, run), "the run of " + args.model
     elif args.rows == "-":
-        lines = io.TextIOWrapper(sys.stdin.buffer, encoding="ascii", errors="replace", newline="\n")
-        yield ordered(lines, run), "standard input"
+        yield ordered(Lines(sys.stdin.buffer), run), "standard input"
     else:
-        with opened(args.rows) as lines:
-            yield ordered(lines, run), args.rows
+        with opened(args.rows) as file:
+            yield ordered(Lines(file), run), args.rows
 
 
-def ordered(lines: Iterable[str], run: Run) -> Iterator[str]:
+def ordered(lines: Lines, run: Run) -> Lines:
     """The lines, after the run has their order: a run of second order has a row `slope` after its first start row."""
-    lines = iter(lines)
-    first = list(itertools.islice(lines, 3))
+    first = lines.begin(3)
     run.use_order(2 if len(first) == 3 and first[2].split(",")[1:2] == ["slope"] else 1)
-    return itertools.chain(first, lines)
+    return lines
 
 
-def opened(name: str) -> TextIO:
+def opened(name: str) -> IO[bytes]:
     """A file of rows."""
     try:
-        return open(name, encoding="ascii", errors="replace", newline="\n")
+        return open(name, "rb")
     except OSError as error:
         raise unreadable(name, error) from error
 
 
 @contextlib.contextmanager
-def run_lines(args: argparse.Namespace, run: Run) -> Iterator[Iterator[str]]:
+def run_lines(args: argparse.Namespace, run: Run) -> Iterator[Lines]:
     """The lines that the program writes; a run that is refused or fails is a fault."""
     options = ["--rule", args.rule] if args.rule else []
     options += ["--relative", args.relative] if args.relative else []
@@ -158,22 +200,16 @@ def run_lines(args: argparse.Namespace, run: Run) -> Iterator[Iterator[str]]:
     arguments = ["run2" if args.order == 2 else "run", args.model, *options]
     with start(run.program, arguments, stdout=subprocess.PIPE, stderr=subprocess.PIPE) as process:
         assert process.stdout is not None and process.stderr is not None
-        lines = io.TextIOWrapper(process.stdout, encoding="ascii", errors="replace", newline="\n")
-        first = lines.readline()
-        if not first:
+        lines = Lines(process.stdout)
+        if not lines.begin(1):
             line = process.stderr.read().decode("utf-8", "replace").strip()
             label = getattr(args, "label", args.model)
             raise Fault("%s: %s (tools/qss-explain %s shows more)" % (label, line or "no rows", args.model))
         try:
-            yield followed(first, lines)
+            yield lines
         except BaseException:
             process.kill()
             raise
-
-
-def followed(first: str, lines: Iterable[str]) -> Iterator[str]:
-    yield first
-    yield from lines
 
 
 class Rows:
@@ -187,7 +223,7 @@ class Rows:
         self.run = run
         self.may_be_cut = may_be_cut
         self.cut = ""
-        self.lines = iter(lines)
+        self.lines = lines
         self.name = name
         self.number = 1
         self.tick = 0
@@ -202,11 +238,31 @@ class Rows:
             raise Fault(self.cut)
 
     def __iter__(self) -> Iterator[Row]:
+        lines = iter(self.lines)
+        self.check_header(next(lines, None))
+        yield from self.following(lines)
+
+    def blocks(self) -> Iterator[bytes]:
+        """The rows in blocks of bytes, without the first line of names."""
+        lines = self.lines
+        blocks = lines.blocks() if isinstance(lines, Lines) else iter(["".join(lines).encode("ascii", "replace")])
+        header = HEADER.encode()
+        first = next(blocks, b"")
+        self.check_header(HEADER if first.startswith(header) else None)
+        if len(first) > len(header):
+            yield first[len(header) :]
+        yield from blocks
+
+    def check_header(self, line: Optional[str]) -> None:
+        """The first line has the names of the fields."""
+        if line != HEADER:
+            raise Fault("%s: not the rows of a run: the first line is not '%s'" % (self.name, HEADER.strip()))
+
+    def following(self, lines: Iterable[str]) -> Iterator[Row]:
+        """The rows of further lines, which are the last ones."""
         names, states = self.run.names, self.run.flat.states
         is_second = self.run.order == 2
-        if next(self.lines, None) != HEADER:
-            raise Fault("%s: not the rows of a run: the first line is not '%s'" % (self.name, HEADER.strip()))
-        for line in self.lines:
+        for line in lines:
             self.number += 1
             if line[-1] != "\n":
                 self.ends_early("the rows end in the middle of line %d" % self.number)
@@ -228,6 +284,10 @@ class Rows:
                 self.check(row)
             self.tick, self.event = tick, event
             yield row
+        self.finish()
+
+    def finish(self) -> None:
+        """The rows are at their end: that of the run too."""
         if self.event not in ("end", "overflow"):
             self.ends_early("the rows end before the run does, after line %d" % self.number)
 

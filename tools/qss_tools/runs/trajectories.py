@@ -7,11 +7,13 @@ from bisect import bisect_right
 from fractions import Fraction
 from typing import Any, Dict, Iterator, List, Mapping, Optional, Sequence, Set, Tuple, Union
 
+from ..arrays import load
 from ..fault import Fault
 from ..model.flat import ALGEBRAIC, Meaningless
 from .machines import Machine, NoMachine
 from .machines import Row as MachineRow
 from .rows import Rows, Run
+from .steady import short_places
 
 Exact = Union[int, Fraction]
 
@@ -46,6 +48,17 @@ class Trajectory:
         """At this tick the function has this value, and after it the same slope as before."""
         self.turn(tick, self.slopes[-1])
         self.values[-1] = value
+
+    def leave_short_values_out(self) -> None:
+        """Without values that hold for one tick only, of a discrete variable."""
+        points: List[Tuple[int, int]] = []
+        for point in zip(self.times, self.values):
+            if not points or points[-1][1] != point[1]:
+                points.append(point)
+        short = set(short_places([time for time, _ in points]))
+        kept = [point for place, point in enumerate(points) if place not in short]
+        self.times, self.values = [time for time, _ in kept], [value for _, value in kept]
+        self.slopes = [0] * len(kept)
 
     def pieces(
         self, begin: Optional[Exact] = None, end: Optional[Exact] = None
@@ -154,10 +167,7 @@ class Follower:
     """The trajectories of states and discrete variables, which grow with the rows of a run."""
 
     def __init__(self, run: Run, numbers: Sequence[int]) -> None:
-        try:
-            self.machine = machine = Machine(run.flat)
-        except NoMachine as error:
-            raise Fault("%s: %s" % (run.model, error)) from error
+        self.machine = machine = machine_of(run)
         self.run = run
         self.levels = [machine.level_below(start) for start in machine.starts] + list(machine.values)
         self.rows = {number: SlopeRow(machine, machine.rows[number]) for number in numbers if number < machine.states}
@@ -220,23 +230,46 @@ class Follower:
         """A state that a row states is on its trajectory."""
         line = self.lines[number]
         if line.values[-1] + line.slopes[-1] * (tick - line.times[-1]) != state:
-            raise Fault(
-                "%s: at tick %d the state %s differs from its trajectory in %s: the rows are of another model, of a run"
-                " of second order, or they were filtered" % (name, tick, line.name, self.run.model)
-            )
+            raise off_trajectory(self.run, name, tick, line.name)
 
 
-def trajectories(run: Run, rows: Rows, numbers: Sequence[int]) -> Tuple[List[Trajectory], Optional[Tuple[int, str]]]:
-    """The trajectories of these variables, from the rows of a run, and the tick and the name of an overflow or None."""
+def machine_of(run: Run) -> Machine:
+    """The machine of the model of a run."""
+    try:
+        return Machine(run.flat)
+    except NoMachine as error:
+        raise Fault("%s: %s" % (run.model, error)) from error
+
+
+def off_trajectory(run: Run, rows: str, tick: int, name: str) -> Fault:
+    """The fault of a state that is not where the rows before it lead."""
+    return Fault(
+        "%s: at tick %d the state %s differs from its trajectory in %s: the rows are of another model, of a run"
+        " of second order, or they were filtered" % (rows, tick, name, run.model)
+    )
+
+
+def trajectories(
+    run: Run, rows: Rows, numbers: Sequence[int], all_values: bool = False
+) -> Tuple[List[Trajectory], Optional[Tuple[int, str]]]:
+    """The trajectories of these variables, from the rows of a run, and the tick and the name of an overflow or None. A
+    value of a discrete variable that holds for one tick only is left out (module steady), unless all are asked for.
+    """
     if run.order == 2:
         raise Fault("%s: these are the rows of a run of second order, and a trajectory needs the first" % rows.name)
     flat = run.flat
     sums = {number: Combination(run, number) for number in numbers if flat.variables[number].role == ALGEBRAIC}
+    if load() is not None:
+        from .lines import array_trajectories
+
+        return array_trajectories(run, rows, numbers, sums, all_values)
     needed = {number for number in numbers if number not in sums}.union(*(one.needs() for one in sums.values()))
     follower = Follower(run, sorted(needed))
     last, overflow = follower.follow(rows)
-    for line in follower.lines.values():
+    for number, line in follower.lines.items():
         line.last = last
+        if number >= flat.states and not all_values:
+            line.leave_short_values_out()
     tick = Fraction(1, 2**run.units.time)
     lines = {number: one.trajectory(follower.lines, tick) for number, one in sums.items()}
     for line in lines.values():

@@ -222,7 +222,7 @@ class Progress:
 
 def main(arguments: Optional[Sequence[str]] = None) -> int:
     """Runs the tool and returns its status."""
-    return run_tool("qss-sweep", tool, arguments)
+    return run_tool("qss-sweep", tool, arguments, numeric=True)
 
 
 if __name__ == "__main__":

@@ -11,7 +11,7 @@ from ..model.flat import Flat
 from ..output import write_between
 from ..program import ROOT, add_program_option, find_program
 from ..runs.columns import AnyColumn, Column
-from ..runs.rows import Rows, Run, opened
+from ..runs.rows import Lines, Rows, Run, opened
 from .table import Writer, follow
 
 if TYPE_CHECKING:
@@ -174,7 +174,7 @@ def accuracy(model: str, program: str) -> Accuracy:
         seconds = run_rows(run, path)
         samples = Samples([Column(run, number) for number in numbers], ticks)
         with opened(path) as lines:
-            rows = Rows(run, lines, path)
+            rows = Rows(run, Lines(lines), path)
             follow(samples, rows, samples.columns)
     reference = Reference(flat)
     values = reference.values(times)
@@ -227,7 +227,7 @@ def firings(samples: Samples, reference: "Reference", run: Run) -> Optional[Firi
 
 def main(arguments: Optional[Sequence[str]] = None) -> int:
     """Runs the tool and returns its status."""
-    return run_tool("qss-accuracy", tool, arguments)
+    return run_tool("qss-accuracy", tool, arguments, numeric=True)
 
 
 if __name__ == "__main__":

@@ -12,6 +12,7 @@ from ..output import Output
 from ..runs.columns import matching
 from ..runs.measures import MEASURES, TIME, VALUE, Request, measured, requests
 from ..runs.rows import Rows, Run, add_run_options, lines_of, run_of
+from ..runs.steady import add_all_values_option
 from ..runs.trajectories import Trajectory, trajectories
 from .table import overflow_text
 
@@ -32,6 +33,8 @@ Measures, each of a state, a discrete variable or an algebraic variable:
   harmonic    amplitude of harmonic n= (default: 1) of the frequency f=, over the last whole periods
   thd         harmonics 2 to n= (default: 40) of the frequency f=, relative to the first
 Each has from= and to=, two times in the model's unit of time. A frequency is in periods per unit of time.
+A value of a discrete variable that holds for one tick only, between values that hold for longer, is not measured,
+unless --all-values is there.
 
 Status: 0 all was measured, 1 the run overflowed (it was measured up to there), 2 a fault: nothing was written."""
 
@@ -55,16 +58,18 @@ def number_of(run: Run, name: str) -> int:
     return found[0]
 
 
-def lines_by_name(run: Run, rows: Rows, names: Sequence[str]) -> Tuple[Dict[str, Trajectory], Overflow]:
+def lines_by_name(
+    run: Run, rows: Rows, names: Sequence[str], all_values: bool = False
+) -> Tuple[Dict[str, Trajectory], Overflow]:
     """The trajectory of each variable by its name, and the overflow of the run."""
     numbers = [number_of(run, name) for name in names]
-    found, overflow = trajectories(run, rows, numbers)
+    found, overflow = trajectories(run, rows, numbers, all_values)
     return dict(zip(names, found)), overflow
 
 
-def values_of(run: Run, rows: Rows, asked: Sequence[Request]) -> Tuple[List[Any], Overflow]:
+def values_of(run: Run, rows: Rows, asked: Sequence[Request], all_values: bool) -> Tuple[List[Any], Overflow]:
     """The values of measures, and the tick and the name of an overflow or None."""
-    found, overflow = lines_by_name(run, rows, list(dict.fromkeys(one.variable for one in asked)))
+    found, overflow = lines_by_name(run, rows, list(dict.fromkeys(one.variable for one in asked)), all_values)
     return [measured(one, found[one.variable]) for one in asked], overflow
 
 
@@ -93,6 +98,7 @@ def tool(arguments: Sequence[str]) -> int:
     parser.add_argument("measures", help="what to measure, as 'mean(iL) ripple(uC, from=4)'")
     parser.add_argument("--csv", action="store_true", help="a line of names and a line of values")
     parser.add_argument("--unit", help="the model's unit of time, to print it")
+    add_all_values_option(parser)
     parser.add_argument("-o", "--output", metavar="FILE", help="the file to write (default: standard output)")
     add_advice_option(parser)
     args = parser.parse_intermixed_args(arguments)
@@ -102,7 +108,7 @@ def tool(arguments: Sequence[str]) -> int:
         number_of(run, one.variable)
     warn(args, run, "qss-measure")
     with lines_of(args, run) as (lines, name):
-        values, overflow = values_of(run, Rows(run, lines, name), asked)
+        values, overflow = values_of(run, Rows(run, lines, name), asked, args.all_values)
     units = variable_units(args.source)
     time = args.unit or written_time_unit(Source(args.source, read_bytes(args.source)))
     with Output(args.output) as output:
@@ -120,7 +126,7 @@ def tool(arguments: Sequence[str]) -> int:
 
 def main(arguments: Optional[Sequence[str]] = None) -> int:
     """Runs the tool and returns its status."""
-    return run_tool("qss-measure", tool, arguments)
+    return run_tool("qss-measure", tool, arguments, numeric=True)
 
 
 if __name__ == "__main__":

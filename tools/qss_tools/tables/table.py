@@ -1,11 +1,13 @@
 """The tool qss-table: writes rows as a table of times and values."""
 import argparse
 import math
+import os
 import sys
 from fractions import Fraction
-from typing import Dict, List, Optional, Sequence, Set, Tuple, Union
+from typing import Dict, Iterable, List, Optional, Sequence, Set, Tuple, Union
 
 from ..advice.warn import add_advice_option, warn
+from ..arrays import load
 from ..certificates.band import Bound, Certified, States, add_certificate_option, certified
 from ..fault import FINE, WARNED, Arguments, Fault, read_bytes, run_tool
 from ..model.flat import Flat
@@ -14,7 +16,8 @@ from ..model.spelling import decimal_text
 from ..model.units import SECONDS, time_unit
 from ..output import Output
 from ..runs.columns import AnyColumn, Watch, chosen, columns_of
-from ..runs.rows import Rows, Run, add_run_options, exact, fraction, lines_of, run_of
+from ..runs.rows import Row, Rows, Run, add_run_options, exact, fraction, lines_of, run_of
+from ..runs.steady import add_all_values_option, steady_rows
 
 ABOUT = """Rows of a run as a table: a time and a column for each variable, in the model's units, as exact decimals.
 
@@ -26,12 +29,17 @@ ABOUT = """Rows of a run as a table: a time and a column for each variable, in t
 
 Between two rows a state has its level of the last row; in a run of second order (rows of `qss run2`, or --order 2) its
 level moves along a line. An algebraic variable is computed from levels with its exact coefficients, and written to 15
-digits where it has no exact decimal. The unit of time is QSS_TimeUnit of the model, if --unit names no other one.
+digits where it has no exact decimal. A value of a discrete variable that holds for one tick only, between values that
+hold for longer, is left out, unless --all-values is there. The unit of time is QSS_TimeUnit of the model, if --unit
+names no other one.
 Status: 0 all was written, 1 all was written, and the run overflowed or the rows end early, 2 nothing was written."""
 
 # The units of time of a VCD file, as powers of ten of a second.
 SCALES = (("1 s", 0), ("1 ms", 3), ("1 us", 6), ("1 ns", 9), ("1 ps", 12), ("1 fs", 15))
 VCD_TIME_BITS = 63
+# The formats by the ends of the names of files.
+FORMS = {"": "csv", ".csv": "csv", ".txt": "csv", ".vcd": "vcd"}
+FORMS_TEXT = ".csv or .vcd"
 
 
 def parser_of() -> Arguments:
@@ -50,6 +58,7 @@ def parser_of() -> Arguments:
         help="exact states in place of levels (they are known only at their own rows)",
     )
     parser.add_argument("--events", action="store_true", help="a last column with the branches that fired")
+    add_all_values_option(parser)
     add_certificate_option(parser)
     parser.add_argument("--format", choices=("csv", "vcd"), help="default: by the name of the output, else csv")
     parser.add_argument(
@@ -65,8 +74,10 @@ def tool(arguments: Sequence[str]) -> int:
     run = run_of(args)
     unit = args.unit or time_unit(Source(args.source, read_bytes(args.source)))
     args.unit = unit if unit in SECONDS else "s"
-    form = args.format or ("vcd" if args.output and args.output.lower().endswith(".vcd") else "csv")
-    window = window_of(args, run)
+    form = args.form = args.format or form_of(args.output)
+    window_of(args, run)
+    if args.every is not None:
+        step_of(args.every, run)
     chosen(run, args.names)
     bounds = certified(args, run)
     if bounds and form == "vcd":
@@ -75,14 +86,10 @@ def tool(arguments: Sequence[str]) -> int:
     with lines_of(args, run) as (lines, name), Output(args.output) as output:
         columns = columns_of(run, args.names, args.states)
         rows = Rows(run, lines, name, may_be_cut=True)
-        states = None
-        if form == "vcd":
-            writer: Union[Vcd, Wide] = Vcd(output, run, columns, args)
+        if form == "csv" and bounds is None and run.order == 1 and load() is not None:
+            overflowed = write_arrays(output, rows, columns, args)
         else:
-            states = States(bounds, name) if bounds else None
-            kind = Wide if args.every is None else Sampled
-            writer = kind(output, run, columns, args, bound_columns(bounds, states, columns))
-        overflowed = follow(Window(writer, *window) if args.begin or args.end else writer, rows, columns, states)
+            overflowed = write_rows(output, rows, columns, args, bounds)
     if overflowed:
         print("qss-table: %s" % overflow_text(overflowed, run), file=sys.stderr)
     if rows.cut:
@@ -90,9 +97,58 @@ def tool(arguments: Sequence[str]) -> int:
     return WARNED if overflowed or rows.cut else FINE
 
 
+def write_arrays(
+    output: Output, rows: Rows, columns: Sequence[AnyColumn], args: argparse.Namespace
+) -> Optional[Tuple[int, str]]:
+    """Writes the lines of CSV from arrays; the tick and the name of an overflow, or None."""
+    from .bulk_table import Choice, Table
+
+    begin, end = window_of(args, rows.run)
+    every = None if args.every is None else step_of(args.every, rows.run)
+    choice = Choice(every, begin if args.begin else None, end if args.end else None, args.events, args.all_values)
+    table = Table(rows, columns, choice)
+    table.write(output)
+    return table.overflow
+
+
+def write_rows(
+    output: Output, rows: Rows, columns: Sequence[AnyColumn], args: argparse.Namespace, bounds: Optional[Certified]
+) -> Optional[Tuple[int, str]]:
+    """Writes row by row; the tick and the name of an overflow, or None."""
+    run, states = rows.run, None
+    if args.form == "vcd":
+        writer: Union[Vcd, Wide] = Vcd(output, run, columns, args)
+    else:
+        states = States(bounds, rows.name) if bounds else None
+        kind = Wide if args.every is None else Sampled
+        writer = kind(output, run, columns, args, bound_columns(bounds, states, columns))
+    cut = Window(writer, *window_of(args, run)) if args.begin or args.end else writer
+    return follow(cut, rows, columns, states, args.all_values)
+
+
+def step_of(text: str, run: Run) -> Fraction:
+    """The step of --every: at least a tick."""
+    step = fraction(text, "--every")
+    if step <= 0:
+        raise Fault("--every: '%s' is not above 0" % text)
+    if step * 2**run.units.time < 1:
+        raise Fault("--every: '%s' is below a tick, which is %s" % (text, exact(1, run.units.time)))
+    return step
+
+
 def overflow_text(overflowed: Tuple[int, str], run: Run) -> str:
     tick, name = overflowed
     return "the run overflowed: %s at tick %d (time %s)" % (name, tick, exact(tick, run.units.time))
+
+
+def form_of(path: Optional[str]) -> str:
+    """The format of a file, by the end of its name."""
+    if path is None:
+        return "csv"
+    end = os.path.splitext(path)[1].lower()
+    if end not in FORMS:
+        raise Fault("%s: a table is %s (--format names the format of a file with another end)" % (path, FORMS_TEXT))
+    return FORMS[end]
 
 
 def window_of(args: argparse.Namespace, run: Run) -> Tuple[Fraction, Fraction]:
@@ -117,7 +173,11 @@ def bound_columns(
 
 
 def follow(
-    writer: "Writer", rows: Rows, columns: Sequence[AnyColumn], states: Optional[States] = None
+    writer: "Writer",
+    rows: Rows,
+    columns: Sequence[AnyColumn],
+    states: Optional[States] = None,
+    all_values: bool = True,
 ) -> Optional[Tuple[int, str]]:
     """Gives all rows to a writer, tick by tick; the tick and the name of an overflow, or None."""
     watch = Watch(columns)
@@ -125,7 +185,8 @@ def follow(
     events: List[str] = []
     tick, overflowed = 0, None
     started = False
-    for at, event, variable, level, state in rows:
+    some: Iterable[Row] = iter(rows) if all_values else steady_rows(rows.run, rows)
+    for at, event, variable, level, state in some:
         if not started and event not in ("start", "slope"):
             started = True
             watch.check_started(rows.name)
@@ -230,9 +291,7 @@ class Sampled(Wide):
         bounds: Sequence[Bound] = (),
     ):
         super().__init__(output, run, columns, args, bounds)
-        self.step = fraction(args.every, "--every")
-        if self.step <= 0:
-            raise Fault("--every: '%s' is not above 0" % args.every)
+        self.step = step_of(args.every, run)
         self.ticks = self.step * 2**self.bits
         if bounds and self.ticks.denominator != 1:
             raise Fault("--every: with --certificate the step is a whole number of ticks, and %s is not" % args.every)
@@ -321,7 +380,7 @@ def branch_labels(flat: Flat) -> List[str]:
 
 def main(arguments: Optional[Sequence[str]] = None) -> int:
     """Runs the tool and returns its status."""
-    return run_tool("qss-table", tool, arguments)
+    return run_tool("qss-table", tool, arguments, numeric=True)
 
 
 if __name__ == "__main__":

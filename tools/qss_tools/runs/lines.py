@@ -1,0 +1,262 @@
+"""Trajectories as arrays of numpy, from the rows of a run: exact, as those of the module trajectories."""
+from fractions import Fraction
+from typing import Any, Callable, Dict, List, Mapping, Optional, Sequence, Tuple
+
+from ..arrays import load
+from .bulk import END, LEVEL, REINIT, SET, Record, record_of
+from .machines import Machine, nearest
+from .rows import Rows, Run
+from .series import Series, changes_of, overflow_of, steady
+from .trajectories import Combination, Exact, SlopeRow, Trajectory, machine_of, off_trajectory
+from .wide import Array, Wide
+
+np = load()
+
+
+class ArrayTrajectory(Trajectory):
+    """A trajectory whose ticks, values and slopes are arrays."""
+
+    __slots__ = ("ticks", "starts", "rises", "_lists", "_pieces")
+
+    def __init__(
+        self,
+        name: str,
+        units: Tuple[Fraction, Fraction, Optional[Fraction]],
+        arrays: Tuple[Array, Wide, Wide],
+        last: int,
+    ) -> None:
+        self.name, self.last = name, last
+        self.unit, self.tick, self.quantum = units
+        self.ticks, self.starts, self.rises = arrays
+        self._lists: Dict[str, List[int]] = {}
+        self._pieces: Optional[Tuple[Array, Wide, Wide]] = None
+
+    def _list(self, name: str, made: Callable[[], List[int]]) -> List[int]:
+        if name not in self._lists:
+            self._lists[name] = made()
+        return self._lists[name]
+
+    @property  # type: ignore[override]
+    def times(self) -> List[int]:
+        return self._list("times", self.ticks.tolist)
+
+    @property  # type: ignore[override]
+    def values(self) -> List[int]:
+        return self._list("values", self.starts.numbers)
+
+    @property  # type: ignore[override]
+    def slopes(self) -> List[int]:
+        return self._list("slopes", self.rises.numbers)
+
+    def place(self, time: Exact) -> int:
+        """The place of the piece that holds at a time in ticks."""
+        return max(int(np.searchsorted(self.ticks, int(time // 1), "right")) - 1, 0)
+
+    def slope_at(self, time: Exact) -> int:
+        return self.rises.number(self.place(time))
+
+    def at(self, time: Exact) -> Exact:
+        place = self.place(time)
+        return self.starts.number(place) + self.rises.number(place) * (time - int(self.ticks[place]))
+
+    def whole_pieces(self) -> Tuple[Array, Wide, Wide]:
+        """Of all pieces but the last: lengths in ticks, by how much the value changes, and the value at the end."""
+        if self._pieces is None:
+            lengths = np.diff(self.ticks)
+            moves = self.rises[:-1] * Wide([lengths])
+            self._pieces = lengths, moves, self.starts[:-1] + moves
+        return self._pieces
+
+    def sampled(self, times: Array) -> Array:
+        """The values at times of the model's unit, as floats."""
+        ticks = times / float(self.tick)
+        places = np.maximum(np.searchsorted(self.ticks, ticks, "right") - 1, 0)
+        found = self.starts[places].floats() + self.rises[places].floats() * (ticks - self.ticks[places])
+        return found * float(self.unit)
+
+
+class Follower:
+    """The trajectories of states and discrete variables, from rows as arrays."""
+
+    def __init__(self, run: Run, record: Record, name: str) -> None:
+        self.run, self.record, self.name = run, record, name
+        self.machine = machine_of(run)
+        self.levels = [self.machine.level_below(start) for start in self.machine.starts] + list(self.machine.values)
+        overflow = overflow_of(record, run)
+        self.last = max(overflow[0] - 1, 0) if overflow else int(record.ticks[-1])
+
+    def line(self, number: int, all_values: bool) -> ArrayTrajectory:
+        """The trajectory of a state or of a discrete variable."""
+        run = self.run
+        is_state = number < run.flat.states
+        unit = Fraction(1, 2 ** (run.units.state if is_state else run.units.level))
+        one = run.flat.variables[number]
+        units = unit, Fraction(1, 2**run.units.time), one.quantum if is_state else None
+        arrays = self.state(number) if is_state else self.discrete(number, all_values)
+        inside = arrays[0] <= self.last
+        if not inside.all():
+            arrays = arrays[0][inside], arrays[1][inside], arrays[2][inside]
+        return ArrayTrajectory(one.name, units, arrays, self.last)
+
+    def discrete(self, number: int, all_values: bool) -> Tuple[Array, Wide, Wide]:
+        record = self.record
+        places = np.flatnonzero((record.names == number) & (record.kinds == SET))
+        ticks = np.append([0], record.ticks[places])
+        values = np.append([self.levels[number]], record.levels[places])
+        last = np.append(ticks[1:] != ticks[:-1], True)
+        series = changes_of(Series(ticks[last], Wide([values[last]])))
+        if not all_values:
+            series = steady(series)
+        return series.ticks, series.values, Wide([np.zeros(len(series.ticks), dtype=np.int64)])
+
+    def state(self, number: int) -> Tuple[Array, Wide, Wide]:
+        """Ticks, values and slopes of a state. Each own row of the state is compared with them."""
+        record, machine = self.record, self.machine
+        row = SlopeRow(machine, machine.rows[number])
+        events = Events(record, row.reads(), number, self.levels)
+        slopes = events.slopes(row, machine)
+        ticks = events.ticks
+        # (the first event is the start)
+        moves = slopes[:-1] * Wide([np.diff(ticks)])
+        start = Wide.of([machine.starts[number]])
+        sums = (start + moves.summed()) if len(moves) else Wide([np.zeros(0, dtype=np.int64)])
+        before = joined([start, sums])
+        jumped = events.is_own & (events.kinds == REINIT)
+        values = before
+        if jumped.any():
+            values, before = events.with_jumps(before, jumped)
+        self.check(events, before, number)
+        changed = jumped
+        for part in slopes.parts:
+            changed[1:] |= part[1:] != part[:-1]
+        changed[0] = True
+        # the last event of each tick, if one of its events changes the slope or the value
+        ends = np.append(ticks[1:] != ticks[:-1], True)
+        groups = np.cumsum(np.append([0], ends[:-1]))
+        any_changed = np.bincount(groups, weights=changed, minlength=int(groups[-1]) + 1) > 0
+        kept = np.flatnonzero(ends)[any_changed]
+        return ticks[kept], values[kept].joined(), slopes[kept].joined()
+
+    def check(self, events: "Events", before: Wide, number: int) -> None:
+        """Each state that a row states is on its trajectory."""
+        own = np.flatnonzero(events.is_own & ((events.kinds == LEVEL) | (events.kinds == END)))
+        assert events.states is not None
+        wrong = ~before[own].equals(events.states[own])
+        if wrong.any():
+            tick = int(events.ticks[own[np.flatnonzero(wrong)[0]]])
+            raise off_trajectory(self.run, self.name, tick, self.run.flat.variables[number].name)
+
+
+def joined(some: Sequence[Wide]) -> Wide:
+    from .wide import joined_all
+
+    return joined_all(some)
+
+
+class Events:
+    """The rows that change the slope of a state, and its own ones, after a first event for the start."""
+
+    def __init__(self, record: Record, reads: Any, number: int, levels: Sequence[int]) -> None:
+        is_read = np.zeros(len(levels) + 1, dtype=bool)
+        is_read[list(reads)] = True
+        kinds, names = record.kinds, record.names
+        is_level = (kinds == LEVEL) | (kinds == SET)
+        is_own = (names == number) & ((kinds == REINIT) | (kinds == END) | (kinds == LEVEL))
+        safe = np.where(is_level, names, -1)
+        places = np.flatnonzero((is_level & is_read[safe]) | is_own)
+        self.ticks = np.append([0], record.ticks[places])
+        self.kinds = np.append(np.array([255], dtype=np.uint8), kinds[places])
+        self.names = np.append([-1], names[places])
+        self.is_level = np.append([False], is_level[places])
+        self.is_own = np.append([False], is_own[places])
+        self.levels = np.append([0], record.levels[places])
+        assert record.states is not None
+        self.states = joined([Wide([np.zeros(1, dtype=np.int64)]), record.states[places]])
+        self.first = levels
+
+    def filled(self, number: int) -> Array:
+        """The level of a variable after each event."""
+        places = np.flatnonzero((self.names == number) & self.is_level)
+        counts = np.diff(np.concatenate([[0], places, [len(self.ticks)]]))
+        return np.repeat(np.append([self.first[number]], self.levels[places]), counts)
+
+    def slopes(self, row: SlopeRow, machine: Machine) -> Wide:
+        """The slope after each event."""
+        gains = dict(row.row.states)
+        switched = sorted({state for _, state, _ in row.row.products})
+        fixed = [(state, gain) for state, gain in gains.items() if state not in switched]
+        fixed += [(machine.states + place, gain) for place, gain in row.row.discretes]
+        total = Wide([np.zeros(len(self.ticks), dtype=np.int64)]) + row.row.constant
+        for number, gain in fixed:
+            total = total + Wide([self.filled(number)]) * gain
+        for state in switched:
+            gain_of = self.switched_gain(row, machine, state, gains.get(state, 0))
+            total = total + Wide([self.filled(state)]) * Wide([gain_of])
+        return total.trimmed()
+
+    def switched_gain(self, row: SlopeRow, machine: Machine, state: int, base: int) -> Array:
+        """The mode coefficient of a state after each event."""
+        terms = [(discrete, weight) for discrete, one, weight in row.row.products if one == state]
+        which, values = np.zeros(len(self.ticks), dtype=np.int64), []
+        for discrete, _ in terms:
+            known, places = np.unique(self.filled(machine.states + discrete), return_inverse=True)
+            values.append(known.tolist())
+            which = which * len(known) + places
+        some, places = np.unique(which, return_inverse=True)
+        found = []
+        for code in some.tolist():
+            sum_of = 0
+            for known, (_, weight) in zip(reversed(values), reversed(terms)):
+                code, place = divmod(code, len(known))
+                sum_of += weight * known[place]
+            found.append(base + nearest(sum_of, 2**machine.level_bits))
+        return np.array(found, dtype=np.int64)[places]
+
+    def with_jumps(self, before: Wide, jumped: Array) -> Tuple[Wide, Wide]:
+        """The values after each event, and just before it, where the state is set at some events."""
+        places = np.flatnonzero(jumped)
+        counts = np.diff(np.concatenate([[0], places, [len(self.ticks)]]))
+        shifts = self.states[places] - before[places]
+        after = joined([Wide([np.zeros(1, dtype=np.int64)]), shifts])
+        earlier = np.diff(np.concatenate([[0], places + 1, [len(self.ticks)]]))
+        return before + after.repeated(counts), before + after.repeated(earlier)
+
+
+def sum_of_lines(run: Run, one: Combination, lines: Mapping[int, ArrayTrajectory], tick: Fraction) -> ArrayTrajectory:
+    """The trajectory of an algebraic variable, from those of its states and discrete variables."""
+    from .series import merged
+
+    needed = {number: lines[number] for number in sorted(one.needs())}
+    ticks = merged([np.zeros(1, dtype=np.int64)] + [line.ticks for line in needed.values()])
+    values, after = {}, {}
+    for number, line in needed.items():
+        places = np.maximum(np.searchsorted(line.ticks, ticks, "right") - 1, 0)
+        rises = line.rises[places]
+        values[number] = line.starts[places] + rises * Wide([ticks - line.ticks[places]])
+        after[number] = values[number] + rises
+    none = Wide([np.zeros(len(ticks), dtype=np.int64)])
+    starts = (none + one.total(values)).trimmed()
+    rises = ((none + one.total(after)) - starts).trimmed()
+    last = min((line.last for line in needed.values()), default=run.last)
+    return ArrayTrajectory(one.name, (one.unit, tick, None), (ticks, starts, rises), last)
+
+
+def array_trajectories(
+    run: Run, rows: Rows, numbers: Sequence[int], sums: Mapping[int, Combination], all_values: bool
+) -> Tuple[List[Trajectory], Optional[Tuple[int, str]]]:
+    """The trajectories of these variables, and the tick and the name of an overflow or None."""
+    states = {number for number in numbers if number not in sums}.union(*(one.needs() for one in sums.values()))
+    machine = machine_of(run)
+    wanted = set(states)
+    for number in states:
+        if number < machine.states:
+            wanted |= SlopeRow(machine, machine.rows[number]).reads()
+    record = record_of(rows, wanted, True)
+    follower = Follower(run, record, rows.name)
+    lines = {number: follower.line(number, all_values) for number in sorted(states)}
+    tick = Fraction(1, 2**run.units.time)
+    found: Dict[int, ArrayTrajectory] = dict(lines)
+    for number, one in sums.items():
+        found[number] = sum_of_lines(run, one, lines, tick)
+        found[number].last = follower.last
+    return [found[number] for number in numbers], overflow_of(record, run)
