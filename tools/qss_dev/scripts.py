@@ -19,5 +19,6 @@ SCRIPTS: Dict[str, str] = {
     "run-tutorial": "qss_dev.tutorial",
     "seed-calls": "qss_dev.seed_calls",
     "stack-use": "qss_dev.stack_use",
+    "tool-times": "qss_dev.tool_times",
     "try-mutants": "qss_dev.mutants",
 }

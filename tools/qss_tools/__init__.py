@@ -3,19 +3,26 @@
   import qss_tools as qss
   run = qss.run("examples/rc.mo", set={"R": 10})
   run.frame(), run.measure("rise(v)"), run.plot()
+  qss.advise("examples/rc.mo"), qss.explain(..), qss.accuracy(..), qss.certificate(..)
 
-The tools need only Python's standard library. Frames need pandas. Pictures use matplotlib or plotly if they are
-installed.
+The tools need only Python's standard library. With numpy they read and draw long runs faster. Frames need pandas.
+Pictures use matplotlib or plotly if they are installed.
 """
 import os
-from typing import TYPE_CHECKING, Any, Iterable, Mapping, Optional, Union
+from typing import TYPE_CHECKING, Any, Iterable, List, Mapping, Optional, Union
 
 from .fault import Fault
 
 if TYPE_CHECKING:
     from .simulation import Simulation
+    from .studies import Accuracy, Advice, Certificate, Remark
 
-__all__ = ["Fault", "run", "sweep"]
+__all__ = ["Fault", "accuracy", "advise", "certificate", "explain", "run", "sweep"]
+
+
+def __dir__() -> List[str]:
+    """What is public."""
+    return sorted(__all__)
 
 
 def run(
@@ -25,13 +32,46 @@ def run(
     relative: Optional[int] = None,
     rows: "Union[str, os.PathLike[str], None]" = None,
     program: Optional[str] = None,
+    order: int = 1,
 ) -> "Simulation":
     """Runs a model, with other values for parameters, settings and starts by name, or takes the rows of a file: a
-    Simulation. A model that is refused raises a Fault.
+    Simulation. With `order=2` the run is that of `qss run2`. A model that is refused raises a Fault.
     """
     from .simulation import Simulation
 
-    return Simulation(model, set, rule, relative, rows, program)
+    return Simulation(model, set, rule, relative, rows, program, order)
+
+
+def advise(model: "Union[str, os.PathLike[str]]", program: Optional[str] = None) -> "Advice":
+    """What spoils runs of a model, and settings that fit."""
+    from .studies import advise as advised
+
+    return advised(model, program)
+
+
+def explain(
+    model: "Union[str, os.PathLike[str]]", line: Optional[str] = None, program: Optional[str] = None
+) -> "Optional[Remark]":
+    """Why the program refuses a model, with the place and suggested fixes, or None if it runs."""
+    from .studies import explain as explained
+
+    return explained(model, line, program)
+
+
+def accuracy(model: "Union[str, os.PathLike[str]]", program: Optional[str] = None) -> "Accuracy":
+    """How near a run of a model comes to its solution in floating point (numpy and scipy)."""
+    from .studies import accuracy as measured
+
+    return measured(model, program)
+
+
+def certificate(
+    model: "Union[str, os.PathLike[str]]", state: Optional[str] = None, program: Optional[str] = None
+) -> "Certificate":
+    """A certificate of a model that the program accepts. A model without one raises a Fault."""
+    from .studies import certificate as found
+
+    return found(model, state, program)
 
 
 def sweep(

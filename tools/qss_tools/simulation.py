@@ -5,6 +5,7 @@ installed.
 """
 import argparse
 import contextlib
+import html
 import io
 import os
 import shutil
@@ -47,7 +48,12 @@ class Simulation:
         relative: Optional[int] = None,
         rows: Optional[FilePath] = None,
         program: Optional[str] = None,
+        order: int = 1,
     ) -> None:
+        if order not in (1, 2):
+            raise Fault("order: 1 or 2")
+        if order == 2 and (rule or relative is not None):
+            raise Fault("a run of second order has no rule and no relative quantum")
         self.model, self.values = os.fspath(model), dict(set or {})
         self.program = find_program(program)
         self._folder = tempfile.mkdtemp(prefix="qss-")
@@ -58,15 +64,15 @@ class Simulation:
             self.path = write_changed(self.model, self.program, self.values, self._folder)
         try:
             self.run = Run(self.path, self.program)
-            self.rows = self._run(rule, relative) if rows is None else os.fspath(rows)
+            self.rows = self._run(rule, relative, order) if rows is None else os.fspath(rows)
         except Fault as fault:
             raise Fault(str(fault).replace(self.path, label)) from fault
         self.overflow = self._overflow()
         self._known: Dict[Tuple[int, bool], Trajectory] = {}
 
-    def _run(self, rule: Optional[str], relative: Optional[int]) -> str:
+    def _run(self, rule: Optional[str], relative: Optional[int], order: int) -> str:
         """Runs the model into a file."""
-        words = ["run", self.path] + (["--rule", rule] if rule else [])
+        words = ["run2" if order == 2 else "run", self.path] + (["--rule", rule] if rule else [])
         words += ["--relative", str(relative)] if relative is not None else []
         path = os.path.join(self._folder, "rows.csv")
         with open(path, "wb") as file:
@@ -214,6 +220,16 @@ class Simulation:
             return None
         with open(path, encoding="utf-8") as kept:
             return Picture(kept.read())
+
+
+    def _repr_html_(self) -> str:
+        """The plot of the run, which a notebook shows."""
+        try:
+            picture = self.plot(plain=True)
+        except Fault as fault:
+            return "<pre>%s</pre>" % html.escape(str(fault))
+        assert picture is not None
+        return picture.text
 
 
 class Signal:
