@@ -11,18 +11,18 @@ from qss_tools.fault import FINE, WARNED, Arguments, Fault, run_tool
 from qss_tools.model.changes import assignments, write_changed
 from qss_tools.program import ROOT, add_program_option, find_program
 
-ABOUT = """How long pictures, tables, frames and measures of a run of a million rows take, beside the program that prints
-these rows and `pandas.read_csv` that reads them.
+ABOUT = """How long pictures, tables, frames and measures of a run of a million rows take, beside the program that
+prints these rows and `pandas.read_csv` that reads them.
 
   tools/tool-times                 the least of three measurements, each in a process of its own
   tools/tool-times --repeat 5      of five
   tools/tool-times --check         status 1 if one takes longer than it may on an idle machine
 
-Seconds are those of a clock, and of processors (user and system). On a busy machine only the latter tell something.
+Seconds are those of a clock, and of processors (user and system). On a busy machine the former are too large.
 Status: 0 all was measured, 1 with --check: a time is too long, 2 a fault."""
 
 MODEL = os.path.join(ROOT, "examples", "buck_ccm.mo")
-VALUES = ("QSS_TickBits=8", "QSS_Quantum=1/4096")  # so that the run has a million rows
+VALUES = ("QSS_TickBits=8", "QSS_Quantum=1/2048")  # so that the run has a million rows
 MEASURES = "mean(iL) rms(iL) min(iL) max(iL) ripple(uC) final(uC) at(uC,t=3000) period(s) duty(s) integral(uC)"
 SWEEP = ("--set", "R=10:16:2", "--measure", "mean(uC) ripple(iL)", "--jobs", "1")
 # What runs in a process of its own, by Python: it prints its seconds.
@@ -104,7 +104,9 @@ class Measured:
     def script(self, name: str) -> List[str]:
         """The words that run a tool on the model."""
         words = [sys.executable, os.path.join(ROOT, "tools", name), self.model]
-        return words + (["--program", self.program] if name == "qss-sweep" else ["--no-advice", "--program", self.program])
+        return words + (
+            ["--program", self.program] if name == "qss-sweep" else ["--no-advice", "--program", self.program]
+        )
 
     def by_program(self) -> Time:
         return self.called([self.program, "run", self.model])

@@ -23,8 +23,9 @@ from .plot.differences import Difference
 from .program import OVERFLOWED, canonical_text, find_program
 from .runs.columns import chosen, columns_of
 from .runs.measures import Request, measured, requests
+from .runs.quadratics import check_name, lines_of_names, value_of
 from .runs.rows import Rows, Run, exact, lines_of
-from .runs.trajectories import Trajectory, trajectories
+from .runs.trajectories import Combination, Trajectory, trajectories
 from .sweeps.clusters import by_dask, by_processes, processors
 from .sweeps.grids import MOST_POINTS, Points
 from .sweeps.jobs import Job
@@ -171,12 +172,14 @@ class Simulation:
             numbers = [number_of(self.run, name) for name in ([names] if isinstance(names, str) else names)]
         return [Signal(line) for line in self._trajectories(numbers, all_values)]
 
-    def _trajectories(self, numbers: Sequence[int], all_values: bool) -> List[Trajectory]:
-        """The trajectories of variables, each computed once."""
-        missing = [number for number in numbers if (number, all_values) not in self._known]
+    def _trajectories(
+        self, numbers: Sequence[int], all_values: bool, sums: Optional[Mapping[int, Combination]] = None
+    ) -> List[Trajectory]:
+        """The trajectories of variables, each computed once, and those of sums, whose numbers are below 0."""
+        missing = [number for number in numbers if number < 0 or (number, all_values) not in self._known]
         if missing:
             with self._lines() as (lines, name):
-                found, _ = trajectories(self.run, Rows(self.run, lines, name), missing, all_values)
+                found, _ = trajectories(self.run, Rows(self.run, lines, name), missing, all_values, sums)
             self._known.update(((number, all_values), line) for number, line in zip(missing, found))
         return [self._known[number, all_values] for number in numbers]
 
@@ -184,8 +187,12 @@ class Simulation:
         """The value of a measure, as 'mean(iL)', or a dictionary of those of several."""
         asked = requests(text)
         names = list(dict.fromkeys(one.variable for one in asked))
-        found = dict(zip(names, self._trajectories([number_of(self.run, name) for name in names], all_values)))
-        values = {one.text: float(measured(one, found[one.variable])) for one in asked}
+
+        def compute(numbers: List[int], sums: Dict[int, Combination]) -> List[Trajectory]:
+            return self._trajectories(numbers, all_values, sums)
+
+        found = lines_of_names(self.run, names, compute, number_of)
+        values = {one.text: float(value_of(one, found[one.variable])) for one in asked}
         return values if len(asked) > 1 else values[asked[0].text]
 
     def difference(self, other: "Simulation", names: Optional[Names] = None) -> List[Difference]:
@@ -220,7 +227,6 @@ class Simulation:
             return None
         with open(path, encoding="utf-8") as kept:
             return Picture(kept.read())
-
 
     def _repr_html_(self) -> str:
         """The plot of the run, which a notebook shows."""
@@ -323,7 +329,7 @@ def sweep(model: FilePath, measure: Union[str, Iterable[str]], set: Mapping[str,
     asked, text = requests(texts), canonical_text(program, model)
     run = Run(model, program)
     for one in asked:
-        number_of(run, one.variable)
+        check_name(run, one.variable, number_of)
     words = ["%s=%s" % (name, values_text(values)) for name, values in set.items()]
     points = Points(words, how.samples, how.seed)
     rows = list(points)

@@ -13,7 +13,7 @@ FilePath = Union[str, "os.PathLike[str]"]
 
 @dataclass(frozen=True)
 class Remark:
-    """A sentence about a place of a model, from 1 on, and suggested fixes. Without a place it is about the whole file."""
+    """A sentence about a line and a column of a model, or about the whole file, and suggested fixes."""
 
     sentence: str
     fixes: Tuple[str, ...] = ()
@@ -52,8 +52,8 @@ class Advice:
 
 @dataclass(frozen=True)
 class Accuracy:
-    """How near a run comes to its solution: the worst state, its greatest difference, also in quanta and as a percentage
-    of its size, and how many branches fired in the run and in the solution.
+    """How near a run comes to its solution: the worst state, its greatest difference, also in quanta and as a
+    percentage of its size, and how many branches fired in the run and in the solution.
     """
 
     model: str
@@ -69,8 +69,8 @@ class Accuracy:
 
 @dataclass(frozen=True)
 class Certificate:
-    """A certificate that `qss certify` accepts: for each state the bound E on the difference of two runs, in the model's
-    unit, and how many times the lower bound it is.
+    """A certificate that `qss certify` accepts: for each state the bound E on the difference of two runs, in the
+    model's unit, and how many times the lower bound it is.
     """
 
     model: str
@@ -134,7 +134,14 @@ def accuracy(model: FilePath, program: Optional[str] = None) -> Accuracy:
     counts: Sequence[Optional[int]] = (None, None) if fired is None else (fired.here, fired.there)
     worst = found.worst
     return Accuracy(
-        found.model, found.rows, found.seconds, worst.name, float(worst.difference), float(worst.quanta), worst.share, *counts
+        found.model,
+        found.rows,
+        found.seconds,
+        worst.name,
+        float(worst.difference),
+        float(worst.quanta),
+        worst.share,
+        *counts,
     )
 
 

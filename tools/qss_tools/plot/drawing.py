@@ -10,7 +10,8 @@ from ..model.flat import ALGEBRAIC, Variable
 from ..model.source import Source
 from ..model.units import axis_label, variable_units
 from ..numeric.trial import time_like
-from ..runs.columns import AnyColumn, chosen, columns_of
+from ..runs.columns import AnyColumn, columns_of
+from ..runs.expressions import split_outside
 from ..runs.rows import Run, fraction, run_of
 from .curves import Curve, Marks, Path
 
@@ -42,7 +43,7 @@ class Drawing:
             raise Fault("there is nothing to draw from %s to %s" % (float(self.begin), float(self.end)))
         self.labels = self.panel_names(self.run)
         for part in self.parts():
-            chosen(self.run, part)
+            columns_of(self.run, part)
         self.panels: List[Tuple[str, List[Tuple[Curve, bool]]]] = [(label, []) for label in self.labels]
         self.marks: Optional[Marks] = None
         self.paths: List[Path] = []
@@ -56,7 +57,7 @@ class Drawing:
     def panel_names(self, run: Run) -> List[str]:
         """The panels' patterns."""
         if self.args.names:
-            return [name.strip() for name in self.args.names.split(",")]
+            return split_outside(self.args.names, ",")
         plain: List[str] = []
         for one in run.flat.variables[: run.flat.states + run.flat.discretes]:
             if one.declaration.name not in plain and not is_clock(run, one):
@@ -65,7 +66,7 @@ class Drawing:
 
     def parts(self) -> List[str]:
         """The patterns in all panels."""
-        return [part.strip() for label in self.labels for part in label.split("+")]
+        return [part for label in self.labels for part in split_outside(label, "+")]
 
     def ticks(self, run: Run) -> Tuple[float, float]:
         """The first and the last tick that is drawn."""
@@ -77,8 +78,8 @@ class Drawing:
         columns: List[AnyColumn] = []
         curves: List[Curve] = []
         for label, found in self.panels:
-            for part in label.split("+"):
-                for column in columns_of(run, part.strip(), self.args.states):
+            for part in split_outside(label, "+"):
+                for column in columns_of(run, part, self.args.states):
                     name = column.name + (" (second)" if second else "")
                     curve = Curve(name, self.width, *self.ticks(run))
                     columns.append(column)
@@ -102,7 +103,7 @@ class Drawing:
 
     def with_unit(self, label: str, curves: Sequence[Tuple[Curve, bool]]) -> str:
         """A label with the unit of its variables. If they have several, each curve gets its own."""
-        parts = [part.strip() for part in label.split("+")]
+        parts = split_outside(label, "+")
         units = {self.unit_of(part) for part in parts}
         if len(label) * LETTER > self.height:
             parts = list(dict.fromkeys(part.split("[")[0] for part in parts))

@@ -12,7 +12,7 @@ from ..certificates.band import States, Tube, add_certificate_option
 from ..fault import FINE, WARNED, Arguments, Fault, run_tool
 from ..output import Output
 from ..program import RULES
-from ..runs.columns import AnyColumn, Column, Watch, chosen, columns_of
+from ..runs.columns import AnyColumn, Column, Watch, columns_of
 from ..runs.rows import Row, Rows, Run, add_run_options, lines_of
 from ..runs.steady import add_all_values_option, steady_rows
 from ..tables.table import overflow_text
@@ -53,7 +53,8 @@ def parser_of() -> Arguments:
     parser.add_argument(
         "--names",
         metavar="LIST",
-        help="panels, with commas between them: names, arrays, u[2:5], patterns with *, joined by +",
+        help="panels, with commas between them: names, arrays, u[2:5], patterns with *, expressions, as uC*iL or"
+        " (u1 + u2), joined by +",
     )
     parser.add_argument("--against", metavar="NAME", help="draw the names against this variable in place of time")
     parser.add_argument("--events", action="store_true", help="mark where branches fire")
@@ -116,7 +117,7 @@ class Plot(Drawing):
         if args.against and self.kind != "svg":
             raise Fault("--against draws only .svg")
         if self.kind == "html":
-            self.width = page_columns(sum(len(chosen(self.run, part)) for part in self.parts()))
+            self.width = page_columns(sum(len(columns_of(self.run, part)) for part in self.parts()))
         if args.output is None and not is_replaceable(path):
             raise Fault(f"{path}: this file is there, and qss-plot did not draw it; -o names another one")
 

@@ -3,15 +3,19 @@ import difflib
 import fnmatch
 import re
 from fractions import Fraction
+from math import prod
 from typing import Dict, List, NamedTuple, Optional, Sequence, Set, Tuple, Union
 
 from ..fault import Fault
 from ..model.flat import ALGEBRAIC, DISCRETE, STATE, Flat, Meaningless
 from ..model.spelling import decimal_text
+from .expressions import is_expression, level_terms, split_outside
 from .rows import Run, exact
 
 RANGE = re.compile(r"^(\w+)\[(\d+):(\d+)\]$")
 SIGNIFICANT = "%.15g"
+
+Term = Tuple[int, Tuple[str, ...]]  # a weight, and the names of a product
 
 
 def chosen(run: Run, patterns: Optional[str]) -> List[int]:
@@ -82,6 +86,10 @@ class Column:
             self.whole = self.line.at(tick)
         return self.line.change != 0
 
+    def is_new(self) -> bool:
+        """Whether the value is another one, if a row changed it."""
+        return True
+
     def text(self) -> str:
         assert self.whole is not None
         return exact(self.whole, self.bits)
@@ -114,18 +122,22 @@ class Algebraic:
             raise Fault("%s: %s" % (run.model, error.reason)) from error
         bits = run.units.level
         below = form.denominator()
-        self.terms = []
+        terms: List[Term] = []
         for key, value in form.parts.items():
             weight = int(value * below)
             if key[0] == "product":
-                self.terms.append((weight, flat.variables[key[1]].name, flat.variables[key[2]].name))
+                terms.append((weight, (flat.variables[key[1]].name, flat.variables[key[2]].name)))
             else:
-                self.terms.append((weight << bits, flat.variables[key[1]].name, None))
-        self.constant = int(form.constant * below) << (2 * bits)
-        self.below = below << (2 * bits)
-        self.needs = tuple({name for _, *names in self.terms for name in names if name is not None})
+                terms.append((weight << bits, (flat.variables[key[1]].name,)))
+        self.take_terms(below << (2 * bits), int(form.constant * below) << (2 * bits), terms)
+
+    def take_terms(self, below: int, constant: int, terms: "Sequence[Term]") -> None:
+        """Takes the sum: what its whole numbers are divided by, a constant, and the weights of products of names."""
+        self.below, self.constant, self.terms = below, constant, list(terms)
+        self.needs = tuple({name for _, names in terms for name in names})
         self.values: Dict[str, int] = {}
         self.lines: Dict[str, Line] = {}
+        self.seen: Optional[int] = None
         self.is_discrete = False
 
     def take_line(self, name: str, line: Line) -> None:
@@ -146,9 +158,13 @@ class Algebraic:
 
     def total(self) -> int:
         values = self.values
-        return self.constant + sum(
-            weight * values[one] * (1 if other is None else values[other]) for weight, one, other in self.terms
-        )
+        return self.constant + sum(weight * prod(values[name] for name in names) for weight, names in self.terms)
+
+    def is_new(self) -> bool:
+        """Whether the value is another one than at the last call."""
+        total = self.total()
+        is_new, self.seen = total != self.seen, total
+        return is_new
 
     def text(self) -> str:
         return self.text_of(self.total())
@@ -162,15 +178,33 @@ class Algebraic:
         return self.total() / self.below
 
 
+class Expression(Algebraic):
+    """An expression of variables, computed as an algebraic variable is."""
+
+    def __init__(self, run: Run, text: str):
+        self.name = text
+        self.take_terms(*level_terms(run, text))
+
+
 AnyColumn = Union[Column, Algebraic]
 
 
 def columns_of(run: Run, patterns: Optional[str], states: bool = False) -> List[AnyColumn]:
     """The columns of these patterns."""
-    return [
-        Algebraic(run, number) if run.flat.variables[number].role == ALGEBRAIC else Column(run, number, states)
-        for number in chosen(run, patterns)
-    ]
+    found: List[AnyColumn] = []
+    parts: List[Optional[str]] = [None]
+    if patterns is not None:
+        parts = [*split_outside(patterns, ",")]
+    for part in parts:
+        if part is not None and is_expression(part) and not matching(run.flat, part):
+            found.append(Expression(run, part))
+            continue
+        for number in chosen(run, part):
+            if run.flat.variables[number].name in [column.name for column in found]:
+                continue
+            role = run.flat.variables[number].role
+            found.append(Algebraic(run, number) if role == ALGEBRAIC else Column(run, number, states))
+    return found
 
 
 class Watch:

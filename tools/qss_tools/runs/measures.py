@@ -11,12 +11,13 @@ from fractions import Fraction
 from typing import Any, Dict, Iterable, Iterator, List, Optional, Sequence, Tuple
 
 from ..fault import Fault
+from .expressions import split_outside
 from .trajectories import Exact, Trajectory
 
 Piece = Tuple[Exact, Exact, Exact, Exact]  # the first time, the value there, the last time, the value there
 
 HARMONICS = 40  # of a distortion, as in IEC 61000
-PART = re.compile(r"[\s,;]*([A-Za-z_]\w*)\s*\(([^()]*)\)")
+PART = re.compile(r"[\s,;]*([A-Za-z_]\w*)\s*\(")
 OPTION = re.compile(r"^(\w+)\s*=\s*(\S+)$")
 
 Request = namedtuple("Request", "text name variable options")
@@ -403,13 +404,24 @@ def requests(text: str) -> List[Request]:
     at_place = 0
     while text[at_place:].strip(" \t\r\n,;"):
         match = PART.match(text, at_place)
-        if match is None:
+        end = closing(text, match.end()) if match else None
+        if match is None or end is None:
             raise Fault("'%s' is not a measure: write NAME(VARIABLE), as mean(iL)" % text[at_place:].strip(" \t\r\n,;"))
-        found.append(request(match.group(1), [part.strip() for part in match.group(2).split(",")]))
-        at_place = match.end()
+        found.append(request(match.group(1), split_outside(text[match.end() : end], ",")))
+        at_place = end + 1
     if not found:
         raise Fault("no measure is given (measures: %s)" % ", ".join(MEASURES))
     return found
+
+
+def closing(text: str, begin: int) -> Optional[int]:
+    """The place of the parenthesis that closes what begins here, or None."""
+    depth = 1
+    for place in range(begin, len(text)):
+        depth += (text[place] == "(") - (text[place] == ")")
+        if not depth:
+            return place
+    return None
 
 
 def request(name: str, parts: Sequence[str]) -> Request:

@@ -108,8 +108,11 @@ class Values:
         ticks = merged([one.ticks for one in some.values()])
         filled = {name: one.values[places_of(one, ticks)] for name, one in some.items()}
         total = Wide([np.zeros(len(ticks), dtype=np.int64)]) + column.constant
-        for weight, one, other in column.terms:
-            total = total + (filled[one] if other is None else filled[one] * filled[other]) * weight
+        for weight, names in column.terms:
+            product: Any = weight
+            for name in names:
+                product = filled[name] * product
+            total = total + product
         return changes_of(Series(ticks, total.trimmed()))
 
     def floats(self, column: AnyColumn) -> Tuple[Array, Array]:
@@ -121,8 +124,8 @@ class Values:
         ticks = merged([one.ticks for one in some.values()])
         filled = {name: one.values.floats()[places_of(one, ticks)] for name, one in some.items()}
         total = np.full(len(ticks), column.constant / column.below)
-        for weight, one, other in column.terms:
-            total += weight / column.below * (filled[one] if other is None else filled[one] * filled[other])
+        for weight, names in column.terms:
+            total += weight / column.below * np.prod([filled[name] for name in names], axis=0)
         return ticks, total
 
 

@@ -250,15 +250,23 @@ def off_trajectory(run: Run, rows: str, tick: int, name: str) -> Fault:
 
 
 def trajectories(
-    run: Run, rows: Rows, numbers: Sequence[int], all_values: bool = False
+    run: Run,
+    rows: Rows,
+    numbers: Sequence[int],
+    all_values: bool = False,
+    more: Optional[Mapping[int, Combination]] = None,
 ) -> Tuple[List[Trajectory], Optional[Tuple[int, str]]]:
     """The trajectories of these variables, from the rows of a run, and the tick and the name of an overflow or None. A
-    value of a discrete variable that holds for one tick only is left out (module steady), unless all are asked for.
+    value of a discrete variable that holds for one tick only is left out (module steady), unless all are asked for. The
+    numbers of `more` denote these sums.
     """
     if run.order == 2:
         raise Fault("%s: these are the rows of a run of second order, and a trajectory needs the first" % rows.name)
     flat = run.flat
-    sums = {number: Combination(run, number) for number in numbers if flat.variables[number].role == ALGEBRAIC}
+    sums = dict(more or {})
+    for number in numbers:
+        if number not in sums and flat.variables[number].role == ALGEBRAIC:
+            sums[number] = Combination(run, number)
     if load() is not None:
         from .lines import array_trajectories
 

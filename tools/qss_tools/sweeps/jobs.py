@@ -8,7 +8,8 @@ from typing import Dict, List, NamedTuple, Optional, Sequence, Union
 from ..fault import Fault
 from ..model.changes import changed_text
 from ..model.grammar import SyntaxFault
-from ..runs.measures import measured, requests
+from ..runs.measures import requests
+from ..runs.quadratics import value_of
 from ..runs.rows import Rows, Run, exact, run_lines
 from ..tables.measure import lines_by_name
 
@@ -66,7 +67,7 @@ def outcome(job: Job) -> Outcome:
         status = "overflow: %s at %s" % (overflow[1], exact(overflow[0], run.units.time))
     for one in asked:
         try:
-            values.append(float(measured(one, found[one.variable])))
+            values.append(float(value_of(one, found[one.variable])))
         except Fault as fault:
             values.append(None)
             status = "%s: %s" % (one.text, fault) if status == "ok" else status

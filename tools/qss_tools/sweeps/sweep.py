@@ -15,6 +15,7 @@ from ..model.changes import changed_text
 from ..output import Output
 from ..program import ROOT, add_program_option, canonical_text, find_program
 from ..runs.measures import requests
+from ..runs.quadratics import check_name
 from ..runs.rows import Run
 from ..tables.measure import csv_line, number_of, number_text
 from .clusters import by_dask, by_processes, processors
@@ -80,7 +81,7 @@ class Sweep:
         self.text = canonical_text(self.program, args.model)
         run = Run(args.model, self.program)
         for one in self.asked:
-            number_of(run, one.variable)
+            check_name(run, one.variable, number_of)
         first = next(iter(self.points))
         changed_text(args.model, self.text, dict(zip(self.points.names, first)))  # a name or a value that is wrong
         self.names = self.points.names + [one.text for one in self.asked] + ["status"]

@@ -162,18 +162,23 @@ class Table:
             flat = lines.reshape(-1)
             output.held.write(flat[flat != 0].tobytes())
 
-    def frame(self) -> Any:
-        """The table as a DataFrame of pandas: the index is the time, and each column has floats."""
-        import pandas
-
-        data: Dict[str, Any] = {}
+    def floats(self) -> List[Tuple[str, Array]]:
+        """The name and the values of each column, in the model's units."""
+        found = []
         for column, series in zip(self.columns, self.series):
             numbers = series.values.floats()
             if isinstance(column, Algebraic):
                 numbers = numbers / float(column.below)
             else:
                 numbers = np.ldexp(numbers, -column.bits)
-            data[column.name] = numbers[self.places(series)]
+            found.append((column.name, numbers[self.places(series)]))
+        return found
+
+    def frame(self) -> Any:
+        """The table as a DataFrame of pandas: the index is the time, and each column has floats."""
+        import pandas
+
+        data: Dict[str, Any] = dict(self.floats())
         if self.choice.events:
             texts, places = self.event_texts()
             data["events"] = pandas.array([texts[place] or None for place in places.tolist()], dtype="string")

@@ -10,10 +10,11 @@ from ..model.source import Source
 from ..model.units import variable_units, written_time_unit
 from ..output import Output
 from ..runs.columns import matching
-from ..runs.measures import MEASURES, TIME, VALUE, Request, measured, requests
+from ..runs.measures import MEASURES, TIME, VALUE, Request, requests
+from ..runs.quadratics import Line, check_name, lines_of_names, value_of
 from ..runs.rows import Rows, Run, add_run_options, lines_of, run_of
 from ..runs.steady import add_all_values_option
-from ..runs.trajectories import Trajectory, trajectories
+from ..runs.trajectories import Combination, Trajectory, trajectories
 from .table import overflow_text
 
 ABOUT = """Measures of a run, weighted by time. They are exact: a state is a piecewise linear function of time, which is
@@ -23,7 +24,8 @@ computed from the rows and the model.
   tools/qss-measure MODEL 'rise(y) overshoot(y)' --set R=10      runs the model with another value of R
   tools/qss-measure MODEL 'duty(s) period(s) thd(u, f=50)' --csv
 
-Measures, each of a state, a discrete variable or an algebraic variable:
+Measures, each of a state, a discrete variable, an algebraic variable or an expression of them, as mean(uC*iL) or
+rms(uC - u0). Of a product of two states there are mean, integral, at, start and final:
   mean, rms, min, max, ripple (max - min), start, final, at(x, t=), integral
   rise        time from 10 % to 90 % of the step from the first value to the last (low=, high=, initial=, final=)
   overshoot   how far the value passes the last one, relative to the step (initial=, final=)
@@ -60,17 +62,22 @@ def number_of(run: Run, name: str) -> int:
 
 def lines_by_name(
     run: Run, rows: Rows, names: Sequence[str], all_values: bool = False
-) -> Tuple[Dict[str, Trajectory], Overflow]:
+) -> Tuple[Dict[str, Line], Overflow]:
     """The trajectory of each variable by its name, and the overflow of the run."""
-    numbers = [number_of(run, name) for name in names]
-    found, overflow = trajectories(run, rows, numbers, all_values)
-    return dict(zip(names, found)), overflow
+    ends: List[Overflow] = []
+
+    def compute(numbers: List[int], sums: Dict[int, Combination]) -> List[Trajectory]:
+        found, overflow = trajectories(run, rows, numbers, all_values, sums)
+        ends.append(overflow)
+        return found
+
+    return lines_of_names(run, names, compute, number_of), ends[0]
 
 
 def values_of(run: Run, rows: Rows, asked: Sequence[Request], all_values: bool) -> Tuple[List[Any], Overflow]:
     """The values of measures, and the tick and the name of an overflow or None."""
     found, overflow = lines_by_name(run, rows, list(dict.fromkeys(one.variable for one in asked)), all_values)
-    return [measured(one, found[one.variable]) for one in asked], overflow
+    return [value_of(one, found[one.variable]) for one in asked], overflow
 
 
 def unit_of(one: Request, units: Dict[str, str], time_unit: Optional[str]) -> str:
@@ -105,7 +112,7 @@ def tool(arguments: Sequence[str]) -> int:
     asked = requests(args.measures)
     run = run_of(args)
     for one in asked:
-        number_of(run, one.variable)
+        check_name(run, one.variable, number_of)
     warn(args, run, "qss-measure")
     with lines_of(args, run) as (lines, name):
         values, overflow = values_of(run, Rows(run, lines, name), asked, args.all_values)

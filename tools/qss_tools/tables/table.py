@@ -13,11 +13,12 @@ from ..fault import FINE, WARNED, Arguments, Fault, read_bytes, run_tool
 from ..model.flat import Flat
 from ..model.source import Source
 from ..model.spelling import decimal_text
-from ..model.units import SECONDS, time_unit
+from ..model.units import SECONDS, time_unit, variable_units
 from ..output import Output
-from ..runs.columns import AnyColumn, Watch, chosen, columns_of
+from ..runs.columns import AnyColumn, Watch, columns_of
 from ..runs.rows import Row, Rows, Run, add_run_options, exact, fraction, lines_of, run_of
 from ..runs.steady import add_all_values_option, steady_rows
+from .formats import ENDS, FORMS, Data, check_form, write_mat, write_parquet, write_raw
 
 ABOUT = """Rows of a run as a table: a time and a column for each variable, in the model's units, as exact decimals.
 
@@ -26,6 +27,7 @@ ABOUT = """Rows of a run as a table: a time and a column for each variable, in t
   tools/qss-table MODEL --names 'total[*]' -o table.csv        runs the model; algebraic variables are computed
   tools/qss-table MODEL --certificate CERT                two more columns a state: the proved bounds of the solution
   tools/qss-table MODEL ROWS -o run.vcd --unit us              a VCD file for GTKWave; the model's unit of time is us
+  tools/qss-table MODEL -o run.raw                             a raw file for ngspice; .mat and .parquet likewise
 
 Between two rows a state has its level of the last row; in a run of second order (rows of `qss run2`, or --order 2) its
 level moves along a line. An algebraic variable is computed from levels with its exact coefficients, and written to 15
@@ -37,9 +39,6 @@ Status: 0 all was written, 1 all was written, and the run overflowed or the rows
 # The units of time of a VCD file, as powers of ten of a second.
 SCALES = (("1 s", 0), ("1 ms", 3), ("1 us", 6), ("1 ns", 9), ("1 ps", 12), ("1 fs", 15))
 VCD_TIME_BITS = 63
-# The formats by the ends of the names of files.
-FORMS = {"": "csv", ".csv": "csv", ".txt": "csv", ".vcd": "vcd"}
-FORMS_TEXT = ".csv or .vcd"
 
 
 def parser_of() -> Arguments:
@@ -47,7 +46,9 @@ def parser_of() -> Arguments:
     parser = Arguments(prog="qss-table", description=ABOUT)
     add_run_options(parser)
     parser.add_argument(
-        "--names", metavar="LIST", help="names, arrays, u[2:5] or patterns with *, with commas between them"
+        "--names",
+        metavar="LIST",
+        help="names, arrays, u[2:5], patterns with * or expressions, as uC*iL, with commas between them",
     )
     parser.add_argument("--every", metavar="STEP", help="only the values at each multiple of this time")
     parser.add_argument("--from", dest="begin", metavar="TIME", help="write from this time on")
@@ -60,7 +61,9 @@ def parser_of() -> Arguments:
     parser.add_argument("--events", action="store_true", help="a last column with the branches that fired")
     add_all_values_option(parser)
     add_certificate_option(parser)
-    parser.add_argument("--format", choices=("csv", "vcd"), help="default: by the name of the output, else csv")
+    parser.add_argument(
+        "--format", choices=list(dict.fromkeys(FORMS.values())), help="default: by the name of the output, else csv"
+    )
     parser.add_argument(
         "--unit", choices=sorted(SECONDS), help="the model's unit of time, for VCD (default: that of the model, or s)"
     )
@@ -78,15 +81,17 @@ def tool(arguments: Sequence[str]) -> int:
     window_of(args, run)
     if args.every is not None:
         step_of(args.every, run)
-    chosen(run, args.names)
+    columns_of(run, args.names, args.states)
     bounds = certified(args, run)
-    if bounds and form == "vcd":
+    if bounds and form != "csv":
         raise Fault("--certificate writes CSV")
+    check_form(form, args.events, args.order)
     warn(args, run, "qss-table")
     with lines_of(args, run) as (lines, name), Output(args.output) as output:
         columns = columns_of(run, args.names, args.states)
         rows = Rows(run, lines, name, may_be_cut=True)
-        if form == "csv" and bounds is None and run.order == 1 and load() is not None:
+        check_form(form, args.events, run.order)
+        if form != "vcd" and bounds is None and run.order == 1 and load() is not None:
             overflowed = write_arrays(output, rows, columns, args)
         else:
             overflowed = write_rows(output, rows, columns, args, bounds)
@@ -107,7 +112,15 @@ def write_arrays(
     every = None if args.every is None else step_of(args.every, rows.run)
     choice = Choice(every, begin if args.begin else None, end if args.end else None, args.events, args.all_values)
     table = Table(rows, columns, choice)
-    table.write(output)
+    if args.form == "csv":
+        table.write(output)
+    elif args.form == "parquet":
+        write_parquet(output, table.frame())
+    else:
+        units = variable_units(args.source)
+        columns_of_data = [(name, units.get(name.split("[")[0], ""), values) for name, values in table.floats()]
+        data = Data(rows.run.flat.model.name, args.unit, table.times(), columns_of_data)
+        (write_raw if args.form == "raw" else write_mat)(output, data)
     return table.overflow
 
 
@@ -147,7 +160,7 @@ def form_of(path: Optional[str]) -> str:
         return "csv"
     end = os.path.splitext(path)[1].lower()
     if end not in FORMS:
-        raise Fault("%s: a table is %s (--format names the format of a file with another end)" % (path, FORMS_TEXT))
+        raise Fault("%s: a table is %s (--format names the format of a file with another end)" % (path, ENDS))
     return FORMS[end]
 
 
@@ -269,9 +282,11 @@ class Wide(Writer):
         output.write(",".join(["time"] + names + ["events"] * self.events) + "\n")
 
     def tick(self, tick: int, changed: Set[int], events: List[str], until: int) -> None:
+        places = [place for place in range(len(self.columns)) if place in changed or not self.begun]
+        changed = {place for place in places if self.columns[place].is_new()}
         if self.begun and not changed and not (self.events and events):
             return
-        for place in changed if self.begun else range(len(self.columns)):
+        for place in changed:
             self.texts[place] = self.columns[place].text()
         self.begun = True
         bounds = [bound.text(tick) for bound in self.bounds]
