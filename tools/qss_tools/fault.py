@@ -5,6 +5,7 @@ fault: one line on standard error, and nothing was written). The --help of a too
 """
 import argparse
 import os
+import signal
 import sys
 from typing import Any, Callable, NoReturn, Optional, Sequence
 
@@ -66,8 +67,10 @@ def run_tool(name: str, tool: Tool, arguments: Optional[Sequence[str]] = None, n
     is run by an interpreter that has numpy, if there is one.
     """
     try:
-        if arguments is None and numeric:
-            use_one_with_numpy()
+        if arguments is None:
+            signal.signal(signal.SIGINT, signal.default_int_handler)
+            if numeric:
+                use_one_with_numpy()
         status = tool(sys.argv[1:] if arguments is None else arguments)
         sys.stdout.flush()
     except Fault as fault:

@@ -54,9 +54,16 @@ def written_time_unit(source: Source) -> Optional[str]:
 
 
 def axis_label(source: Source, unit: Optional[str] = None) -> str:
-    """The label of an axis of time, in this unit or in that of a source."""
-    unit = unit or written_time_unit(source)
-    return "time" if unit in (None, NO_UNIT) else "time (%s)" % unit
+    """The label of an axis of time, in this unit or in that of a source: seconds if it names none."""
+    unit = checked_unit(unit) or time_unit(source)
+    return "time" if unit == NO_UNIT else "time (%s)" % unit
+
+
+def checked_unit(unit: Optional[str]) -> Optional[str]:
+    """A unit of time that an option names."""
+    if unit is not None and unit not in SECONDS and unit != NO_UNIT:
+        raise Fault("--unit: '%s' is no unit of time (%s)" % (unit, ", ".join([*SECONDS, NO_UNIT])))
+    return unit
 
 
 def time_unit(source: Source) -> str:

@@ -249,6 +249,36 @@ def off_trajectory(run: Run, rows: str, tick: int, name: str) -> Fault:
     )
 
 
+def level_lines(
+    run: Run, rows: Rows, numbers: Set[int]
+) -> Tuple[Dict[int, Trajectory], int, Optional[Tuple[int, str]]]:
+    """The levels of states and the values of discrete variables in a run of second order, which move along lines.
+    Levels are counted in the units of states.
+    """
+    names, units, lines = run.names, run.units, {}
+    for number in numbers:
+        one, is_state = run.flat.variables[number], number < run.flat.states
+        unit = Fraction(1, 2 ** (units.state if is_state else units.level))
+        lines[number] = Trajectory(one.name, unit, Fraction(1, 2**units.time), one.quantum if is_state else None)
+    last, overflow = 0, None
+    for tick, event, variable, level, _ in rows:
+        last = tick
+        if event == "overflow":
+            last, overflow = max(tick - 1, 0), (tick, variable)
+            break
+        line = lines.get(names.get(variable, -1))
+        if line is None or level is None or event == "end":
+            continue
+        value = level << (units.state - units.level) if names[variable] < run.flat.states else level
+        if event == "start":
+            line.times, line.values, line.slopes = [tick], [value], [0]
+        elif event == "slope":
+            line.turn(tick, value)
+        else:
+            line.jump(tick, value)
+    return lines, last, overflow
+
+
 def trajectories(
     run: Run,
     rows: Rows,
@@ -260,27 +290,29 @@ def trajectories(
     value of a discrete variable that holds for one tick only is left out (module steady), unless all are asked for. The
     numbers of `more` denote these sums.
     """
-    if run.order == 2:
-        raise Fault("%s: these are the rows of a run of second order, and a trajectory needs the first" % rows.name)
     flat = run.flat
     sums = dict(more or {})
     for number in numbers:
         if number not in sums and flat.variables[number].role == ALGEBRAIC:
             sums[number] = Combination(run, number)
-    if load() is not None:
+    if load() is not None and run.order == 1:
         from .lines import array_trajectories
 
         return array_trajectories(run, rows, numbers, sums, all_values)
     needed = {number for number in numbers if number not in sums}.union(*(one.needs() for one in sums.values()))
-    follower = Follower(run, sorted(needed))
-    last, overflow = follower.follow(rows)
-    for number, line in follower.lines.items():
+    if run.order == 2:
+        known, last, overflow = level_lines(run, rows, needed)
+    else:
+        follower = Follower(run, sorted(needed))
+        last, overflow = follower.follow(rows)
+        known = follower.lines
+    for number, line in known.items():
         line.last = last
         if number >= flat.states and not all_values:
             line.leave_short_values_out()
     tick = Fraction(1, 2**run.units.time)
-    lines = {number: one.trajectory(follower.lines, tick) for number, one in sums.items()}
+    lines = {number: one.trajectory(known, tick) for number, one in sums.items()}
     for line in lines.values():
         line.last = last
-    lines.update(follower.lines)
+    lines.update(known)
     return [lines[number] for number in numbers], overflow

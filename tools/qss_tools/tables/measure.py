@@ -7,7 +7,7 @@ from typing import Any, Dict, Iterable, List, Optional, Sequence, Tuple
 from ..advice.warn import add_advice_option, warn
 from ..fault import FINE, WARNED, Arguments, Fault, read_bytes, run_tool
 from ..model.source import Source
-from ..model.units import variable_units, written_time_unit
+from ..model.units import checked_unit, variable_units, written_time_unit
 from ..output import Output
 from ..runs.columns import matching
 from ..runs.measures import MEASURES, TIME, VALUE, Request, requests
@@ -35,6 +35,7 @@ rms(uC - u0). Of a product of two states there are mean, integral, at, start and
   harmonic    amplitude of harmonic n= (default: 1) of the frequency f=, over the last whole periods
   thd         harmonics 2 to n= (default: 40) of the frequency f=, relative to the first
 Each has from= and to=, two times in the model's unit of time. A frequency is in periods per unit of time.
+Of a run of second order the levels are measured, which move along lines.
 A value of a discrete variable that holds for one tick only, between values that hold for longer, is not measured,
 unless --all-values is there.
 
@@ -110,6 +111,7 @@ def tool(arguments: Sequence[str]) -> int:
     add_advice_option(parser)
     args = parser.parse_intermixed_args(arguments)
     asked = requests(args.measures)
+    checked_unit(args.unit)
     run = run_of(args)
     for one in asked:
         check_name(run, one.variable, number_of)
@@ -117,7 +119,7 @@ def tool(arguments: Sequence[str]) -> int:
     with lines_of(args, run) as (lines, name):
         values, overflow = values_of(run, Rows(run, lines, name), asked, args.all_values)
     units = variable_units(args.source)
-    time = args.unit or written_time_unit(Source(args.source, read_bytes(args.source)))
+    time = checked_unit(args.unit) or written_time_unit(Source(args.source, read_bytes(args.source)))
     with Output(args.output) as output:
         if args.csv:
             output.write(csv_line([one.text for one in asked]) + csv_line([number_text(value) for value in values]))

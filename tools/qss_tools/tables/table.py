@@ -245,8 +245,8 @@ class Window(Writer):
         self.changed: Set[int] = set()
         self.writer, self.begun = writer, False
         scale = 2**writer.bits
-        self.first, self.last = begin * scale, end * scale
-        writer.limit(self.first, self.last)
+        self.first, self.last = math.ceil(begin * scale), end * scale
+        writer.limit(begin * scale, self.last)
 
     def tick(self, tick: int, changed: Set[int], events: List[str], until: int) -> None:
         self.changed |= changed
@@ -255,7 +255,7 @@ class Window(Writer):
         if not self.begun:
             self.begun = True
             events = events if tick >= self.first else []
-            self.writer.tick(max(tick, math.ceil(self.first)), self.changed, events, until)
+            self.writer.tick(max(tick, self.first), self.changed, events, until)
         else:
             self.writer.tick(tick, changed, events, until)
 
