@@ -1,25 +1,26 @@
 """The tool qss-advise: finds settings that spoil a run, and proposes settings that fit."""
-import os
 import sys
-import tempfile
-from typing import List, Optional, Sequence, Tuple
+from typing import Iterable, List, Optional, Sequence
 
 from ..certificates.advice import advise_certificate
-from ..fault import FINE, WARNED, Arguments, Fault, read_bytes, run_tool
-from ..model.flat import Flat, Meaningless
-from ..model.grammar import Model, parse
+from ..fault import FINE, WARNED, Arguments, Fault, run_tool
+from ..model.grammar import Model
 from ..model.source import Source
 from ..model.spelling import decimal_text
-from ..model.story import Story, excerpt
+from ..model.story import excerpt
 from ..model.units import time_unit, unit_after
 from ..numeric.trial import Trial
 from ..output import Output
-from ..program import add_program_option, call, canonical_text, find_program
+from ..program import add_program_option, find_program
 from ..settings import limits
-from ..settings.proposal import Proposal, propose
-from ..settings.rewriting import annotation, rewritten
-from .explain import LINE
-from .findings import MANY_ROWS, Finding, findings
+from ..settings.proposal import Proposal
+from ..settings.rewriting import annotation
+from .finding import Finding
+from .findings import MANY_ROWS, findings
+from .proposing import proposed
+from .refusal import read_model
+from .seen import seen_findings, seen_lines, unfit_text
+from .tried import tried
 
 ABOUT = """What the settings of a model do to it, before a run, and settings that would fit, ready to paste.
 
@@ -66,33 +67,22 @@ class Advice:
     """What is to be said about a model: its refusal, its findings, and settings that the program accepts."""
 
     def __init__(self, name: str, program: str):
-        self.program = program
         self.source, self.flat, self.refused = read_model(name, program)
         self.trial = Trial(self.flat)
         self.found = findings(self.flat, self.trial)
-        self.proposal: Optional[Proposal] = None
-        self.text: Optional[bytes] = None  # of the model with these settings
-        self.why = ""  # there are none
-        self._propose()
+        self.proposed, self.why = proposed(self.source, self.flat, self.trial, program)
+        self.text = None if self.proposed is None else self.proposed.text
+        if not self.is_grave() and not self.trial.grown and self.trial.reached:
+            self.found = self._seen(program) + self.found
 
-    def _propose(self) -> None:
-        if not self.trial.reached:
-            self.why = (
-                "the rough run ended at time %s of %s; with a StopTime of at most %s settings can be proposed"
-                % (
-                    limits.shown(self.trial.time),
-                    limits.shown(self.trial.stop),
-                    limits.shown(float("%.1g" % (0.9 * self.trial.time))),
-                )
-            )
-            return
-        proposal = propose(self.flat, self.trial)
-        text = rewritten(self.source, self.flat, proposal)
-        line = refusal_of(self.program, text)
-        if line:
-            self.why = "the program does not accept the nearest ones (%s)" % line
+    def _seen(self, program: str) -> List[Finding]:
+        """What runs of the model with its own settings show."""
+        expected = self.trial.rows([float(one.quantum) for one in self.flat.variables[: self.flat.states]])
+        if self.proposed is not None and self.text == self.source.data:
+            seen = self.proposed.seen
         else:
-            self.proposal, self.text = proposal, text
+            seen = tried(program, self.source.data, expected)
+        return [] if seen is None else list(seen_findings(self.flat, seen, expected))
 
     def warnings(self) -> List[Finding]:
         return [finding for finding in self.found if finding.grave]
@@ -111,60 +101,6 @@ def warning_of(name: str, program: str) -> Optional[str]:
     more = " (and %d more)" % (len(grave) - 1) if len(grave) > 1 else ""
     place = "%s: " % name if grave[0].at is None else "%s:%d:%d: " % ((name,) + source.place(grave[0].at))
     return "%s%s%s; see tools/qss-advise %s" % (place, grave[0].sentence, more, name)
-
-
-def read_model(name: str, program: str) -> Tuple[Source, Flat, Optional[Story]]:
-    """The source of a model, its meaning, and the story of its refusal where its numbers are refused."""
-    canonical = canonical_text(program, name)
-    source = Source(name, read_bytes(name))
-    line = refusal_at_once(program, canonical)
-    refused = LINE.match(line)
-    if refused and refused.group(1) != "machine":
-        line = call(program, ["run", name, "--only", "-"], keep=False).line
-        raise Fault("%s: %s (tools/qss-explain %s shows the place)" % (name, line, name))
-    try:
-        flat = Flat(parse(source))
-        flat.rows()
-        most = (limits.MOST_COEF_BITS, limits.MOST_TICK_BITS, limits.MOST_LEVEL_BITS)
-        bits = [flat.bits(setting) for setting in ("QSS_CoefBits", "QSS_TickBits", "QSS_LevelBits")]
-        if any(one > limit for one, limit in zip(bits, most)):
-            raise Fault("%s: %s (tools/qss-explain %s shows the place)" % (name, line, name))
-    except Meaningless as error:
-        raise Fault("%s:%d:%d: %s" % ((name,) + source.place(error.at) + (error.reason,))) from error
-    story = limits.rounded(source, refused.group(2), refused.group(3).split()) if refused else None
-    return source, flat, story
-
-
-def refusal_of(program: str, text: bytes) -> str:
-    """The line with which the program refuses a source by `print`, or by `run` with the stop time 0; else nothing."""
-    with tempfile.TemporaryDirectory() as folder:
-        path = os.path.join(folder, "proposed.mo")
-        with open(path, "wb") as file:
-            file.write(text)
-        answer = call(program, ["print", path])
-    return answer.line if answer.status else refusal_at_once(program, answer.out)
-
-
-def refusal_at_once(program: str, canonical: bytes) -> str:
-    """The line with which a model is refused, or nothing: its run is tried with the stop time 0."""
-    source = Source("model", canonical)
-    model = parse(source)
-    written = [setting for setting in model.settings if setting.name == "StopTime"]
-    data = source.data
-    if written:
-        begin, end = written[0].span
-        data = data[:begin] + b"0" + data[end:]
-    elif model.settings_end is not None:
-        data = data[: model.settings_end] + b", StopTime = 0 " + data[model.settings_end :]
-    else:
-        data = data[: model.end_line] + b"annotation(experiment(StopTime = 0));\n" + data[model.end_line :]
-    handle, path = tempfile.mkstemp(suffix=".mo")
-    try:
-        with os.fdopen(handle, "wb") as file:
-            file.write(data)
-        return call(program, ["run", path, "--only", "-"], keep=False).line
-    finally:
-        os.unlink(path)
 
 
 def report(advice: Advice, every: bool) -> None:
@@ -206,36 +142,47 @@ def tell_finding(source: Source, finding: Finding) -> None:
 
 
 def tell_proposal(advice: Advice) -> None:
-    source, proposal, trial = advice.source, advice.proposal, advice.trial
-    if proposal is None:
-        print("%s: no settings are proposed: %s" % (source.name, advice.why))
+    source, one = advice.source, advice.proposed
+    if one is None:
+        print(f"{source.name}: no settings are proposed: {advice.why}")
         return
-    if proposal.unit != 1:
-        print(
-            "no settings fit in the model's unit of time (%s); in %s these settings fit,"
-            % (time_unit(source), unit_after(time_unit(source), proposal.unit))
-        )
-        print("and 'tools/qss-advise %s --rewrite FILE' writes the model with them:" % source.name)
+    proposal, trial = one.proposal, one.trial
+    expected = trial.rows(one.quanta())
+    unfit = unfit_text(trial.flat, one.seen, expected)
+    if unfit:
+        print(f"{source.name}: {unfit}")
+        print("the nearest settings are:")
+    elif proposal.unit != 1:
+        units = time_unit(source), unit_after(time_unit(source), proposal.unit)
+        print(f"no settings fit in the model's unit of time ({units[0]}); in {units[1]} these settings fit,")
+        print(f"and 'tools/qss-advise {source.name} --rewrite FILE' writes the model with them:")
     elif not proposal.fits:
         print("no settings fit well; the nearest are:")
     else:
         print("settings that fit:")
     print("  " + annotation(proposal, source))
     for name, quantum in proposal.own.items():
-        print("  %s annotation(QSS_Quantum = %s)" % (name, decimal_text(quantum)))
-    flat = trial.flat
-    quanta = [float(proposal.own.get(one.declaration.name, proposal.quantum)) for one in flat.variables[: flat.states]]
-    expected = trial.rows(quanta)
-    if expected and not trial.grown:
-        print("with them expect about %s rows of levels" % "{:,}".format(int(float("%.2g" % expected))))
-    if expected > MANY_ROWS and not trial.grown:
-        print(
-            "that is a lot: a million rows reach StopTime = %s%s"
-            % (
-                limits.shown(float("%.1g" % (float(proposal.stop) * 1e6 / expected))),
-                "" if stop_is_written(flat.model) else " (StopTime is not written, and so 1)",
-            )
-        )
+        print(f"  {name} annotation(QSS_Quantum = {decimal_text(quantum)})")
+    for change in one.cure.changes:
+        print(f"with --rewrite FILE {change}")
+    if not trial.grown:
+        tell_expected(proposal, trial, one.seen.levels if one.seen and one.seen.is_whole else expected)
+        print_all(seen_lines(trial.flat, one.seen))
+
+
+def print_all(lines: Iterable[str]) -> None:
+    for line in lines:
+        print(line)
+
+
+def tell_expected(proposal: Proposal, trial: Trial, expected: float) -> None:
+    """Prints how many rows a run has."""
+    if expected:
+        print(f"with them expect about {int(float(f'{expected:.2g}')):,} rows of levels")
+    if expected > MANY_ROWS:
+        reached = limits.shown(float(f"{float(proposal.stop) * 1e6 / expected:.1g}"))
+        unwritten = "" if stop_is_written(trial.flat.model) else " (StopTime is not written, and so 1)"
+        print(f"that is a lot: a million rows reach StopTime = {reached}{unwritten}")
 
 
 def stop_is_written(model: Model) -> bool:

@@ -1,7 +1,6 @@
 """Findings about the settings of a model: what they do to its numbers in a run."""
 import difflib
 import math
-from collections import namedtuple
 from fractions import Fraction
 from typing import Iterator, List, Optional
 
@@ -22,6 +21,8 @@ from ..settings.limits import (
     shown,
 )
 from ..settings.sticking import branch_rows, holds, sticking
+from .alternating import growing, late_turns
+from .finding import Finding
 
 MOST_OF_A_KIND = 6  # findings of one kind that are listed
 THOUSANDTH = Fraction(1, 1000)
@@ -51,16 +52,14 @@ HARMLESS = (
     "uses",
 )
 
-Finding = namedtuple("Finding", "at sentence way grave")
-Finding.__doc__ = "A sentence about a place, a way out or None, and whether it spoils a run."
-
-
 def findings(flat: Flat, trial: Trial) -> List[Finding]:
     """All that is to be said, the graver first, each kind cut to a few."""
     found = []
     for look in (
         misspelt,
         never_fires,
+        growing,
+        late_turns,
         long_runs,
         long_ticks,
         coarse_clocks,

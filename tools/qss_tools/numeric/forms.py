@@ -38,6 +38,14 @@ Function = Callable[[List[float]], Tuple[float, Optional[List[float]]]]  # a val
 def lower_bound(a: Rows, values: Sequence[complex], quanta: Vector) -> Optional[List[float]]:
     """For each state the integral of |exp(a s) a| times these quanta; None if the system is not damped. `values` are
     the eigenvalues of a.
+    """
+    sums = impulse_sums(a, values)
+    return None if sums is None else [sum(map(mul, row, quanta)) for row in sums]
+
+
+def impulse_sums(a: Rows, values: Sequence[complex], horizon: float = math.inf) -> Optional[Matrix]:
+    """The integral of |exp(a s) a| up to a horizon; None if it has no bound, or if there is no horizon and the system
+    is not damped.
 
     The integral is the sum of the changes of exp(a s), which is nearly always monotone over a step. The length of an
     octave doubles, so the work does not grow with the spread of the rates. An oscillation takes more steps, up to a
@@ -48,7 +56,7 @@ def lower_bound(a: Rows, values: Sequence[complex], quanta: Vector) -> Optional[
     if not top:
         return None
     most = MOST_FINER if n <= MANY_STATES else MOST_FINER // 8
-    length, finer = 1.0 / (4 * top), 1
+    length, finer, passed = 1.0 / (4 * top), 1, 0.0
     step, matrix = exponential(a, length), unit_matrix(n)
     total = [[0.0] * n for _ in range(n)]
     for _ in range(OCTAVES):
@@ -63,11 +71,14 @@ def lower_bound(a: Rows, values: Sequence[complex], quanta: Vector) -> Optional[
             else:
                 change = [[abs(x) * length / finer for x in row] for row in product(a, following)]
             total, matrix = plus(total, change), following
+            passed += length / finer
+            if passed >= horizon:
+                return total
         largest = size(matrix)
         if largest > 1e30:
             return None
         if largest < 1e-9:
-            return [sum(map(mul, row, quanta)) for row in total]
+            return total
         step, length = product(step, step), 2 * length
     return None
 

@@ -2,8 +2,7 @@
 
 How far it gets depends only on the model: its steps are bounded by their work, and not by time.
 """
-import itertools
-from typing import Callable, List, Optional, Sequence, Set, Tuple
+from typing import Callable, Dict, List, Optional, Sequence, Set, Tuple
 
 from ..model.flat import TIME, Flat, Row
 from .rates import fastest, float_rows
@@ -13,6 +12,9 @@ MOST_WORK = 70000000  # of all steps, in about 30 ns of a common processor
 WORK_OF_STEP, WORK_OF_STATE = 200, 12
 STEPS_A_TIME_CONSTANT, LEAST_STEPS_A_TIME_CONSTANT = 8, 1.5
 STEPS_A_CLOCK = 16
+STEPS_A_RETURN = 32  # from one firing of a branch to its next
+MOST_FINER_RUNS = 2  # with shorter steps, because branches fire again after few of them
+LEAST_RETURNS = 4  # of a branch that fires periodically
 LEAST_STEPS = 256  # of a run
 OVERGROWN = 1e30
 LONG_SUM = 100  # terms
@@ -28,6 +30,30 @@ class Trial:
         self.rate = fastest(flat)
         self.clock = shortest_clock(flat)
         self.stop = float(flat.settings["StopTime"])
+        self.derivatives = derivatives_of(flat)
+        self._begin()
+        step, most = self._steps(most_work)
+        self._run(step, most)
+        for _ in range(MOST_FINER_RUNS):
+            returns = self.branches.shortest_return()
+            if not returns or returns >= STEPS_A_RETURN / 2 * step or self.stop / returns * STEPS_A_RETURN > most:
+                break
+            step = returns / STEPS_A_RETURN
+            self._begin()
+            self._run(step, most)
+        self._take_return(step)
+
+    def _take_return(self, step: float) -> None:
+        """Takes the shortest time between two firings of a branch for that of a clock, if the steps show it."""
+        self.returns = self.branches.shortest_return()
+        if self.returns and self.returns >= STEPS_A_RETURN / 4 * step:
+            self.clock = min(self.clock or self.returns, self.returns)
+        else:
+            self.returns = None
+
+    def _begin(self) -> None:
+        """The start of a run."""
+        flat = self.flat
         values = [float(value) for value in flat.starts]
         self.states, self.discretes = values[: flat.states], values[flat.states : flat.states + flat.discretes]
         self.size = [abs(value) for value in self.states]
@@ -36,17 +62,14 @@ class Trial:
         self.fired = 0
         self.time = 0.0
         self.grown = False
-        self.derivatives = derivatives_of(flat)
         self.branches = Branches(flat)
-        self._run(most_work)
 
     @property
     def reached(self) -> bool:
         """Whether the run was looked at up to its end, or up to where it grows past all limits."""
         return self.grown or self.time >= self.stop * (1 - 1e-9)
 
-    def _run(self, most_work: int) -> None:
-        step, most = self._steps(most_work)
+    def _run(self, step: float, most: int) -> None:
         if step <= 0.0:
             return
         branches, states, discretes = self.branches, self.states, self.discretes
@@ -115,6 +138,21 @@ def derivatives_of(flat: Flat) -> Derivatives:
 Branch = Tuple[int, List[Statement]]  # the place of its condition, and its statements
 
 
+class Returns:
+    """The firings of a branch: how many there were, and when the first and the last one."""
+
+    def __init__(self) -> None:
+        self.count, self.first, self.last = 0, 0.0, 0.0
+
+    def add(self, now: float) -> None:
+        self.first = self.first if self.count else now
+        self.count, self.last = self.count + 1, now
+
+    def mean(self) -> float:
+        """The mean time between two firings."""
+        return (self.last - self.first) / (self.count - 1)
+
+
 class Branches:
     """The clauses: which branches fire, and what they set."""
 
@@ -131,6 +169,12 @@ class Branches:
             conditions += [self._text(condition) for condition, _ in clause]
         self.conditions = eval("lambda t, x, d: [%s]" % ", ".join(conditions), {"sum": sum})
         self.held: List[bool] = []
+        self.returns: Dict[int, Returns] = {}
+
+    def shortest_return(self) -> Optional[float]:
+        """The shortest mean time between two firings of a branch that fires again and again, or None."""
+        times = [one.mean() for one in self.returns.values() if one.count > LEAST_RETURNS]
+        return min(times, default=None)
 
     def _text(self, condition: Row) -> str:
         """The text of a condition, and its terms are counted."""
@@ -158,17 +202,19 @@ class Branches:
         if not any(due):
             return 0
         before, fired = list(discretes), first_due(self.clauses, due)
-        for statement in itertools.chain.from_iterable(fired):
-            statement.run(now, states, discretes, before)
+        for place, statements in fired:
+            self.returns.setdefault(place, Returns()).add(now)
+            for statement in statements:
+                statement.run(now, states, discretes, before)
         after = self.conditions(now, states, discretes)
         self.held = [is_true and still for is_true, still in zip(arrived, after)]
         return len(fired)
 
 
-def first_due(clauses: Sequence[Sequence[Branch]], due: Sequence[bool]) -> List[List[Statement]]:
-    """The statements of the first branch of each clause whose condition is due."""
-    found = (next((statements for place, statements in clause if due[place]), None) for clause in clauses)
-    return [statements for statements in found if statements is not None]
+def first_due(clauses: Sequence[Sequence[Branch]], due: Sequence[bool]) -> List[Branch]:
+    """The first branch of each clause whose condition is due."""
+    found = (next((branch for branch in clause if due[branch[0]]), None) for clause in clauses)
+    return [branch for branch in found if branch is not None]
 
 
 def shortest_clock(flat: Flat) -> Optional[float]:

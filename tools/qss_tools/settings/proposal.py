@@ -2,7 +2,7 @@
 import math
 from collections import namedtuple
 from fractions import Fraction
-from typing import Dict, List, Sequence, Tuple, Union
+from typing import Dict, List, Mapping, Optional, Sequence, Tuple, Union
 
 from ..model.flat import STATE, Flat
 from ..numeric.forms import lower_bound
@@ -17,7 +17,9 @@ from .limits import (
     MOST_TICK_BITS,
     log2,
 )
+from .oscillators import Oscillator, oscillators
 from .sticking import sticking
+from .turns import turns
 
 # Units of time that are tried: how many of them are one of the model's own.
 SHORTER: Tuple[Union[int, Fraction], ...] = (1, 1000, 1000000, 1000000000)
@@ -35,6 +37,11 @@ LEAST_UNITS = 10  # bits of the least coefficient: half a thousandth
 GOOD_UNITS = 17
 GOOD_LEVEL_BITS = 20
 COMFORT_TICK_BITS = 18  # of a longer unit of time
+GROWTH = 0.005  # of an oscillator, by its quanta, for which smaller quanta are taken
+MOST_ROWS_OF_OSCILLATOR = 3e6  # for which they are not taken
+GROWTH_BY_TICKS = 0.001
+ANGLE_OF_TICK = 0.0005  # in radians of an oscillator: a clock that sets it anew is up to a tick late
+DRIFT = 2e-4  # of the step of a clock until StopTime, and of a period of a state that clauses turn
 
 Proposal = namedtuple("Proposal", "unit coef_bits tick_bits level_bits quantum own stop fits")
 Proposal.__doc__ = """Settings: the unit (how many are one of the model's own), the bits, the quantum, the own quanta by
@@ -46,8 +53,10 @@ def power_below(value: float) -> Fraction:
     return Fraction(2) ** math.floor(math.log2(value))
 
 
-def wanted_quanta(flat: Flat, trial: Trial) -> Tuple[Fraction, Dict[str, Fraction]]:
-    """The quantum of the model, and by name those of declarations that need an own one."""
+def wanted_quanta(flat: Flat, trial: Trial, finer: Mapping[str, int]) -> Tuple[Fraction, Dict[str, Fraction]]:
+    """The quantum of the model, and by name those of declarations that need an own one. Those of the names in `finer`
+    are so many times smaller.
+    """
     written = any(setting.name == "QSS_Quantum" for setting in flat.model.settings)
     sizes: Dict[str, float] = {}
     wanted: Dict[str, Fraction] = {}
@@ -61,14 +70,30 @@ def wanted_quanta(flat: Flat, trial: Trial) -> Tuple[Fraction, Dict[str, Fractio
         else:
             wanted[name] = power_below(sizes[name] / QUANTA_A_RANGE)
     if not written and not trial.grown:
-        finer = 2 ** max(0, math.ceil(log2(accumulation(flat, sizes, wanted))))
+        all_finer = 2 ** max(0, math.ceil(log2(accumulation(flat, sizes, wanted))))
         own = {one.declaration.name for one in flat.variables[: flat.states] if one.quantum_at is not None}
-        wanted = {name: quantum if name in own else quantum / finer for name, quantum in wanted.items()}
-    if written and flat.settings["QSS_Quantum"] > 0:
+        wanted = {name: quantum if name in own else quantum / all_finer for name, quantum in wanted.items()}
+    for block in oscillators(flat, trial):
+        for name, times in finer_of(flat, block, wanted).items():
+            wanted[name] /= times
+    wanted = {name: quantum / finer.get(name, 1) for name, quantum in wanted.items()}
+    if written and flat.settings["QSS_Quantum"] > 0 and not finer:
         model = flat.settings["QSS_Quantum"]
     else:
         model = min(wanted.values(), default=Fraction(1, 1024))
     return model, {name: size for name, size in wanted.items() if size >= 4 * model or size < model}
+
+
+def finer_of(flat: Flat, one: Oscillator, wanted: Dict[str, Fraction]) -> Dict[str, int]:
+    """How many times smaller the quanta of an oscillator are to be, by name; nothing if that gives too many rows."""
+    quanta = [float(wanted[variable.declaration.name]) for variable in flat.variables[: flat.states]]
+    growth = one.by_quanta(quanta)
+    if growth <= GROWTH or one.damping:
+        return {}
+    finer = 2 ** math.ceil(math.log2(growth / GROWTH))
+    if one.rows(quanta, float(flat.settings["StopTime"])) * finer > MOST_ROWS_OF_OSCILLATOR:
+        return {}
+    return {flat.variables[state].declaration.name: finer for state in one.states}
 
 
 def accumulation(flat: Flat, sizes: Dict[str, float], wanted: Dict[str, Fraction]) -> float:
@@ -92,9 +117,11 @@ def discretes(flat: Flat) -> List[float]:
     return [float(value) for value in flat.starts[flat.states : flat.states + flat.discretes]]
 
 
-def propose(flat: Flat, trial: Trial) -> Proposal:
-    """The first unit of time in which all fits, and the settings in it."""
-    quantum, own = wanted_quanta(flat, trial)
+def propose(flat: Flat, trial: Trial, finer: Optional[Mapping[str, int]] = None) -> Proposal:
+    """The first unit of time in which all fits, and the settings in it. By `finer` the quanta of some declarations are
+    so many times smaller than they would be.
+    """
+    quantum, own = wanted_quanta(flat, trial, finer or {})
     quanta = [own.get(variable.declaration.name, quantum) for variable in flat.variables[: flat.states]]
     proposals = [in_unit(flat, trial, Fraction(unit), quantum, own, quanta) for unit in SHORTER + LONGER]
     return next((one for one in proposals if one.fits), proposals[0])
@@ -107,6 +134,16 @@ def longest_tick(flat: Flat, trial: Trial, quanta: Sequence[Fraction]) -> float:
     if not trial.grown:
         lengths += [float(quantum) / slope for quantum, slope in zip(quanta, trial.slope) if slope]
     return min(lengths, default=float(flat.settings["StopTime"]) / 1024 or 1.0)
+
+
+def good_tick(flat: Flat, trial: Trial) -> float:
+    """The length of a tick with which oscillators hardly grow and turned states hardly drift; 0 if any will do."""
+    lengths = []
+    for one in oscillators(flat, trial):
+        lengths += [ANGLE_OF_TICK / one.rate, 2 * GROWTH_BY_TICKS / (one.rate**2 * one.lasts)]
+    if trial.returns and any(turns(flat)):
+        lengths.append(trial.returns * DRIFT * trial.returns / trial.stop)
+    return min(lengths, default=0.0)
 
 
 def in_unit(
@@ -127,6 +164,10 @@ def in_unit(
         room = min(p - 8, max(0, p - least - LEAST_UNITS))
         p -= room
         f, fine = level_bits(flat, trial, unit, min(MOST_LEVEL_BITS, MOST_BITS_TOGETHER - p - k), quanta + [quantum])
+    length = good_tick(flat, trial) * float(unit)
+    if length:
+        room = min(MOST_TICK_BITS, most_k, MOST_COEF_AND_TICK_BITS - p, MOST_BITS_TOGETHER - p - f)
+        k = max(k, min(room, math.ceil(-math.log2(length))))
     return Proposal(unit, p, k, f, quantum, own, stop, good and fine)
 
 
@@ -164,11 +205,21 @@ def level_bits(flat: Flat, trial: Trial, unit: Fraction, most: int, quanta: List
             values.append(row.form.constant * unit if row.variable in clocks else row.form.constant)
     longest = max([abs(value) for value in values] + [flat.settings["StopTime"] * unit if clocks else 0, 1])
     most = min(most, math.floor(42 - log2(longest)))
+    steps = [abs(row.form.constant * unit) for row in flat.rows() if row.kind == "set" and row.variable in clocks]
+    stop = flat.settings["StopTime"] * unit
     needed = max(math.ceil(-log2(min(quanta))), 0) + 2
-    for bits in list(range(GOOD_LEVEL_BITS, most + 1)) + list(range(min(most, GOOD_LEVEL_BITS - 1), needed - 1, -1)):
-        if bits >= needed and all(well_kept(value, bits) for value in values) and not any(sticking(flat, bits)):
-            return bits, True
+    ways = list(range(GOOD_LEVEL_BITS, most + 1)) + list(range(min(most, GOOD_LEVEL_BITS - 1), needed - 1, -1))
+    good = [bits for bits in ways if bits >= needed and all(well_kept(value, bits) for value in values)]
+    good = [bits for bits in good if not any(sticking(flat, bits))]
+    steady = [bits for bits in good if all(not step or drift(step, bits, stop) <= DRIFT for step in steps)]
+    if good:
+        return (steady or good)[0], True
     return max(0, min(most, MOST_LEVEL_BITS)), False
+
+
+def drift(step: Fraction, bits: int, stop: Fraction) -> float:
+    """How far a clock is off at the stop time because its step is rounded, relative to its step."""
+    return float(abs(round(step * 2**bits) / Fraction(2**bits) - step) * stop / step / step)
 
 
 def well_kept(value: Fraction, bits: int) -> bool:
