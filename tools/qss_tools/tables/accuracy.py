@@ -4,14 +4,16 @@ import re
 import subprocess
 import sys
 import tempfile
-from typing import TYPE_CHECKING, Any, Dict, List, NamedTuple, Optional, Sequence, Set, Tuple
+from typing import TYPE_CHECKING, Any, Container, Dict, List, NamedTuple, Optional, Sequence, Set, Tuple
 
 from ..fault import FINE, Arguments, Fault, run_tool
+from ..model.changes import add_set_option
 from ..model.flat import Flat
 from ..output import write_between
 from ..program import ROOT, add_program_option, find_program
 from ..runs.columns import AnyColumn, Column
-from ..runs.rows import Lines, Rows, Run, opened
+from ..runs.rows import Lines, Rows, Run, opened, ordered, run_of
+from .phase import APART, PART, Phase, irregular, measures, period
 from .table import Writer, follow
 
 if TYPE_CHECKING:
@@ -21,10 +23,12 @@ ABOUT = """Runs models, and compares each run with the solution in floating poin
 
   tools/qss-accuracy MODEL ..       these models, a paragraph each
   tools/qss-accuracy --page         all examples of the gallery, into the table of docs/ACCURACY.md
+  tools/qss-accuracy MODEL --order 2 --set R=10      a run of second order, with other values
 
 The solution is exact between events, up to rounding. The states are compared at 1001 times. A state that clauses
 set by reinit is left out, since near a jump a small shift in time is a large difference. If all states are set so, each
-is compared by the difference that 99 of 100 times keep.
+is compared by the difference that 99 of 100 times keep. If the events of a model depend on states, its ripple may be
+out of phase. Then mean, root mean square, ripple and period of the second half of the run are compared.
 Status: 0 all was compared, 2 a fault."""
 
 SAMPLES = 1001
@@ -61,6 +65,7 @@ class Accuracy(NamedTuple):
     seconds: float
     worst: Worst
     fired: Optional[Firings]
+    phase: Optional[Phase] = None  # if only the phase is off
 
     def line(self) -> str:
         """The line of a table."""
@@ -87,6 +92,9 @@ class Accuracy(NamedTuple):
         if fired is not None:
             text += "; %d branches fired, and %d in the solution" % (fired.here, fired.there)
             text += "" if fired.latest is None else ", at most %.2g early or late" % fired.latest
+        if self.phase is not None:
+            text += "; the ripple is out of phase: " + self.phase.text()
+            text += ", which is at most %s of its size" % share_text(100 * self.phase.share)
         return text
 
 
@@ -105,6 +113,8 @@ class Samples(Writer):
     def tick(self, tick: int, changed: Set[int], events: List[str], until: int) -> None:
         self.fired += [(tick, event) for event in events]
         while len(self.values) < len(self.ticks) and self.ticks[len(self.values)] < until:
+            for column in self.columns:
+                column.move(int(self.ticks[len(self.values)]))
             self.values.append([column.number() for column in self.columns])
 
 
@@ -112,16 +122,21 @@ def tool(arguments: Sequence[str]) -> int:
     parser = Arguments(prog="qss-accuracy", description=ABOUT)
     parser.add_argument("models", nargs="*", metavar="MODEL", help="the models")
     parser.add_argument("--page", action="store_true", help="compare the gallery, and write docs/ACCURACY.md")
+    parser.add_argument("--order", choices=(1, 2), type=int, default=1, help="2: run the models by `qss run2`")
+    add_set_option(parser)
     add_program_option(parser)
     args = parser.parse_args(arguments)
-    if bool(args.models) == args.page:
+    if bool(args.models) == args.page or args.page and (args.set or args.order == 2):
         parser.error("give a model, or --page")
     program = find_program(args.program)
     if args.page:
         page(program)
         return FINE
     for model in args.models:
-        print(accuracy(model, program).text(), flush=True)
+        args.model = model
+        run = run_of(args)
+        found = accuracy(run.model, program, args.order)
+        print(found._replace(model=args.label).text(), flush=True)
     return FINE
 
 
@@ -140,10 +155,12 @@ def gallery_names() -> List[str]:
         return re.findall(r"^### .*\[(\w+)\.mo\]\(\1\.mo\)", file.read(), re.MULTILINE)
 
 
-def run_rows(run: Run, path: str) -> float:
+def run_rows(run: Run, path: str, order: int) -> float:
     """Runs a model into a file; its processor time in seconds."""
+    if order == 2 and run.flat.clauses():
+        raise Fault("%s: a run of second order takes models without 'when' clauses" % run.model)
     with open(path, "wb") as file:
-        process = subprocess.Popen([run.program, "run", run.model], stdout=file)
+        process = subprocess.Popen([run.program, "run2" if order == 2 else "run", run.model], stdout=file)
         _, status, used = os.wait4(process.pid, 0)
     process.returncode = os.waitstatus_to_exitcode(status)
     if process.returncode:
@@ -154,7 +171,7 @@ def run_rows(run: Run, path: str) -> float:
     return used.ru_utime + used.ru_stime
 
 
-def accuracy(model: str, program: str) -> Accuracy:
+def accuracy(model: str, program: str, order: int = 1) -> Accuracy:
     """Runs a model, and compares the run with its solution."""
     try:
         from ..numeric.reference import Reference
@@ -167,19 +184,22 @@ def accuracy(model: str, program: str) -> Accuracy:
     flat = run.flat
     numbers, jumping = measured(flat)
     stop = float(flat.settings["StopTime"])
-    times = [stop * place / (SAMPLES - 1) for place in range(SAMPLES)]
+    grid = [stop * place / (SAMPLES - 1) for place in range(SAMPLES)]
+    times = sorted(set(grid) | set(irregular(stop))) if flat.clauses() else grid
     ticks = [time * 2**run.units.time for time in times]
     with tempfile.TemporaryDirectory() as folder:
         path = os.path.join(folder, "rows.csv")
-        seconds = run_rows(run, path)
-        samples = Samples([Column(run, number) for number in numbers], ticks)
+        seconds = run_rows(run, path, order)
         with opened(path) as lines:
-            rows = Rows(run, Lines(lines), path)
+            ahead = ordered(Lines(lines), run)
+            samples = Samples([Column(run, number) for number in numbers], ticks)
+            rows = Rows(run, ahead, path)
             follow(samples, rows, samples.columns)
     reference = Reference(flat)
-    values = reference.values(times)
-    worst = worst_of(flat, numbers, samples, values, SAMPLES // MOST_JUMPS if jumping else 0)
-    return Accuracy(model, rows.number - 1, seconds, worst, firings(samples, reference, run))
+    compared = Compared(flat, numbers, samples.values, reference.values(times), times)
+    worst = compared.on(set(grid)).worst(SAMPLES // MOST_JUMPS if jumping else 0)
+    fired = firings(samples, reference, run)
+    return Accuracy(model, rows.number - 1, seconds, worst, fired, compared.phase(worst, samples, reference, run))
 
 
 def measured(flat: Flat) -> Tuple[List[int], bool]:
@@ -189,27 +209,67 @@ def measured(flat: Flat) -> Tuple[List[int], bool]:
     return (plain, False) if plain else (list(range(flat.states)), True)
 
 
-def worst_of(flat: Flat, numbers: Sequence[int], samples: Samples, values: Any, left_out: int) -> Worst:
-    """The state with the largest difference in its quanta; the largest `left_out` differences of each are left out."""
-    best: Optional[Worst] = None
-    for place, number in enumerate(numbers):
-        one = flat.variables[number]
-        differences = sorted(abs(values[time, number] - sample[place]) for time, sample in enumerate(samples.values))
-        difference = differences[len(differences) - 1 - left_out]
-        size = max(abs(values[:, number]))
-        quanta = difference / float(one.quantum)
-        if best is None or quanta > best.quanta:
-            best = Worst(one.name, difference, quanta, 100 * difference / size if size else None)
-    if best is None:
-        raise Fault("there are no states to compare")
-    return best
+class Compared:
+    """The values of some states of a run, and those of all states of the solution, at the same times."""
+
+    def __init__(
+        self, flat: Flat, numbers: Sequence[int], here: Sequence[Sequence[float]], there: Any, times: Sequence[float]
+    ) -> None:
+        self.flat, self.numbers, self.here, self.there, self.times = flat, numbers, here, there, times
+
+    def on(self, chosen: Container[float]) -> "Compared":
+        """The values at some of the times."""
+        kept = [place for place, time in enumerate(self.times[: len(self.here)]) if time in chosen]
+        here = [self.here[place] for place in kept]
+        return Compared(self.flat, self.numbers, here, self.there[kept], [self.times[place] for place in kept])
+
+    def worst(self, left_out: int) -> Worst:
+        """The state with the largest difference in its quanta; the largest `left_out` ones of each are left out."""
+        best: Optional[Worst] = None
+        for place, number in enumerate(self.numbers):
+            one = self.flat.variables[number]
+            differences = sorted(abs(there - here[place]) for there, here in zip(self.there[:, number], self.here))
+            difference = differences[len(differences) - 1 - left_out]
+            size = max(abs(self.there[:, number]))
+            quanta = difference / float(one.quantum)
+            if best is None or quanta > best.quanta:
+                best = Worst(one.name, difference, quanta, 100 * difference / size if size else None)
+        if best is None:
+            raise Fault("there are no states to compare")
+        return best
+
+    def phase(self, worst: Worst, samples: Samples, reference: "Reference", run: Run) -> Optional[Phase]:
+        """The measures of the state whose measures are the farthest apart, if only the phase of the ripple is off."""
+        if not has_state_events(self.flat) or not worst.share or worst.share < 100 * APART:
+            return None
+        half = self.on(set(irregular(float(self.flat.settings["StopTime"]))))
+        periods = [period(times) for times in (fired_here(samples, run), reference.fired)]
+        both = (periods[0], periods[1]) if periods[0] and periods[1] else None
+        found = []
+        for place, number in enumerate(self.numbers):
+            here, there = [row[place] for row in half.here], list(map(float, half.there[:, number]))
+            size = float(max(abs(self.there[:, number])))
+            found.append(Phase(self.flat.variables[number].name, measures(here), measures(there), size, both))
+        most = max(found, key=lambda one: one.share)
+        return most if 100 * most.share < PART * worst.share else None
+
+
+def has_state_events(flat: Flat) -> bool:
+    """Whether a condition reads a state."""
+    rows = [row for row in flat.rows() if row.kind == "condition"]
+    return any(key[0] == "x" and key[1] < flat.states for row in rows for key in row.form.parts)
+
+
+def fired_here(samples: Samples, run: Run) -> List[Tuple[float, str]]:
+    """The firings of a run: times and branches."""
+    return [(tick / 2**run.units.time, label) for tick, label in samples.fired]
 
 
 def firings(samples: Samples, reference: "Reference", run: Run) -> Optional[Firings]:
     """How many branches fired in both runs, and the greatest difference of their times if the numbers are equal."""
     if not reference.clauses:
         return None
-    here = [(tick / 2**run.units.time, label) for tick, label in samples.fired]
+    here = fired_here(samples, run)
     there = [(time, label) for time, label in reference.fired if time <= float(run.flat.settings["StopTime"])]
     if len(here) != len(there):
         return Firings(len(here), len(there), None)
