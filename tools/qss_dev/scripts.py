@@ -2,6 +2,7 @@
 from typing import Dict
 
 SCRIPTS: Dict[str, str] = {
+    "alternating-trial": "qss_dev.alternating",
     "build-program": "qss_dev.build",
     "by-ticks": "qss_dev.by_ticks",
     "certificate-table": "qss_dev.certificate_table",
