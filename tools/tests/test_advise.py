@@ -271,7 +271,7 @@ class Tool(InFolder):
 
     def test_settings_that_the_program_refuses_are_not_printed(self):
         model = self.file("buck.mo", BUCK)
-        with mock.patch("qss_tools.advice.advise.refusal_of", return_value="refused: names 8 893 1"):
+        with mock.patch("qss_tools.advice.proposing.refusal_of", return_value="refused: names 8 893 1"):
             _, out, _ = run("qss-advise", model, "--program", STAND_IN)
             self.assertIn(
                 "no settings are proposed: the program does not accept the nearest ones (refused: names 8", out

@@ -75,6 +75,8 @@ def tried(program: str, data: bytes, expected: float) -> Optional[Tried]:
     if not text.flat.states or stop <= 0:
         return None
     coarse = sampled(program, text, MOST_ROWS)
+    if not coarse.status and not any(coarse.values):
+        return None
     if coarse.reached < 1 or coarse.status:
         return Tried(text.flat, [], coarse.levels / max(coarse.reached * part, 1e-9), False, False)
     fine = sampled(program, text.changed(finer_values(text.flat)))
