@@ -5,6 +5,7 @@ from typing import Optional, Sequence, Tuple
 from ..fault import FINE, WARNED
 from ..model.flat import Flat
 from ..model.source import Source
+from ..model.spelling import decimal_text
 from ..model.units import time_unit, unit_after
 from ..output import Output
 from ..settings.coefficients import rounding
@@ -25,7 +26,7 @@ def advise_certificate(source: Source, flat: Flat, program: str, rewrite: Option
             output.write(settings.text.decode("utf-8", "replace"))
     if rewrite != "-":
         print("\n".join(lines_of(source, settings)))
-    return FINE
+    return FINE if settings.use.is_of_use else WARNED
 
 
 def lines_of(source: Source, settings: Settings) -> Sequence[str]:
@@ -33,9 +34,13 @@ def lines_of(source: Source, settings: Settings) -> Sequence[str]:
     system, found, proposal = settings.system, settings.found, settings.proposal
     unit = 2.0**system.level_bits
     bounds = ["%s %.4g" % (name, bound / unit) for name, bound in zip(system.names, found.certificate["E"])]
+    quanta = [f"  {name} annotation(QSS_Quantum = {decimal_text(one)})" for name, one in proposal.own.items()]
     return [
+        *([] if settings.use.is_of_use else [settings.use.text()]),
+        *([] if settings.use.is_of_use else ["no settings were found with which a certificate is of use; the nearest are:"]),
         settings_line(source, settings),
         "  " + annotation(proposal, source),
+        *quanta,
         "bounds E of the certificate, at most %.3g times the lower bound: %s" % (found.ratio, ", ".join(bounds)),
         rounding(settings.flat).sentence,
     ]

@@ -17,6 +17,7 @@ from .advice import settings_line
 from .affine import Affine
 from .conditions import Certificate, read_certificate, text_of
 from .search import NoCertificate, Progress, Search
+from .use import sizes_of, use_of
 from .settings import is_accepted, no_certificate, settings_for_certificate
 
 ABOUT = """Finds a certificate of a model without `when` clauses and with 1 to 16 states, and prints its bounds.
@@ -132,10 +133,9 @@ def report(args: argparse.Namespace, run: Run, search: Search, certificate: Cert
             + ("%.3g" % (certificate["E"][k] / search.t[k]), units.get(name.split("[")[0], ""))
         )
     widths = [max(len(line[place]) for line in lines) for place in range(len(head))]
-    print(
-        "%s: accepted; %d state%s, rates spread by %.3g"
-        % (args.model, system.states, "s"[: system.states != 1], search.spread)
-    )
+    use = use_of(system.names, [bound / unit for bound in certificate["E"]], sizes_of(run.flat))
+    states = f"{system.states} state{'s'[: system.states != 1]}"
+    print(f"{args.model}: {'accepted' if use.is_of_use else use.text()}; {states}, rates spread by {search.spread:.3g}")
     for line in lines:
         print("  ".join(text.ljust(width) for text, width in zip(line, widths)).rstrip())
     print(rounding(run.flat).sentence)
