@@ -1,11 +1,11 @@
-"""The sizes of statements on README and READING are those that tools/reading-index counts."""
+"""The sizes of statements on THEOREMS and READING are those that tools/reading-index counts."""
 import os
 import re
 import unittest
 
 from support import ROOT, run
 
-# What README's drawing and the table of READING count, by the word that begins or names the row.
+# What the drawing of THEOREMS and the table of READING count, by the word that begins or names the row.
 THEOREMS = {
     "sessions_have_properties": ["qss_guarantees.CallProperties.SessionsHaveProperties"],
     "printed_runs_are_near_solution": ["qss_guarantees.RunAndCertificate.PrintedRunsAreNearSolution"],
@@ -57,8 +57,8 @@ class Sizes(unittest.TestCase):
                 self.assertEqual(len(found), 1)
                 self.assertEqual(found[0].split(" | ")[1], self.size(definitions))
 
-    def test_drawing_of_readme(self):
-        rows = [row for row in lines_of("README.md") if re.search(r"  [\d,]+, [\d,]+$", row)]
+    def test_drawing_of_theorems(self):
+        rows = [row for row in lines_of("docs/THEOREMS.md") if re.search(r"  [\d,]+, [\d,]+$", row)]
         self.assertEqual(len(rows), len(DRAWN))
         for name, definitions in DRAWN.items():
             with self.subTest(name):
