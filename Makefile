@@ -1,6 +1,6 @@
 # make                   builds the program: the proved one is built by ./prove
 # make install PREFIX=~  installs program, tools, man page and completions (default: /usr/local)
-# make check             the tests of the tools
+# make check             all tests without proofs: the golden test and the tests of the tools
 PREFIX ?= /usr/local
 # The program that is installed: the proved one, or with PROGRAM=crates/qss/out/unproved/qss the one without proofs.
 PROGRAM ?= crates/qss/out/qss
@@ -33,7 +33,7 @@ install:
 	install -m 644 tools/share/qss.1 "$(MAN)/qss.1"
 	install -m 644 tools/share/qss.bash "$(COMPLETIONS)/qss"
 	for tool in $(TOOLS); do ln -sf qss "$(COMPLETIONS)/$$tool" || exit 1; done
-	python3 tools/qss-tools --version | grep -v -e '^python:' -e '^program:' > "$(LIB)/VERSION"
+	python3 tools/qss-tools --version | grep -v -e '^python:' -e '^program:' -e '^binary:' > "$(LIB)/VERSION"
 	echo "program: $$(python3 tools/qss-tools --proved "$(PROGRAM)")" >> "$(LIB)/VERSION"
 
 uninstall:
@@ -43,4 +43,4 @@ uninstall:
 	rm -f "$(MAN)/qss.1"
 
 check:
-	python3 -m unittest discover tools/tests
+	python3 tools/run-checks

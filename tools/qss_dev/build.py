@@ -20,7 +20,7 @@ from concurrent.futures import FIRST_COMPLETED, Future, ThreadPoolExecutor, wait
 from typing import Any, Dict, Iterator, List, Optional, Sequence, Set, Tuple
 
 from qss_tools.fault import FINE, WARNED, Arguments, run_tool
-from qss_tools.program import ROOT
+from qss_tools.program import ROOT, note_kit
 
 from .crates import PROGRAM, Crates, Kit, failed
 from .schedule import Schedule, shares, work_of
@@ -178,8 +178,17 @@ def is_proved(root: str) -> bool:
     began, crates = time.time(), Crates(root, Kit())
     if crates.to_build():
         return False
-    os.utime(crates.program(), (began, began))
+    settle(crates, began)
     return True
+
+
+def settle(crates: Crates, began: float) -> None:
+    """Makes the program newer than the sources that were there when its build began, its mark newer than the program,
+    and notes the kit.
+    """
+    os.utime(crates.program(), (began, began))
+    os.utime(crates.mark(PROGRAM))
+    note_kit(crates.program())
 
 
 def build(root: str) -> None:
@@ -191,8 +200,7 @@ def build(root: str) -> None:
         began, stamps = time.time(), crates.to_build()
         if stamps:
             Build(crates, stamps).run()
-        # (so that it is newer than each source that was there when the build began, and than no other)
-        os.utime(crates.program(), (began, began))
+        settle(crates, began)
 
 
 def tool(arguments: Sequence[str]) -> int:

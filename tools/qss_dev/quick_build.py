@@ -25,7 +25,7 @@ import time
 from typing import Any, Dict, Iterator, List, Mapping, Optional, Sequence
 
 from qss_tools.fault import FINE, Arguments, Fault, run_tool
-from qss_tools.program import ROOT, UNPROVED, is_current
+from qss_tools.program import ROOT, UNPROVED, is_current, note_kit
 
 from .crates import FAILED, LAST, TARGET, Kit, failed
 from .split_module import NotSplit, split_module
@@ -196,6 +196,10 @@ def build(root: str = ROOT, program: str = UNPROVED) -> None:
         # (so that it is newer than each source that was there when the build began, and than no other)
         os.utime(f"{program}.new", (begun, begun))
         os.replace(f"{program}.new", program)
+        note_kit(program)
+        # (./qss makes this file when it has said that the program is not proved)
+        with contextlib.suppress(FileNotFoundError):
+            os.remove(f"{program}.noted")
     print(f"qss: built without its proofs after {time.time() - begun:.0f} s", file=sys.stderr)
 
 

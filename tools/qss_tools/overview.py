@@ -1,7 +1,8 @@
 """The tools of qss, and what is installed.
 
   tools/qss-tools               lists the tools, with a line for each, and then those for work on qss
-  tools/qss-tools --version     prints the version, the commit, the kit, and whether the program is proved
+  tools/qss-tools --version     prints the version, the commit, the kit, whether the program that runs is proved, and its
+                                SHA-256 digest
 
 Status: 0, or 2 a fault.
 """
@@ -12,10 +13,10 @@ import platform
 import re
 import subprocess
 import sys
-from typing import Iterator, Optional, Sequence, Tuple
+from typing import Iterator, List, Optional, Sequence, Tuple
 
 from .fault import FINE, Arguments, read_bytes, run_tool
-from .program import BUILT, ROOT, UNPROVED, is_current
+from .program import BUILT, LAUNCHER, NOT_PROVED, ROOT, UNPROVED, digest_of, is_current
 from .scripts import PACKAGES, scripts_of
 
 VERSION = "0.1.0"
@@ -32,26 +33,53 @@ def said(command: Sequence[str]) -> Optional[str]:
     return done.stdout.decode("utf-8", "replace").strip() if done.returncode == 0 else None
 
 
-def state_of_program() -> str:
-    """Which program runs, and whether it is proved."""
-    if is_current(BUILT):
-        return "proved on this machine"
+def is_proved(program: str) -> bool:
+    """Whether ./prove built this file, from the sources that are here, with the kit on the path."""
+    mark = os.path.join(os.path.dirname(BUILT), "statements", "qss.mark")
+    if os.path.abspath(program) != BUILT or not os.path.isfile(mark) or not is_current(BUILT):
+        return False
+    return read_bytes(mark).decode("ascii", "replace").split()[-1:] == [digest_of(BUILT)]
+
+
+def state_of_program() -> Tuple[str, Optional[str]]:
+    """Which program ./qss runs and whether it is proved, and its path."""
+    if is_proved(BUILT):
+        return "proved on this machine", BUILT
+    if os.access(UNPROVED, os.X_OK) and is_current(UNPROVED):
+        return NOT_PROVED, UNPROVED
     if os.access(BUILT, os.X_OK):
-        return "proved from other sources; ./prove proves these"
+        return "proved from other sources or with another kit; ./prove proves these", BUILT
     if os.access(UNPROVED, os.X_OK):
-        return "not proved on this machine; ./prove builds the proved program"
-    return "not built; ./prove proves and builds it"
+        return "not proved, and built from other sources or with another kit; ./qss builds it again", UNPROVED
+    return "not built; ./prove proves and builds it", None
+
+
+def binary_line(program: str) -> str:
+    """The line with the digest of a program."""
+    return f"binary: sha256 {digest_of(program)}"
+
+
+def installed_lines() -> List[str]:
+    """The lines that `make install` wrote, if the program next to these tools is still the same."""
+    lines = read_bytes(INSTALLED).decode().splitlines()
+    found = binary_line(LAUNCHER) if os.access(LAUNCHER, os.R_OK) else "binary: none"
+    if found in lines:
+        return lines
+    state = "program: another one than make install put there"
+    return [state if line.startswith("program:") else found if line.startswith("binary:") else line for line in lines]
 
 
 def version_lines() -> Sequence[str]:
     """The lines of --version."""
     if os.path.isfile(INSTALLED):
-        lines = read_bytes(INSTALLED).decode().splitlines()
+        lines = installed_lines()
     else:
         commit = said(["git", "rev-parse", "--short=12", "HEAD"]) or "unknown"
         changed = " with changes" if commit != "unknown" and said(["git", "status", "--porcelain"]) else ""
         lines = ["qss-tools %s" % VERSION, "commit: %s%s" % (commit, changed)]
-        lines += ["kit: %s" % (said(["rt", "version"]) or "none on the path"), "program: %s" % state_of_program()]
+        state, program = state_of_program()
+        lines += ["kit: %s" % (said(["rt", "version"]) or "none on the path"), "program: %s" % state]
+        lines += [binary_line(program)] if program else []
     return [*lines, "python: %s" % platform.python_version()]
 
 
@@ -76,11 +104,11 @@ def first_sentence(tree: ast.Module) -> str:
 def tool(arguments: Sequence[str]) -> int:
     parser = Arguments(prog="qss-tools", description=__doc__)
     parser.add_argument("--version", action="store_true", help="print what is installed")
-    parser.add_argument("--proved", metavar="PROGRAM", help="print whether this program is proved")
+    parser.add_argument("--proved", metavar="PROGRAM", help="print whether this program is proved, and its digest")
     args = parser.parse_args(arguments)
     if args.proved:
-        is_proved = os.path.abspath(args.proved) == BUILT and is_current(BUILT)
-        print("proved" if is_proved else "not proved")
+        print("proved" if is_proved(args.proved) else "not proved")
+        print(binary_line(args.proved))
         return FINE
     if args.version:
         print("\n".join(version_lines()))

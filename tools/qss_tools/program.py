@@ -1,10 +1,11 @@
 """Finds the program `qss` and calls it."""
+import hashlib
 import os
 import shutil
 import subprocess
 import sys
 from argparse import ArgumentParser
-from typing import Any, Iterator, NamedTuple, Optional, Sequence
+from typing import Any, Iterator, List, NamedTuple, Optional, Sequence
 
 from .fault import Fault
 
@@ -13,6 +14,8 @@ ROOT = os.path.dirname(os.path.dirname(os.path.dirname(os.path.abspath(__file__)
 LAUNCHER = os.path.join(ROOT, "qss")
 BUILT = os.path.join(ROOT, "crates", "qss", "out", "qss")
 UNPROVED = os.path.join(ROOT, "crates", "qss", "out", "unproved", "qss")
+# The variable that names the program for all tools.
+VARIABLE = "QSS_PROGRAM"
 PARTS = ("src", "specs", "proofs")
 # Statuses of the program.
 REJECTED, REFUSED, OVERFLOWED, OUT_OF_MEMORY = 1, 5, 6, 8
@@ -35,10 +38,11 @@ def add_program_option(parser: ArgumentParser) -> None:
 
 
 def find_program(path: Optional[str] = None) -> str:
-    """The program of this path, or else the one that ./qss runs, where it is built: a tool starts no build.
+    """The program of this path or of QSS_PROGRAM, or else the one that ./qss runs, where it is built.
 
-    The proved program comes first. With QSS_PROVED=1 an unproved one is never used.
+    A tool starts no build. The proved program comes first. With QSS_PROVED=1 an unproved one is never used.
     """
+    path = path or os.environ.get(VARIABLE) or None
     if path is not None:
         if not os.access(path, os.X_OK) or os.path.isdir(path):
             raise Fault("%s: no program that can be run" % path)
@@ -54,9 +58,11 @@ def find_program(path: Optional[str] = None) -> str:
             if found == UNPROVED and sys.stderr is not None and sys.stderr.isatty():
                 print("qss: %s" % NOT_PROVED, file=sys.stderr)
             return found
+    if not os.path.isfile(os.path.join(ROOT, "crates.txt")):
+        raise Fault(f"the program qss is not on the path; or name it with --program or by the variable {VARIABLE}")
     raise Fault(
         "the program is not built: './qss print examples/decay.mo' builds it without its proofs in about two minutes,"
-        " and ./prove proves and builds it; or name a built one with --program"
+        f" and ./prove proves and builds it; or name a built one with --program or by the variable {VARIABLE}"
     )
 
 
@@ -91,11 +97,45 @@ def sources(root: str = ROOT) -> Iterator[str]:
 
 
 def is_current(program: str, root: str = ROOT) -> bool:
-    """Whether a program is built, and no source is newer."""
+    """Whether a program is built, no source is newer, and the kit is the one with which it was built."""
     if not os.access(program, os.X_OK):
         return False
     built = os.stat(program).st_mtime_ns
-    return not any(os.stat(path).st_mtime_ns > built for path in sources(root) if os.path.exists(path))
+    newer = any(os.stat(path).st_mtime_ns > built for path in sources(root) if os.path.exists(path))
+    return not newer and has_same_kit(program)
+
+
+def kit_lines() -> Optional[List[str]]:
+    """The path of rt and the line that identifies its kit, or None if no rt is on the path."""
+    command = shutil.which("rt")
+    if command is None:
+        return None
+    done = subprocess.run([command, "version"], stdout=subprocess.PIPE, stderr=subprocess.DEVNULL, check=False)
+    return [os.path.realpath(command), done.stdout.decode("utf-8", "replace").strip()]
+
+
+def note_kit(program: str) -> None:
+    """Notes next to a program the kit with which it was built. ./qss reads this file."""
+    with open(os.path.join(os.path.dirname(program), "kit"), "w", encoding="utf-8") as file:
+        file.write("\n".join(kit_lines() or []) + "\n")
+
+
+def has_same_kit(program: str) -> bool:
+    """Whether the kit on the path is the one with which a program was built, or no kit is on the path."""
+    found = kit_lines()
+    if found is None:
+        return True
+    try:
+        with open(os.path.join(os.path.dirname(program), "kit"), encoding="utf-8") as file:
+            return file.read().splitlines()[1:] == found[1:]
+    except OSError:
+        return False
+
+
+def digest_of(program: str) -> str:
+    """The SHA-256 digest of a program."""
+    with open(program, "rb") as file:
+        return hashlib.sha256(file.read()).hexdigest()
 
 
 def start(program: str, arguments: Sequence[str], **streams: Any) -> "subprocess.Popen[bytes]":

@@ -12,21 +12,35 @@ import unittest
 TESTS = os.path.dirname(os.path.abspath(__file__))
 TOOLS = os.path.dirname(TESTS)
 ROOT = os.path.dirname(TOOLS)
-BUILT = os.path.join(ROOT, "crates", "qss", "out", "qss")
 STAND_IN = os.path.join(TESTS, "stand_in")
 # A program that runs any model: tick by tick, in Python, where the program is not built.
 BY_TICKS = os.path.join(TESTS, "by_ticks_program")
+
+sys.path.insert(0, TOOLS)
+from qss_tools import program  # noqa: E402
+
+
+def program_to_test():
+    """The program that QSS_PROGRAM names, or the proved one, or the one without proofs if no source is newer."""
+    named = os.environ.get(program.VARIABLE)
+    if named or os.path.exists(program.BUILT) or not program.is_current(program.UNPROVED):
+        return named or program.BUILT
+    return program.UNPROVED
+
+
+BUILT = program_to_test()
 PROGRAM = BUILT if os.path.exists(BUILT) else BY_TICKS
-# Tests use the proved program or a stand-in, and never an unproved one.
-os.environ["QSS_PROVED"] = "1"
+# The tools run the program to test too. Where there is none, they run no unproved one from other sources.
+if os.path.exists(BUILT):
+    os.environ[program.VARIABLE] = BUILT
+else:
+    os.environ["QSS_PROVED"] = "1"
 # No tool changes to an interpreter that has numpy, unless a test removes this.
 os.environ["QSS_STARTED_BY"] = "tests"
 # Scripts run by the interpreter of the tests.
 os.environ["PATH"] = os.pathsep.join([os.path.dirname(sys.executable), os.environ.get("PATH", "")])
 # Pictures are those that need no package, unless a test removes this.
 os.environ["QSS_PLAIN"] = "1"
-
-sys.path.insert(0, TOOLS)
 
 
 def run(tool, *words, given=""):

@@ -15,6 +15,7 @@ CRATES = "# lowest first\nlow:\nmiddle: low itoa\nupper: middle\nhigh: upper\nqs
 # and its jobs, needs what is below a crate, and fails as FAILS asks; rt try calls the compiler that lies beside it; the
 # linker makes a program that prints its arguments.
 COMPILING = "qss: compiling the program without its proofs"
+NOT_PROVED = "qss: not proved on this machine; ./prove builds the proved program"
 RT = """#!/bin/sh
 case $1 in
 doc) echo "$KIT/START-HERE.md" ;;
@@ -211,17 +212,72 @@ class Builds(InFolder):
         self.run_it()
         self.assertEqual(self.call("run", "a.mo", QSS_PROVED="1"), (5, "ran run a.mo\n", []))
 
-    def test_a_terminal_is_told_that_nothing_is_proved(self):
-        self.call("run", "a.mo")
+    def on_terminal(self, *words):
+        """Runs ./qss with standard error on a terminal; its status, its output, and the lines on the terminal."""
         ours, theirs = pty.openpty()
-        how = {"stdout": subprocess.PIPE, "stderr": theirs, "env": {**os.environ, "QSS_PROVED": "0"}}
-        with subprocess.Popen([f"{self.folder}/qss", "run", "a.mo"], **how) as front:
+        path = f"{self.kit}/bin:{os.environ['PATH']}"
+        environment = {**os.environ, "QSS_PROVED": "0", "PATH": path, "KIT": self.kit}
+        how = {"stdout": subprocess.PIPE, "stderr": theirs, "env": environment, "cwd": self.folder}
+        with subprocess.Popen([f"{self.folder}/qss", *words], **how) as front:
             os.close(theirs)
             out = front.communicate()[0]
-        line = os.read(ours, 1000).decode()
+        lines = os.read(ours, 1000).decode().splitlines()
         os.close(ours)
-        self.assertEqual(out, b"unproved run a.mo\n")
-        self.assertEqual(line, "qss: not proved on this machine; ./prove builds the proved program\r\n")
+        return front.returncode, out.decode(), lines
+
+    def test_a_terminal_is_told_that_nothing_is_proved(self):
+        self.call("run", "a.mo")
+        for _ in range(2):
+            self.assertEqual(self.on_terminal("run", "a.mo"), (5, "unproved run a.mo\n", [NOT_PROVED]))
+
+    def test_others_are_told_once_after_each_build(self):
+        self.assertEqual(self.call("run", "a.mo")[2][3:], [NOT_PROVED])
+        self.assertEqual(self.call("run", "a.mo"), (5, "unproved run a.mo\n", []))
+        self.change("crates/low/src/lib.rt", "//\n")
+        self.assertEqual(self.call("run", "a.mo")[2][3:], [NOT_PROVED])
+        self.run_it()
+        self.assertEqual(self.call("run", "a.mo"), (5, "ran run a.mo\n", []))
+
+    def test_a_changed_kit_is_a_change(self):
+        self.call("run", "a.mo")
+        self.file("kit/version", "another kit\n")
+        # (the kit is looked at where its rt is newer than the note of the kit)
+        os.chmod(self.file("kit/bin/rt", RT), 0o755)
+        self.assertIn(COMPILING, self.call("run", "a.mo")[2])
+        self.assertEqual(self.call("run", "a.mo"), (5, "unproved run a.mo\n", []))
+        self.run_it()
+        self.file("kit/version", "a third kit\n")
+        os.chmod(self.file("kit/bin/rt", RT), 0o755)
+        self.assertEqual(self.call("run", "a.mo")[:2], (5, "unproved run a.mo\n"))
+
+    def test_a_program_that_is_not_the_proved_one(self):
+        self.run_it()
+        os.chmod(self.file("crates/qss/out/qss", "#!/bin/sh\necho other\n"), 0o755)
+        self.assertEqual(self.call("run", "a.mo")[:2], (5, "unproved run a.mo\n"))
+
+    def test_help(self):
+        for word in ("--help", "-h"):
+            status, out, err = self.call(word)
+            self.assertEqual((status, err), (0, []))
+            for verb in ("run", "devs", "run2", "print", "certify", "propose", "upgrade", "check", "compare", "gen"):
+                self.assertIn(f"\n  {verb} ", out)
+        self.assertFalse(os.path.exists(f"{self.folder}/crates/qss/out"))
+
+    def test_hints_are_only_for_terminals(self):
+        self.call("run", "a.mo")
+        asked = "qss: ./qss --help lists the commands"
+        self.file("model.mo", "")
+        program = self.file("crates/qss/out/unproved/qss", "#!/bin/sh\necho said >&2\nexit $1\n")
+        os.chmod(program, 0o755)
+        missing = ["qss: there is no file model, but model.mo"]
+        for words, lines in (
+            (("2", "x"), [f"{asked}; tools/qss-tools --version prints which program runs"]),
+            (("3", "model"), missing),
+            (("3", "b.mo"), ["qss: there is no file b.mo"]),
+            (("5", "b.mo"), []),
+        ):
+            self.assertEqual(self.call(*words)[::2], (int(words[0]), ["said"]))
+            self.assertEqual(self.on_terminal(*words), (int(words[0]), "", [NOT_PROVED, "said", *lines]))
 
     def test_a_kit_without_this_way_proves(self):
         for fails, why in (

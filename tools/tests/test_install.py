@@ -43,6 +43,7 @@ class Installed(InFolder):
 
     def call(self, *words):
         environment = {**os.environ, "QSS_PROVED": "0"}
+        environment.pop("QSS_PROGRAM", None)
         done = subprocess.run(words, cwd=self.folder, env=environment, stdout=subprocess.PIPE, stderr=subprocess.PIPE)
         return done.returncode, done.stdout.decode(), done.stderr.decode()
 
@@ -59,7 +60,12 @@ class Installed(InFolder):
         self.assertEqual((status, out, err), (0, "time,x\n0,0\n1,1\n", ""))
         status, out, err = self.call(sys.executable, self.path("bin", "qss-tools"), "--version")
         self.assertEqual((status, err), (0, ""))
-        self.assertRegex(out, r"^qss-tools [\d.]+\ncommit: .+\nkit: .+\nprogram: .+\npython: [\d.]+")
+        self.assertRegex(out, r"^qss-tools [\d.]+\ncommit: .+\nkit: .+\nprogram: .+\nbinary: sha256 .+\npython: [\d.]+")
+        with open(self.path("lib", "qss", "qss"), "ab") as file:
+            file.write(b"\0")
+        changed = self.call(sys.executable, self.path("bin", "qss-tools"), "--version")[1]
+        self.assertIn("\nprogram: another one than make install put there\nbinary: sha256 ", changed)
+        self.assertNotEqual(re.findall("sha256 .*", changed), re.findall("sha256 .*", out))
         status, out, err = self.call(sys.executable, self.path("bin", "qss-tools"))
         self.assertEqual((status, err), (0, ""))
         self.assertIn("qss-plot ", out)
