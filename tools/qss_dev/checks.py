@@ -18,7 +18,7 @@ import time
 from collections import Counter
 from concurrent.futures import ThreadPoolExecutor
 from dataclasses import dataclass, field
-from typing import Dict, List, Optional, Sequence, Tuple
+from typing import Any, Dict, List, Optional, Sequence, Tuple
 
 from qss_tools.fault import FINE, WARNED, Arguments, Fault, run_tool
 from qss_tools.program import BUILT, ROOT, UNPROVED, VARIABLE, is_current
@@ -77,7 +77,7 @@ def run_module(name: str, program: str) -> Outcome:
     """Runs a test module by this program, in a process of its own."""
     begun = time.monotonic()
     words = [sys.executable, "-m", "unittest", "discover", "--verbose", "-p", name + ".py", TESTS]
-    streams = {"stdin": subprocess.DEVNULL, "stdout": subprocess.PIPE, "stderr": subprocess.STDOUT}
+    streams: Dict[str, Any] = {"stdin": subprocess.DEVNULL, "stdout": subprocess.PIPE, "stderr": subprocess.STDOUT}
     environment = {**os.environ, VARIABLE: program}
     try:
         done = subprocess.run(words, cwd=ROOT, env=environment, timeout=LONGEST, check=False, **streams)
@@ -132,8 +132,8 @@ def tool(arguments: Sequence[str]) -> int:
         started = [pool.submit(run_module, name, program) for name in names]
         if not args.words:
             started.append(pool.submit(run_golden_test, program))
-        for one in started:
-            outcomes.append(one.result())
+        for begun in started:
+            outcomes.append(begun.result())
             if outcomes[-1].counts["failed"]:
                 print(outcomes[-1].output)
     for one in sorted(outcomes, key=lambda it: -it.seconds) if args.slowest else ():

@@ -104,7 +104,7 @@ def run(program: str, words: Sequence[bytes], folder: str, limit: Optional[int] 
         how["preexec_fn"] = lambda: resource.setrlimit(resource.RLIMIT_FSIZE, (limit, limit))
     with tempfile.TemporaryFile() as out, open("/dev/full", "wb") as device:
         # (standard error is a pipe, to which the limit does not apply)
-        streams = {"stdout": out, "stderr": device if full else subprocess.PIPE}
+        streams: Dict[str, Any] = {"stdout": out, "stderr": device if full else subprocess.PIPE}
         try:
             done = subprocess.run([program, *words], timeout=LONGEST, check=False, **streams, **how)
         except subprocess.TimeoutExpired:

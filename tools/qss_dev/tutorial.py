@@ -1,7 +1,7 @@
-"""Runs each command of docs/TUTORIAL.md, and writes its output below it.
+"""Runs each command of README.md and docs/TUTORIAL.md, and writes its output below it.
 
-  tools/run-tutorial            runs all commands, from the repository's root, and writes the page and its figures anew
-  tools/run-tutorial --check    runs them and reports the first whose output differs from the page
+  tools/run-tutorial            runs all commands, from the repository's root, and writes the pages and their figures anew
+  tools/run-tutorial --check    runs them and reports the first whose output differs from its page
 
 A command is a line '$ ..' in a console block. Its output is the lines up to the next command. Commands write files into
 the folder tour/.
@@ -15,9 +15,9 @@ from typing import Match, Optional, Sequence
 
 from qss_tools.fault import FINE, Arguments, Fault, read_bytes, run_tool
 from qss_tools.output import Output
-from qss_tools.program import ROOT, find_program
+from qss_tools.program import LAUNCHER, ROOT, find_program
 
-PAGE = os.path.join(ROOT, "docs", "TUTORIAL.md")
+PAGES = ("README.md", "docs/TUTORIAL.md")
 BLOCK = re.compile(r"(?<=```console\n).*?(?=```)", re.DOTALL)
 MOST_SECONDS = 300
 
@@ -36,28 +36,44 @@ def said(command: str) -> str:
     return done.stdout.decode("utf-8", "replace")
 
 
+def renewed(page: str, text: str, is_check: bool) -> "tuple[str, int]":
+    """The text of a page with the outputs of its commands, and how many commands it has."""
+    count = 0
+
+    def with_outputs(block: Match[str]) -> str:
+        nonlocal count
+        lines = ""
+        for command, shown in re.findall(r"^\$ ([^\n]*)\n((?:(?!\$ )[^\n]*\n)*)", block.group(), re.MULTILINE):
+            now, count = said(command), count + 1
+            if is_check and now != shown:
+                raise Fault("%s: '%s' says something else now: %s" % (page, command, now[:200]))
+            lines += "$ %s\n%s" % (command, now)
+        return lines
+
+    return BLOCK.sub(with_outputs, text), count
+
+
+def copy_figures(text: str) -> None:
+    """Copies the figures of a page that its commands drew."""
+    for figure in re.findall(r"\]\((?:docs/)?figures/(\w+\.svg)\)", text):
+        shutil.copyfile(os.path.join(ROOT, "tour", figure), os.path.join(ROOT, "docs", "figures", figure))
+
+
 def tool(arguments: Sequence[str]) -> int:
     parser = Arguments(prog="run-tutorial", description=__doc__)
     parser.add_argument("--check", action="store_true", help="write nothing")
     args = parser.parse_args(arguments)
     find_program(None)
-    page = read_bytes(PAGE).decode()
-
-    def renewed(block: Match[str]) -> str:
-        text = ""
-        for command, shown in re.findall(r"^\$ ([^\n]*)\n((?:(?!\$ )[^\n]*\n)*)", block.group(), re.MULTILINE):
-            now = said(command)
-            if args.check and now != shown:
-                raise Fault("%s: '%s' says something else now: %s" % (PAGE, command, now[:200]))
-            text += "$ %s\n%s" % (command, now)
-        return text
-
-    new = BLOCK.sub(renewed, page)
-    if not args.check:
-        with Output(PAGE) as output:
-            output.write(new)
-        for figure in re.findall(r"\]\(figures/(\w+\.svg)\)", new):
-            shutil.copyfile(os.path.join(ROOT, "tour", figure), os.path.join(ROOT, "docs", "figures", figure))
+    # (a first call of ./qss may say that the program is not proved: this is no part of a page)
+    subprocess.run([LAUNCHER, "gen", "0", "1"], stdin=subprocess.DEVNULL, stdout=subprocess.DEVNULL, check=False)
+    for page in PAGES:
+        path = os.path.join(ROOT, page)
+        text, count = renewed(page, read_bytes(path).decode(), args.check)
+        if not args.check:
+            with Output(path) as output:
+                output.write(text)
+            copy_figures(text)
+        print("%s: %d commands%s" % (page, count, ", as the page shows them" if args.check else ""))
     return FINE
 
 
