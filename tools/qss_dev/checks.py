@@ -1,4 +1,4 @@
-"""Builds the program if it is not there, and runs the golden test and all tests of the tools by it: no proof is checked.
+"""Builds the program if it is not there, and runs the golden test and all tests of the tools by it. Nothing is proved.
 
   tools/run-checks              all of this: `make check` calls it
   tools/run-checks WORD ..      only the test modules whose names have one of these words
@@ -45,7 +45,7 @@ class Outcome:
 
 
 def program_to_test() -> str:
-    """The proved program if it was built from these sources, or else the one without proofs, which is built if needed."""
+    """The proved program if it was built from these sources, or else the one without proofs, built if needed."""
     if is_current(BUILT):
         return BUILT
     try:

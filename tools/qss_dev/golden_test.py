@@ -22,7 +22,7 @@ from typing import Any, Callable, Dict, List, Optional, Sequence
 from qss_tools.fault import FINE, WARNED, Arguments, read_bytes, run_tool
 from qss_tools.program import ROOT, add_program_option, find_program
 
-from .golden_script import Call, Prefixes, Script, Step, Sum, Text, plain
+from .golden_script import Call, Prefixes, Script, Step, Text, plain
 
 FOLDER = os.path.join(ROOT, "crates", "transcript")
 WRITE_FAULT = 4

@@ -1,6 +1,6 @@
 """Runs each command of README.md and docs/TUTORIAL.md, and writes its output below it.
 
-  tools/run-tutorial            runs all commands, from the repository's root, and writes the pages and their figures anew
+  tools/run-tutorial            runs all commands, from the repository's root, and writes pages and figures anew
   tools/run-tutorial --check    runs them and reports the first whose output differs from its page
 
 A command is a line '$ ..' in a console block. Its output is the lines up to the next command. Commands write files into

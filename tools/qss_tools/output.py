@@ -20,6 +20,9 @@ class Output:
     def write(self, text: str) -> None:
         self.held.write(text.encode())
 
+    def write_bytes(self, data: bytes) -> None:
+        self.held.write(data)
+
     def finish(self) -> None:
         """Passes on all that was written."""
         self.held.seek(0)

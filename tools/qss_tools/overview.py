@@ -1,7 +1,7 @@
 """The tools of qss, and what is installed.
 
   tools/qss-tools               lists the tools, with a line for each, and then those for work on qss
-  tools/qss-tools --version     prints the version, the commit, the kit, whether the program that runs is proved, and its
+  tools/qss-tools --version     prints version, commit and kit, whether the program that runs is proved, and its
                                 SHA-256 digest
 
 Status: 0, or 2 a fault.

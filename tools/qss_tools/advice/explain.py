@@ -1,9 +1,11 @@
 """The tool qss-explain: explains refusals, overflows and rejections, with their places in the source."""
 import argparse
+import json
 import os
 import re
 import sys
-from typing import List, Optional, Sequence
+import tempfile
+from typing import Callable, Dict, List, NamedTuple, Optional, Sequence
 
 from ..fault import FINE, WARNED, Arguments, Fault, read_bytes, run_tool
 from ..model.flat import ALGEBRAIC, DISCRETE, PARAMETER, STATE, Flat, Meaningless, roles_of
@@ -11,9 +13,10 @@ from ..model.grammar import Model, SyntaxFault, parse
 from ..model.source import LONGEST, Source, Token
 from ..model.story import Story
 from ..model.walks import uses
+from ..output import Output
 from ..program import add_program_option, call, find_program
 from ..settings import limits
-from . import certificate_story, compare_story, hints, trace_story
+from . import certificate_story, compare_story, edits, hints, trace_story
 from .products import not_affine
 
 LINE = re.compile(r"^refused: (\w+) (\d+)((?: \S+)*)$")
@@ -342,8 +345,12 @@ ABOUT = """Why the program refused a model or a run overflowed, with the place i
   tools/qss-explain MODEL --line 'refused: parse 1 45'       explains this line
   tools/qss-explain MODEL --certificate CERTIFICATE          checks a certificate and explains the verdict
   tools/qss-explain MODEL --trace TRACE                      checks a trace and explains the verdict
+  tools/qss-explain MODEL --apply NEW                        writes the model with all fixes that are certain to NEW
+  tools/qss-explain MODEL --json                             prints the mistakes and their edits for programs
 
 A line on standard input is explained. Where there is none, the model is run. Lines of the form 'qss: ..' are skipped.
+If the fix of a mistake is certain, the next mistake is explained too, as far as the program finds it after this fix.
+With --json each mistake is an object: its place, its sentence, its fixes, and the edits of a certain fix (bytes from 0).
 Status: 0 the run or the check succeeded, 1 a line was explained, 2 a fault of this tool."""
 
 
@@ -353,19 +360,102 @@ def tool(arguments: Sequence[str]) -> int:
     parser.add_argument("--line", help="the line to explain")
     parser.add_argument("--certificate", metavar="FILE", help="the certificate of which the line speaks")
     parser.add_argument("--trace", metavar="FILE", help="the trace of which the line speaks")
+    parser.add_argument("--apply", metavar="NEW", help="write the model with the fixes that are certain to this file")
+    parser.add_argument("--force", action="store_true", help="write the file although it exists")
+    parser.add_argument("--json", action="store_true", help="print the mistakes and their edits as JSON")
     add_program_option(parser)
     args = parser.parse_args(arguments)
-    line = (args.line if args.line is not None else piped_line() or line_of_run(args)).strip()
-    if not line:
-        return FINE
+    if args.apply is not None and os.path.exists(args.apply) and not args.force:
+        raise Fault("%s: this file exists (--force writes it)" % args.apply)
+    given = args.line if args.line is not None else piped_line()
+    line = (given or line_of_run(args)).strip()
     if line == "read fault" and not os.path.isfile(args.model):
         print("%s: %s" % (args.model, why_unreadable(args.model)))
         return WARNED
     source = Source(args.model, read_bytes(args.model))
     name = args.certificate or args.trace
-    beside = None if name is None else Source(name, read_bytes(name))
-    print(explain(source, line, beside).text(source, beside))
-    return WARNED
+    if name is not None:
+        beside = Source(name, read_bytes(name))
+        print(explain(source, line, beside).text(source, beside) if line else "", end="\n" if line else "")
+        return WARNED if line else FINE
+    # (a given line says one thing, and the model is run only to find more)
+    again = None if given and args.apply is None else lambda data: line_of_text(args, data)
+    mistakes, mended = mistakes_of(source, line, again)
+    if args.json:
+        print(json.dumps([mistake.as_json(source) for mistake in mistakes], indent=2))
+    else:
+        print("".join(mistake.text(source) + "\n" for mistake in mistakes), end="")
+    if args.apply is not None:
+        with Output(args.apply) as output:
+            output.write_bytes(mended)
+        number = sum(1 for mistake in mistakes if mistake.edits)
+        print("%s: %d of %d mistakes are mended" % (args.apply, number, len(mistakes)), file=sys.stderr)
+    return WARNED if mistakes else FINE
+
+
+class Mistake(NamedTuple):
+    """A mistake: the program's line, its story in the text in which it was found, and the edits that mend this text."""
+
+    line: str
+    story: Story
+    found_in: Source
+    edits: Optional[edits.Edits]
+    before: Sequence[edits.Edits]  # the edits of the mistakes before it, which made that text
+
+    def place(self, at: int) -> int:
+        """The byte of the source to which a byte of the text belongs."""
+        for some in reversed(self.before):
+            at = edits.place_before(at, some)
+        return at
+
+    def text(self, source: Source) -> str:
+        """The story with its place in the source."""
+        if self.story.at is None or not self.before:
+            return self.story.text(source)
+        at = self.place(self.story.at)
+        return Story(at, self.story.sentence, *self.story.ways, width=self.found_in.width_at(self.story.at)).text(
+            source
+        )
+
+    def as_json(self, source: Source) -> Dict[str, object]:
+        at = None if self.story.at is None else self.place(self.story.at)
+        row, column = (None, None) if at is None else source.place(at)
+        moved = [edits.Edit(self.place(it.begin), self.place(it.end), it.text) for it in self.edits or ()]
+        told = {"file": source.name, "line": row, "column": column, "byte": at, "program": self.line}
+        fixes = {"fixes": self.story.ways, "certain": bool(moved), "edits": edits.as_json(moved, source)}
+        return {**told, "sentence": self.story.sentence, **fixes}
+
+
+MOST_MISTAKES = 50
+
+
+def mistakes_of(source: Source, line: str, again: Optional[Callable[[bytes], str]]) -> "tuple[List[Mistake], bytes]":
+    """The mistakes of a source from this line on, as far as fixes are certain, and the source with these fixes.
+
+    `again` runs a text and returns the program's line; without it there is one mistake.
+    """
+    found: List[Mistake] = []
+    before: List[edits.Edits] = []
+    here = source
+    while line and len(found) < MOST_MISTAKES:
+        some = edits.certain_edits(here, line, wanted_at)
+        found.append(Mistake(line, explain(here, line), here, some, tuple(before)))
+        if not some or again is None:
+            break
+        before.append(some)
+        here = Source(source.name, edits.applied(here.data, some))
+        line = again(here.data)
+    return found, here.data
+
+
+def line_of_text(args: argparse.Namespace, data: bytes) -> str:
+    """The program's line for this text of the model, unless its run overflows."""
+    with tempfile.TemporaryDirectory(prefix="qss-") as folder:
+        path = os.path.join(folder, "model.mo")
+        with open(path, "wb") as file:
+            file.write(data)
+        line = call(find_program(args.program), ["run", path, "--only", "-"], keep=False).line
+    return line if line.startswith("refused:") else ""
 
 
 def piped_line() -> str:
