@@ -23,5 +23,6 @@ SCRIPTS: Dict[str, str] = {
     "seed-calls": "qss_dev.seed_calls",
     "stack-use": "qss_dev.stack_use",
     "tool-times": "qss_dev.tool_times",
+    "try-editor": "qss_dev.try_editor",
     "try-mutants": "qss_dev.mutants",
 }

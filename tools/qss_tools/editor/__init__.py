@@ -1,0 +1,1 @@
+"""The language server for editors, and what it knows about a text that is being written."""
