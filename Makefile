@@ -1,6 +1,9 @@
 # make                   builds the program: the proved one is built by ./prove
 # make install PREFIX=~  installs program, tools, man page and completions (default: /usr/local)
 # make check             all tests without proofs: the golden test and the tests of the tools
+# make wheel             writes a wheel with program and tools into dist, for pip
+# make deb               writes a Debian package with program, tools, pages and examples into dist
+# make docs              writes the pages as HTML with search into dist/site
 PREFIX ?= /usr/local
 # The program that is installed: the proved one, or with PROGRAM=crates/qss/out/unproved/qss the one without proofs.
 PROGRAM ?= crates/qss/out/qss
@@ -12,7 +15,7 @@ COMPLETIONS = $(DESTDIR)$(PREFIX)/share/bash-completion/completions
 MODULES = $(wildcard tools/qss_tools/*.py tools/qss_tools/*/*.py)
 TOOLS = $(notdir $(wildcard tools/qss-*)) rows-to-trace solution-to-trace
 
-.PHONY: all install uninstall check
+.PHONY: all install uninstall check wheel deb docs
 
 all:
 	./qss gen 0 1
@@ -44,3 +47,9 @@ uninstall:
 
 check:
 	python3 tools/run-checks
+
+wheel deb:
+	python3 tools/make-package $@ --program "$(PROGRAM)"
+
+docs:
+	python3 tools/make-site

@@ -15,6 +15,8 @@ SCRIPTS: Dict[str, str] = {
     "largest-inputs": "qss_dev.largest_inputs",
     "make-gallery": "qss_dev.gallery",
     "make-index": "qss_dev.index",
+    "make-package": "qss_dev.package",
+    "make-site": "qss_dev.site",
     "quick-build": "qss_dev.quick_build",
     "reading-index": "qss_dev.reading_index",
     "refused-memory": "qss_dev.refused_memory",
@@ -25,4 +27,5 @@ SCRIPTS: Dict[str, str] = {
     "tool-times": "qss_dev.tool_times",
     "try-editor": "qss_dev.try_editor",
     "try-mutants": "qss_dev.mutants",
+    "try-packages": "qss_dev.try_packages",
 }

@@ -1,10 +1,11 @@
 """The tools of qss, and what is installed.
 
   tools/qss-tools               lists the tools, with a line for each, and then those for work on qss
+  tools/qss-tools NAME ..       runs the tool NAME with the words that follow; NAME can be without its first 'qss-'
   tools/qss-tools --version     prints version, commit and kit, whether the program that runs is proved, and its
                                 SHA-256 digest
 
-Status: 0, or 2 a fault.
+Status: 0, or 2 a fault; with NAME, the status of that tool.
 """
 import ast
 import importlib.util
@@ -15,13 +16,15 @@ import subprocess
 import sys
 from typing import Iterator, List, Optional, Sequence, Tuple
 
+from .by_name import run_by_name
 from .fault import FINE, Arguments, read_bytes, run_tool
 from .program import BUILT, LAUNCHER, NOT_PROVED, ROOT, UNPROVED, digest_of, is_current
 from .scripts import PACKAGES, scripts_of
 
 VERSION = "0.1.0"
-# The file that `make install` writes next to the program: the lines of --version.
-INSTALLED = os.path.join(ROOT, "VERSION")
+# The file that `make install` writes next to the program, or `make wheel` into the package: the lines of --version.
+WRITTEN = (os.path.join(ROOT, "VERSION"), os.path.join(os.path.dirname(os.path.abspath(__file__)), "VERSION"))
+INSTALLED = next((path for path in WRITTEN if os.path.isfile(path)), WRITTEN[0])
 
 
 def said(command: Sequence[str]) -> Optional[str]:
@@ -122,8 +125,10 @@ def tool(arguments: Sequence[str]) -> int:
 
 
 def main(arguments: Optional[Sequence[str]] = None) -> int:
-    """Runs the tool and returns its status."""
-    return run_tool("qss-tools", tool, arguments)
+    """Runs the tool, or the one that is named, and returns its status."""
+    words = sys.argv[1:] if arguments is None else arguments
+    is_name = bool(words) and not words[0].startswith("-")
+    return run_tool("qss-tools", run_by_name if is_name else tool, words)
 
 
 if __name__ == "__main__":

@@ -5,6 +5,7 @@ import shutil
 import subprocess
 import sys
 from argparse import ArgumentParser
+from importlib import metadata
 from typing import Any, Iterator, List, NamedTuple, Optional, Sequence
 
 from .fault import Fault
@@ -53,7 +54,7 @@ def find_program(path: Optional[str] = None) -> str:
         return LAUNCHER
     if os.environ.get("QSS_PROVED") == "1":
         raise Fault("the program is not proved on this machine, and QSS_PROVED is 1; ./prove builds the proved program")
-    for found in (UNPROVED, LAUNCHER, shutil.which("qss") or ""):
+    for found in (UNPROVED, LAUNCHER, shutil.which("qss") or "", packaged_program()):
         if is_program(found):
             if found == UNPROVED and sys.stderr is not None and sys.stderr.isatty():
                 print("qss: %s" % NOT_PROVED, file=sys.stderr)
@@ -73,6 +74,15 @@ def is_installed_proved() -> bool:
             return "program: proved" in file.read().splitlines() and is_program(LAUNCHER)
     except OSError:
         return False
+
+
+def packaged_program() -> str:
+    """The program that a wheel has put next to the tools, or nothing."""
+    try:
+        files = metadata.files("qss-tools") or []
+    except metadata.PackageNotFoundError:
+        return ""
+    return next((os.path.realpath(file.locate()) for file in files if file.parts[-2:] == ("bin", "qss")), "")
 
 
 def is_program(path: str) -> bool:

@@ -20,6 +20,10 @@ _qss_tool() {
     case ${COMP_WORDS[COMP_CWORD - 1]} in
     --rule | --over-rule) COMPREPLY=($(compgen -W "floor near inward" -- "$word")) && return ;;
     --order) COMPREPLY=($(compgen -W "1 2" -- "$word")) && return ;;
+    qss-tools | */qss-tools)
+        COMPREPLY=($(compgen -W "$("$1" 2>/dev/null | sed -nE 's/^(qss-)?([a-z][a-z-]*)  .*/\2/p')" -- "$word"))
+        [ "${word#-}" = "$word" ] && return
+        ;;
     --unit) COMPREPLY=($(compgen -W "ns us ms s min h d" -- "$word")) && return ;;
     esac
     if [ "${word#-}" != "$word" ]; then
