@@ -60,6 +60,14 @@ CODE = "-- logical views of the code"
 Key = Tuple[str, str, str]  # a crate, a file and a name
 
 
+def brought_in(text: str) -> Iterator[Tuple[str, Tuple[str, str]]]:
+    """The names that a list of a `use` line brings in, each with its path and its name there."""
+    path, _, rest = text.partition(".{")
+    for item in rest.rstrip("} ").split(","):
+        name, _, other = item.strip().partition(" as ")
+        yield other or name, (path, name)
+
+
 class Module:
     """A file of specs/: its definitions with their lines, and what its `use` lines bring in."""
 
@@ -69,6 +77,7 @@ class Module:
         self.names: Dict[str, Tuple[str, str]] = {}
         self.modules: Dict[str, str] = {}
         self.makers: Dict[str, str] = {}
+        self.passed_on: Dict[str, Tuple[str, str]] = {}
         with open(f"{ROOT}/crates/{crate}/specs/{name}.antt", encoding="utf-8") as file:
             self.read(file.read().splitlines())
 
@@ -78,7 +87,9 @@ class Module:
         for line in lines:
             mutual = line.endswith("mutual") or (mutual and (not line or line[0] == " "))
             line = line[2:] if mutual and line.startswith("  ") else line
-            if line.startswith("use "):
+            if line.startswith("pub use "):
+                self.passed_on.update(brought_in(line[8:]))
+            elif line.startswith("use "):
                 self.bring_in(line[4:])
             elif not line.strip() or line.lstrip().startswith("--"):
                 continue
@@ -106,11 +117,8 @@ class Module:
         return self.makers.get(name, name)
 
     def bring_in(self, text: str) -> None:
-        path, _, rest = text.partition(".{")
-        if rest:
-            for item in rest.rstrip("} ").split(","):
-                name, _, other = item.strip().partition(" as ")
-                self.names[other or name] = (path, name)
+        if ".{" in text:
+            self.names.update(brought_in(text))
         else:
             path, _, other = text.partition(" as ")
             self.modules[(other or path.rsplit(".", 1)[-1]).strip()] = path.strip()
@@ -150,13 +158,21 @@ class Library:
                 for word in re.findall(rf"\b{re.escape(other)}\.([^\s(){{}}\[\];,]+)", words):
                     yield (*place, word)
 
+    def defined(self, key: Key) -> Key:
+        """Where the definition of a name is, which a file may only pass on."""
+        module = self.module(key[0], key[1])
+        if module and key[2] in module.passed_on:
+            path, name = module.passed_on[key[2]]
+            place = self.place(path)
+            return self.defined((*place, name)) if place else key
+        return (key[0], key[1], module.owner(key[2])) if module else key
+
     def closure(self, roots: Iterable[Key]) -> List[Key]:
         seen: List[Key] = []
         todo = list(roots)
         while todo:
-            key = todo.pop()
+            key = self.defined(todo.pop())
             module = self.module(key[0], key[1])
-            key = (key[0], key[1], module.owner(key[2])) if module else key
             if key in seen or not module or key[2] not in module.bodies:
                 continue
             seen.append(key)
@@ -254,8 +270,8 @@ def cited_by(library: Library, path: str) -> Iterator[Key]:
         module = library.module(crate, name)
         for item in items.split(","):
             own, _, other = item.strip().partition(" as ")
-            if module and (other or own) in words and own in module.bodies:
-                yield crate, name, own
+            if module and (other or own) in words and (own in module.bodies or own in module.passed_on):
+                yield library.defined((crate, name, own))
 
 
 def code_files(library: Library) -> Dict[str, List[str]]:
@@ -267,7 +283,8 @@ def code_files(library: Library) -> Dict[str, List[str]]:
     files: Dict[str, List[str]] = {}
     for path in sorted(glob.glob(f"{ROOT}/crates/*/specs/*.antt")):
         crate, name = path.split("/")[-3], os.path.basename(path)[: -len(".antt")]
-        if name != "Lib" and (crate, name) not in used:
+        module = library.module(crate, name)
+        if name != "Lib" and (crate, name) not in used and module and module.bodies:
             files.setdefault(crate, []).append(name)
     return files
 
