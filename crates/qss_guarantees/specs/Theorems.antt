@@ -49,8 +49,7 @@ CertifyIsSound share source text answer =
 -- `certify` is complete: status 0 and the bounds if the conditions hold and all sums are in range
 abbrev pub CertifyIsComplete : (share : ℕ) → (source text : List ℕ) → Answer → Type 0
 CertifyIsComplete share source text answer = (m : Machine) (c : Certificate)
-    → IsSourceMachine share source m → IsAcceptable m text c → answer ≡ text_answer
-    (bounds_text m c)
+    → IsSourceMachine share source m → IsAcceptable m text c → answer ≡ text_answer (bounds_text m c)
 
 -- `propose` is sound: with status 0 the text is a certificate from the machine's start that holds
 abbrev pub ProposeIsSound : (source : List ℕ) → Answer → Type 0
