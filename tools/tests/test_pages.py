@@ -7,7 +7,7 @@ import unittest
 from support import ROOT
 
 WIDTH = 120  # columns of a line of Markdown, but for tables, code and links
-LENGTHS = {"README.md": 120, "docs/ARCHITECTURE.md": 120, "docs/ASSUMPTIONS.md": 120}
+LENGTHS = {"README.md": 120, "docs/ARCHITECTURE.md": 120, "docs/ASSUMPTIONS.md": 130}
 
 # Words and phrases of private use, each with what to write instead. All are searched without regard to case.
 WORDS = (
