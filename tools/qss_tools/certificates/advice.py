@@ -37,7 +37,11 @@ def lines_of(source: Source, settings: Settings) -> Sequence[str]:
     quanta = [f"  {name} annotation(QSS_Quantum = {decimal_text(one)})" for name, one in proposal.own.items()]
     return [
         *([] if settings.use.is_of_use else [settings.use.text()]),
-        *([] if settings.use.is_of_use else ["no settings were found with which a certificate is of use; the nearest are:"]),
+        *(
+            []
+            if settings.use.is_of_use
+            else ["no settings were found with which a certificate is of use; the nearest are:"]
+        ),
         settings_line(source, settings),
         "  " + annotation(proposal, source),
         *quanta,

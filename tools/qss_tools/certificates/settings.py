@@ -72,7 +72,7 @@ def bits_of(value: Fraction) -> int:
     return below.bit_length() - 1 if below & (below - 1) == 0 else 10**6
 
 
-def level_bits(flat: Flat, finer: Fraction) -> int:
+def level_bits(flat: Flat, finer: Fraction = Fraction(1)) -> int:
     """The level bits for which the least quantum, made so many times smaller, has 8 to 16 levels."""
     least = min((one.quantum for one in flat.variables[: flat.states] if one.quantum > 0), default=Fraction(1, 1024))
     return max(0, min(MOST_LEVEL_BITS, math.ceil(-log2(least / finer / QUANTUM_LEVELS))))
