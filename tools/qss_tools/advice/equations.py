@@ -167,6 +167,5 @@ def for_variable(source: str, tokens: Sequence[Token], one: Equation) -> List[Ch
     rest = [(opposite[it], text_of(source, other)) for it, other in terms if other is not term]
     total = "".join(" %s %s" % it for it in rest).strip()
     total = re.sub(r"^\+ ", "", re.sub(r"^- ", "-", total))
-    return [
-        (one.begin, one.end, "%s = %s" % (name, total if factor == "1" else "(%s)/%s" % (total, bracketed(factor))))
-    ]
+    value = total if factor == "1" else "%s/%s" % (bracketed(total), bracketed(factor))
+    return [(one.begin, one.end, "%s = %s" % (name, value))]

@@ -1,5 +1,6 @@
 """The tool qss-explain: explains refusals, overflows and rejections, with their places in the source."""
 import argparse
+import difflib
 import json
 import os
 import re
@@ -120,11 +121,18 @@ def parsed(source: Source, number: str, fields: List[str]) -> Story:
     sentence = "unexpected '%s'" % token.text.split("\n")[0]
     if wanted:
         sentence += ": expected %s" % wanted
-    ways = [hints.at_token(tokens, place, wanted)]
+    stop = edits.Stop(source, tokens, place, wanted)
+    solution = edits.equation(stop) or edits.constant_table(stop)
+    ways = [written(solution) if solution else hints.at_token(tokens, place, wanted)]
     last = tokens[place - 1] if place else None
     if last and ";" in wanted and source.place(last.at)[0] < source.place(token.at)[0]:
         ways.insert(0, "perhaps a ';' is missing at the end of line %d" % source.place(last.at)[0])
     return Story(token.at, sentence, *ways)
+
+
+def written(some: edits.Edits) -> str:
+    """What edits write, as a suggested fix."""
+    return "write %s" % " and ".join("'%s'" % one.text for one in some[:3])
 
 
 def wanted_at(source: Source, place: int) -> str:
@@ -178,6 +186,9 @@ def undeclared(model: Model, name: str) -> str:
     if name in ("pi", "Modelica", "g_n", "e"):
         return "no library is read, and an import is ignored: write 'parameter Real pi = 3.14159265;'"
     near = [one.name for one in model.declarations if one.name.lower() == name.lower()]
+    like = difflib.get_close_matches(name, [one.name for one in model.declarations], 1)
+    if like and not near:
+        return "is '%s' meant? Else declare it, as 'Real %s;' or 'parameter Real %s = ..;'" % (like[0], name, name)
     return (
         "'%s' is declared: capitals count" % near[0]
         if near
@@ -196,6 +207,8 @@ def misused(model: Model, name: str, at: int) -> Story:
             if ref.index is not None:
                 return Story(at, "'%s' is no array and has no index" % name)
             way = "write a loop over the elements, as 'for i in 1:n loop der(x[i]) = ..; end for;'"
+            if where == "value":
+                way = "write one element, as '%s[1]', or their sum: %s" % (name, hints.FUNCTIONS["sum"])
             return Story(at, "'%s' is an array and needs an index here" % name, way)
         return Story(at, *MISUSES[where](name, roles.get(name)))
     return Story(at, "'%s' is not allowed here" % name)
@@ -350,7 +363,7 @@ ABOUT = """Why the program refused a model or a run overflowed, with the place i
 
 A line on standard input is explained. Where there is none, the model is run. Lines of the form 'qss: ..' are skipped.
 If the fix of a mistake is certain, the next mistake is explained too, as far as the program finds it after this fix.
-With --json each mistake is an object: its place, its sentence, its fixes, and the edits of a certain fix (bytes from 0).
+With --json each mistake is an object: its place, its sentence, its fixes, and the edits of a certain fix.
 Status: 0 the run or the check succeeded, 1 a line was explained, 2 a fault of this tool."""
 
 

@@ -68,7 +68,8 @@ BY_WORD = {
     "if": NO_IF,
     "and": "a condition is one relation: for 'A and d = 1' write 'x - big*(1 - d) > a' with a number big above the"
     " range of x",
-    "or": "a condition is one relation: write two clauses",
+    "or": "a condition is one relation: write two clauses. If both fire at one tick, a toggle 's := 1 - s' in each"
+    " toggles twice: set numbers, as 's := 1'",
     "not": "a condition is one relation: write the opposite one ('<=' for '>'), or 1 - d for a discrete d of 0 or 1",
     "else": NO_ELSE,
     "elseif": "write 'elsewhen'",
@@ -86,7 +87,8 @@ BY_WORD = {
     "==": "a condition has no '==' between reals: write '<=' or '>=', and for a discrete s of 0 or 1 's > 0.5' or"
     " 's < 0.5'",
     "<>": "a condition has no '<>' between reals: write '<' or '>'",
-    "{": "there are no array constructors: assign the elements in 'initial algorithm'",
+    "{": "there are no array constructors, and a parameter is no array: declare 'discrete Real tab[3]', and set its"
+    " elements in 'initial algorithm', as 'tab[1] := 1;'",
     ".": NO_LIBRARY,
 }
 
@@ -157,7 +159,14 @@ def by_neighbours(tokens: Sequence[Token], place: int, text: str, previous: str,
         or of_declarations(tokens, place, text, wanted)
         or of_arrays(text, previous, wanted)
         or of_expressions(text, wanted)
+        or of_left_sides(tokens, place, wanted)
     )
+
+
+def of_left_sides(tokens: Sequence[Token], place: int, wanted: str) -> Optional[str]:
+    if tokens[place].kind == "number" and "equation" in wanted:
+        return "the left side is 'der(x)' or a variable: solve the equation for the variable that has no equation yet"
+    return None
 
 
 def of_sections(text: str, previous: str, wanted: str) -> Optional[str]:
@@ -186,6 +195,12 @@ def of_declarations(tokens: Sequence[Token], place: int, text: str, wanted: str)
     if text == "input":
         name = next((one.text for one in tokens[place + 1 :] if one.kind == "name" and one.text != "Integer"), "u")
         return NO_INPUT % (name, name)
+    last = tokens[place - 1] if place else None
+    is_adjacent = last is not None and last.at + len(last.text) == tokens[place].at
+    if last is not None and last.kind == "number" and tokens[place].kind == "name" and is_adjacent:
+        return "a number has no suffix and no unit: write a power of ten, as 4e3 for 4k and 10e-6 for 10u"
+    if last is not None and last.text == "," and tokens[place].kind == "number" and is_adjacent:
+        return "a decimal point is '.': write 1.5 for 1,5"
     if "after the declaration" in wanted and tokens[place].kind == "name":
         return "a comma is missing before '%s'" % text
     return None
@@ -213,6 +228,9 @@ def of_expressions(text: str, wanted: str) -> Optional[str]:
         return "a condition is a relation: for a discrete variable s of 0 or 1 write 's > 0.5'"
     if "'^'" in wanted:
         return "an exponent is a digit from 0 to 8: write 1e-6 for 10^(-6), and the root of a number as a number"
-    if text in ("*", "/") and "in the equation" in wanted:
-        return "the left side is 'der(x)' or a variable: divide the right side"
+    if text in ("*", "/", "+", "-") and "in the equation" in wanted:
+        return (
+            "the left side is 'der(x)' or a variable: divide the right side. Solve equations that share derivatives for"
+            " each of them"
+        )
     return None

@@ -27,6 +27,7 @@ class Roles:
         for item in leaves(model.equations):
             if not item.der:
                 self.equal.setdefault(item.target.name, item.value)
+        self.switches = switches_of(model)
 
     def variables(self, part: object, seen: Tuple[str, ...] = ()) -> Set[str]:
         """The states and discrete variables in an expression, those of algebraic variables included."""
@@ -66,6 +67,22 @@ class Roles:
             if inner:
                 return name, inner[1]
         return None
+
+
+def switches_of(model: Model) -> Set[str]:
+    """The discrete variables that clauses set only to numbers or to 1 less themselves."""
+    found: Dict[str, bool] = {}
+    for clause in leaves(model.clauses):
+        for branch in clause.branches:
+            for item in leaves(branch.body):
+                name = item.target.name
+                found[name] = found.get(name, True) and set(names_in(item.value)) <= {name} and is_toggle(item.value)
+    return {name for name, is_switch in found.items() if is_switch}
+
+
+def is_toggle(value: object) -> bool:
+    """Whether a value is a number, or 1 less a variable."""
+    return not names_in(value) or spell(value).replace(" ", "").startswith("1-")
 
 
 def names_in(part: object) -> List[str]:
@@ -152,7 +169,9 @@ def product(roles: Roles, at: int, left: object, right: object, in_clause: bool)
     hiding = roles.product_in(right) or roles.product_in(left)
     if in_clause:
         discrete = sorted(name for name in roles.variables(Product(((False, at, left), (False, at, right)), at)))
-        factor = next((name for name in discrete if roles.roles[name] == DISCRETE), None)
+        found = [name for name in discrete if roles.roles[name] == DISCRETE]
+        # (a switch has few values, and a clock has many)
+        factor = next((name for name in found if name in roles.switches), found[0] if found else None)
         way = "write a branch for each value of %s, with the number in its place" % factor if factor else PIECES
         return Story(at, "a clause takes no product of two variables: a statement or a condition is affine", way)
     if hiding:
@@ -165,7 +184,8 @@ def product(roles: Roles, at: int, left: object, right: object, in_clause: bool)
         return Story(
             at,
             "a product of two discrete variables is not affine",
-            "keep the product in a third discrete variable, which clauses set where they set one of the two",
+            "keep the product in a third discrete variable, which clauses set where they set one of the two: with the"
+            " number in place of the one that is 0 or 1: 'p := b;' where a becomes 1 and 'p := 0;' where it becomes 0",
         )
     pair = roles.discrete_pair(left, right)
     if pair:

@@ -12,7 +12,7 @@ from ..model.changes import add_set_option, assignments, shown, write_changed
 from ..model.flat import Flat, Meaningless
 from ..model.grammar import parse
 from ..model.source import Source
-from ..program import RULES, add_program_option, call, canonical_text, find_program, start
+from ..program import RULES, add_program_option, call, canonical_text, find_program, start, way_to_place
 
 HEADER = "tick,event,name,level,state\n"
 EVENTS = frozenset(("start", "slope", "level", "set", "reinit", "when", "end", "overflow"))
@@ -69,7 +69,7 @@ class Run:
         except Meaningless as error:
             # It is printed and means nothing, so it is refused at once.
             line = call(program, ["run", model, "--only", "-"], keep=False).line
-            raise Fault("%s: %s (tools/qss-explain %s shows the place)" % (model, line or error, model)) from error
+            raise Fault("%s: %s%s" % (model, line or error, way_to_place(model))) from error
         flat = self.flat
         self.names = {one.name: number for number, one in enumerate(flat.variables[: flat.states + flat.discretes])}
 
@@ -204,7 +204,7 @@ def run_lines(args: argparse.Namespace, run: Run) -> Iterator[Lines]:
         if not lines.begin(1):
             line = process.stderr.read().decode("utf-8", "replace").strip()
             label = getattr(args, "label", args.model)
-            raise Fault("%s: %s (tools/qss-explain %s shows more)" % (label, line or "no rows", args.model))
+            raise Fault("%s: %s%s" % (label, line or "no rows", way_to_place(args.model)))
         try:
             yield lines
         except BaseException:

@@ -1,4 +1,6 @@
 """The tool qss-run: runs a model with other values."""
+import difflib
+import re
 import shutil
 import subprocess
 import sys
@@ -6,6 +8,9 @@ from typing import IO, Optional, Sequence, Tuple
 
 from ..fault import FINE, WARNED, Arguments, Fault, run_tool
 from ..model.changes import add_set_option, assignments, changed_text, shown, write_changed
+from ..model.flat import DISCRETE, STATE, roles_of
+from ..model.grammar import parse
+from ..model.source import Source
 from ..output import Output
 from ..program import OVERFLOWED, RULES, add_program_option, canonical_text, find_program, start
 
@@ -39,6 +44,8 @@ def tool(arguments: Sequence[str]) -> int:
         with Output(args.output) as output:
             output.held.write(text)
         return FINE
+    if args.only is not None:
+        check_name(args.only, args.model, canonical_text(program, args.model))
     path = write_changed(args.model, program, values) if values else args.model
     words = ["run", path]
     for name, value in (("--rule", args.rule), ("--relative", args.relative), ("--only", args.only)):
@@ -55,6 +62,16 @@ def tool(arguments: Sequence[str]) -> int:
     if status == OVERFLOWED:
         print("qss-run: %s: %s" % (label, line), file=sys.stderr)
     return WARNED if status == OVERFLOWED else FINE
+
+
+def check_name(name: str, model: str, text: bytes) -> None:
+    """A fault if a model has no variable with rows and this name."""
+    names = sorted(one for one, role in roles_of(parse(Source(model, text))).items() if role in (STATE, DISCRETE))
+    base = re.sub(r"\[\d+\]$", "", name)
+    if base not in names:
+        near = difflib.get_close_matches(base, names, 1)
+        way = ": is '%s' meant?" % near[0] if near else " (it has %s)" % ", ".join(names)
+        raise Fault("--only: %s has no state and no discrete variable '%s'%s" % (model, name, way))
 
 
 def copy(program: str, words: Sequence[str], file: IO[bytes]) -> Tuple[int, str]:

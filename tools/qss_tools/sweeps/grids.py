@@ -65,6 +65,8 @@ class Axis:
         """Random values; they depend on the seed, the name and their place only."""
         assert self.draw is not None
         kind, first, second = self.draw
+        if kind == "tolerance" and not 0 <= second < 1:
+            raise Fault("--set %s: a tolerance is a percentage, as tolerance(10,5%%)" % self.name)
         source = random.Random("%d %s" % (seed, self.name))
         low, high = (
             (first - abs(first * second), first + abs(first * second)) if kind == "tolerance" else (first, second)

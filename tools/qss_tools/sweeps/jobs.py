@@ -5,9 +5,11 @@ import os
 import tempfile
 from typing import Dict, List, NamedTuple, Optional, Sequence, Union
 
-from ..fault import Fault
+from ..advice.explain import explain
+from ..fault import Fault, read_bytes
 from ..model.changes import changed_text
 from ..model.grammar import SyntaxFault
+from ..model.source import Source
 from ..runs.measures import requests
 from ..runs.quadratics import value_of
 from ..runs.rows import Rows, Run, exact, run_lines
@@ -59,8 +61,8 @@ def outcome(job: Job) -> Outcome:
                     run, Rows(run, lines, job.name), list(dict.fromkeys(one.variable for one in asked))
                 )
         except Fault as fault:
-            why = str(fault).replace(path, job.name).split(" (tools/qss-explain")[0]
-            return Outcome([None] * len(asked), why.split(job.name + ": ", 1)[-1])
+            why = str(fault).replace(path, job.name).split(" (tools/qss-")[0].split(job.name + ": ", 1)[-1]
+            return Outcome([None] * len(asked), explained(path, why))
     values: List[Optional[float]] = []
     status = "ok"
     if overflow:
@@ -72,6 +74,19 @@ def outcome(job: Job) -> Outcome:
             values.append(None)
             status = "%s: %s" % (one.text, fault) if status == "ok" else status
     return Outcome(values, status)
+
+
+def explained(path: str, line: str) -> str:
+    """Why a model is refused, in words; another line as it is."""
+    if not line.startswith("refused: ") or not os.path.isfile(path):
+        return line
+    source = Source(path, read_bytes(path))
+    try:
+        story = explain(source, line)
+    except Fault:
+        return line
+    place = "" if story.at is None else " (line %d of the changed model)" % source.place(story.at)[0]
+    return "refused: %s%s" % (story.sentence, place)
 
 
 def outcomes(jobs: Sequence[Job]) -> List[Outcome]:

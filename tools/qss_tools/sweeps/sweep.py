@@ -62,6 +62,8 @@ def tool(arguments: Sequence[str]) -> int:
     args = parser.parse_args(arguments)
     if args.jobs is not None and not 1 <= args.jobs <= 1024:
         raise Fault("--jobs: from 1 to 1024")
+    if args.jobs_file is not None and args.output is not None:
+        raise Fault("--jobs-file writes commands and no table: leave -o out (the commands print the table's lines)")
     sweep = Sweep(args)
     if args.jobs_file is not None:
         sweep.write_jobs()
