@@ -52,23 +52,23 @@ class Site(unittest.TestCase):
             path = "index.html" if name == "README.md" else name.replace("README.md", "index.md")[:-3] + ".html"
             self.assertIn(path, self.pages)
 
+    def fault(self, page, link):
+        """What is wrong with a link of a page, or None."""
+        target = urllib.parse.urlparse(link)
+        if target.scheme or page == "404.html" or link == "#":
+            return None
+        path = os.path.join(os.path.dirname(page), urllib.parse.unquote(target.path)) if target.path else page
+        path = os.path.join(path, "index.html") if os.path.isdir(os.path.join(self.folder, path)) else path
+        path = os.path.normpath(path)
+        if not os.path.exists(os.path.join(self.folder, path)):
+            return page, link
+        is_heading = not target.fragment or path not in self.pages
+        is_heading = is_heading or urllib.parse.unquote(target.fragment) in self.pages[path].anchors
+        return None if is_heading else (page, link, "no such heading")
+
     def test_each_link_leads_somewhere(self):
-        broken = []
-        for page, found in self.pages.items():
-            for link in found.links + found.loaded:
-                target = urllib.parse.urlparse(link)
-                if target.scheme or page == "404.html" or link == "#":
-                    continue
-                path = os.path.normpath(os.path.join(os.path.dirname(page), urllib.parse.unquote(target.path)))
-                path = page if not target.path else path
-                path = os.path.join(path, "index.html") if os.path.isdir(os.path.join(self.folder, path)) else path
-                path = os.path.normpath(path)
-                if not os.path.exists(os.path.join(self.folder, path)):
-                    broken.append((page, link))
-                elif target.fragment and path in self.pages:
-                    if urllib.parse.unquote(target.fragment) not in self.pages[path].anchors:
-                        broken.append((page, link, "no such heading"))
-        self.assertEqual(broken, [])
+        faults = [self.fault(page, link) for page, one in self.pages.items() for link in one.links + one.loaded]
+        self.assertEqual([fault for fault in faults if fault], [])
 
     def test_nothing_is_loaded_from_elsewhere(self):
         for page, found in self.pages.items():
