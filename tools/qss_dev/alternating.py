@@ -1,4 +1,4 @@
-"""The tool alternating-trial: models with alternating sources, rewritten once by qss-advise, against their solutions."""
+"""The tool alternating-trial: models with alternating sources, rewritten once by qss-advise, and their solutions."""
 import contextlib
 import io
 import os

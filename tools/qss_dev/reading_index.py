@@ -9,9 +9,9 @@ which it depends. It prints a table: for each file, how many definitions are nee
 (without comments, `use` lines and blank lines). --list prints the names too. --page prints the tables of
 docs/READING.md, in which each part leaves out what an earlier part has.
 
-The theorems of all crates and the clauses of the main calls (`qss_main`, `run_on_known_contents`, and the calls for bytes
-in memory) depend on some files of specs/. The other files describe how contracts see the code: --split prints them
-crate by crate. --write puts the lines of specs/Lib.antt of these crates in two lists, one for each kind.
+The theorems of all crates and the clauses of the main calls (`qss_main`, `run_on_known_contents`, and the calls for
+bytes in memory) depend on some files of specs/. The other files describe how contracts see the code: --split prints
+them crate by crate. --write puts the lines of specs/Lib.antt of these crates in two lists, one for each kind.
 """
 import glob
 import os

@@ -65,9 +65,7 @@ class Oscillators(unittest.TestCase):
         self.assertEqual(len(cured(source, flat, trial).changes), 1)
 
     def test_blocks_are_the_states_that_act_on_each_other(self):
-        text = (
-            "model m Real a, b, c, d; equation der(a) = b; der(b) = a + c; der(c) = d; der(d) = c; end m;"
-        )
+        text = "model m Real a, b, c, d; equation der(a) = b; der(b) = a + c; der(c) = d; der(d) = c; end m;"
         self.assertEqual(blocks(read(text)[1]), [(2, 3), (0, 1)])
 
     def test_a_chain_that_is_hardly_damped_is_found(self):
@@ -121,7 +119,9 @@ class Cures(unittest.TestCase):
         self.assertEqual(list(late_turns(flat, trial)), [])
 
     def test_the_period_of_a_carrier_is_that_of_a_clock(self):
-        _, _, trial = read((self.CARRIER % (">=", "<=")).replace("end m;", "annotation(experiment(StopTime = 20)); end m;"))
+        _, _, trial = read(
+            (self.CARRIER % (">=", "<=")).replace("end m;", "annotation(experiment(StopTime = 20)); end m;")
+        )
         self.assertLess(abs(trial.returns - 1), 0.1)
 
 

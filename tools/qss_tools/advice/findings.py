@@ -52,6 +52,7 @@ HARMLESS = (
     "uses",
 )
 
+
 def findings(flat: Flat, trial: Trial) -> List[Finding]:
     """All that is to be said, the graver first, each kind cut to a few."""
     found = []

@@ -12,7 +12,7 @@ from typing import Dict, List, Optional, Sequence
 from ..model.flat import Flat
 from ..model.spelling import decimal_text
 from ..settings.limits import MOST_BITS_TOGETHER, MOST_COEF_AND_TICK_BITS, MOST_TICK_BITS, log2
-from .sampled import Sampled, Text, canonical, sampled
+from .sampled import Sampled, canonical, sampled
 
 FINER = 4  # times smaller quanta of the second run
 FINER_TICK_BITS = 2
@@ -53,7 +53,8 @@ class Tried:
 
     @property
     def share(self) -> float:
-        return self.worst.share(self.by_phase) if self.worst else 0.0
+        worst = self.worst
+        return worst.share(self.by_phase) if worst else 0.0
 
     @property
     def is_right(self) -> bool:

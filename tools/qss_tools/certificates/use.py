@@ -31,7 +31,8 @@ class Use(NamedTuple):
     def text(self) -> str:
         """The sentence for a certificate that is of no use."""
         what = "the step" if self.size.is_step else "the size"
-        return f"accepted, but of no use: E of {self.name} is {self.times:.2g} times {what}, which is {self.size.value:.4g}"
+        value = f"{self.times:.2g} times {what}, which is {self.size.value:.4g}"
+        return f"accepted, but of no use: E of {self.name} is {value}"
 
 
 def sizes_of(flat: Flat) -> List[Size]:

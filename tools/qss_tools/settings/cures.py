@@ -36,9 +36,7 @@ def part_of_period(flat: Flat, one: Oscillator) -> float:
 def to_set_anew(flat: Flat, trial: Trial) -> List[Oscillator]:
     """The oscillators that a clock is to set anew."""
     return [
-        one
-        for one in oscillators(flat, trial)
-        if one.lasts > FEW_PERIODS * one.period and part_of_period(flat, one)
+        one for one in oscillators(flat, trial) if one.lasts > FEW_PERIODS * one.period and part_of_period(flat, one)
     ]
 
 

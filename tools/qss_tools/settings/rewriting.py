@@ -78,10 +78,11 @@ def settings_edits(source: Source, model: Model, proposal: Proposal) -> List[Edi
 
 def quanta_edits(model: Model, proposal: Proposal) -> List[Edit]:
     """The edits that write own quanta, where a component has no annotation yet."""
-    edits = []
+    edits: List[Edit] = []
     for one in model.declarations:
         if one.name in proposal.own and one.quantum_span:
-            edits.append((*one.quantum_span, decimal_text(proposal.own[one.name])))
+            begin, end = one.quantum_span
+            edits.append((begin, end, decimal_text(proposal.own[one.name])))
         elif one.name in proposal.own and not one.annotated:
             edits.append((one.end, one.end, " annotation(QSS_Quantum = %s)" % decimal_text(proposal.own[one.name])))
     return edits

@@ -59,5 +59,5 @@ def period(fired: Sequence[Event]) -> Optional[float]:
     times: Dict[str, List[float]] = {}
     for time, label in fired:
         times.setdefault(label, []).append(time)
-    most = max(times.values(), key=len, default=[])
+    most: List[float] = max(times.values(), key=len, default=[])
     return (most[-1] - most[0]) / (len(most) - 1) if len(most) > 2 else None
