@@ -1,0 +1,6 @@
+mod Decay
+mod Flat
+mod Instance
+mod Lexing
+mod Source
+mod Text
