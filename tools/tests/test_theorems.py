@@ -10,6 +10,7 @@ from qss_dev.reading_index import Library, roots_of
 # What the page quotes of two files of definitions: all but the first line, `use` lines, and in CALLS all from END on.
 CALLS, END = "qss_top.Calls", "-- ---- What `qss_main` guarantees of each call."
 PROPERTIES = "qss_guarantees.Theorems"
+INSTANCE = "qss_instance.DecayInstance"
 LAWS = "crates/qss_guarantees/src/command_laws.rt"
 SOURCE = "qss_top.MachineAnswers.IsSourceMachine"  # what a source denotes
 MOST_LINES = 80  # of both quotations, without `use` lines and blank lines
@@ -82,6 +83,27 @@ class Theorems(unittest.TestCase):
             with self.subTest(law):
                 if law != "qss_main":
                     self.assertRegex(laws, rf"pub fn {law}\(\)\s+ensures \{{[^}}]*\b{name}\b")
+
+
+class Instance(unittest.TestCase):
+    """The texts and rows of `decay_is_bounded` are those of the files and of the golden test."""
+
+    def body(self, name):
+        """The text of a definition of the instance."""
+        return definitions_of(INSTANCE).partition(f"\n{name} =")[2].partition("\n\n")[0]
+
+    def strings(self, name):
+        return re.findall(r'codes "([^"]*)"', self.body(name))
+
+    def test_files(self):
+        self.assertEqual("".join(self.strings("decay_source")) + "\n", text_of("examples/decay.mo"))
+        self.assertEqual("\n".join(self.strings("decay_certificate")) + "\n", text_of("examples/decay.cert"))
+
+    def test_rows(self):
+        rows = re.findall(r"row (\d+) (\w+) \(pos (\d+)\) \(pos (\d+)\)", self.body("decay_rows"))
+        lines = [f"{tick},{kind.lower()},x,{level},{state}" for tick, kind, level, state in rows]
+        printed = text_of("crates/qss/stdout").splitlines()
+        self.assertEqual(lines, printed[1 : len(lines) + 1])
 
 
 if __name__ == "__main__":
