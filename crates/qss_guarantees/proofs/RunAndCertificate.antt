@@ -8,6 +8,8 @@ use Rattle.mu_io.specs.Readings.{Reading, Stage, reading, fully_read, faulted}
 use Rattle.cert_solution.proofs.Halved.{halves}
 use Rattle.qss_cli.specs.Commands.{Command, RunOptions, run_model, certify_model, files_of}
 use Rattle.qss_events.specs.RunTexts.{run_by_rule}
+use Rattle.qss_machine.specs.Machines.{start_states}
+use Rattle.qss_machine.specs.RunLaws.{states_from, levels_from}
 use Rattle.qss_machine.specs.Ticks.{Snapshot, start_snapshot}
 use Rattle.qss_machine.specs.declared.compiled_machine.Machine.{Machine}
 use Rattle.qss_machine.specs.declared.machine_parts.Row.{Row}
@@ -156,4 +158,12 @@ near_solution options source text run certified both =
           is.own_runs start snapshots
           (run_leads options.rule is.machine) tick j
           (omega (arith, inside, length-map snapshots (λ (w : Snapshot). w.states))) h;
+      each = λ start y solves tick q j some low h.
+          let w = start_snapshot is.machine in
+          let snapshots = (run_by_rule options.rule is.machine).snapshots in
+          let own = is.own_runs start snapshots (run_leads options.rule is.machine) in
+          (halves is.machine is.certificate is.conditions).each_solution 1 1
+          (states_from w snapshots) (levels_from w snapshots)
+          (record { start = start_states is.machine; certified = start; legitimate = own })
+          y solves 1 tick tick q j (omega arith) some low refl h;
     }

@@ -1,12 +1,14 @@
 -- A run that `run` printed, and the bounds that `certify` printed for the same source.
-use Rattle.std.specs.Prelude.{◌≡◌, ◌≢◌, ◌<◌, ℕ, ℤ, List, [], ◌∷◌, length, All, Some, decimal}
+use Rattle.std.specs.Prelude.{◌≡◌, ◌≢◌, ◌<◌, ◌≤◌, ℕ, ℤ, List, [], ◌∷◌, length, All, Some, decimal}
 use Rattle.std.specs.Fmt.{signed_decimal}
 use Rattle.mu_io.specs.Readings.{reading, fully_read}
+use Rattle.mu_num.specs.Fraction.{sum}
 use Rattle.cert_check.specs.CertificateTexts.{IsTextOf}
 use Rattle.cert_check.specs.declared.certificate.Certificate.{Certificate}
 use Rattle.cert_solution.specs.HalfBounds.{half_bound}
-use Rattle.cert_solution.specs.Solutions.{SolutionIsWithin}
-use Rattle.cert_solution.specs.StateValues.{run_value}
+use Rattle.cert_solution.specs.Solutions.{SolutionIsWithin, TimeFunction, approximation}
+use Rattle.cert_solution.specs.Solutions.{SolvesInitialValueProblem}
+use Rattle.cert_solution.specs.StateValues.{DifferByAtMost, reciprocal, run_value}
 use Rattle.qss_answers.specs.BoundTexts.{bounds_text}
 use Rattle.qss_answers.specs.Comparisons.{HasStart}
 use Rattle.qss_cli.specs.Commands.{Command, RunOptions, run_model, certify_model}
@@ -91,6 +93,13 @@ pub record PrintsNearSolution (options : RunOptions) (source text : List ℕ) (r
       → SolutionIsWithin machine (start_states machine) 1 tick j
       (half_bound machine certificate j)
       (run_value 1 (states_by_rule options.rule machine) tick j)
+  -- and each function of time that solves this initial value problem is within E/2 of each state:
+  -- its approximation up to 1/q is within E/2 + 1/q
+  pub each : HasStart machine certificate → (y : TimeFunction)
+      → SolvesInitialValueProblem machine (start_states machine) y → (tick q j : ℕ) → 1 ≤ q
+      → tick < length (states_by_rule options.rule machine) → j < state_count machine
+      → DifferByAtMost (sum (half_bound machine certificate j) (reciprocal q))
+      (run_value 1 (states_by_rule options.rule machine) tick j) (approximation y 1 tick q j)
 
 -- if `run` and `certify` read the same source, the printed run lies within half of the printed
 -- bounds
