@@ -17,7 +17,9 @@ np = load()
 CHUNK = 1 << 14  # lines that are written at a time
 MOST_FRACTIONS = 14  # bits of a time whose fractions are looked up
 MOST_KNOWN = 1 << 21  # of numbers that are looked up
-COMMA, NEWLINE = 44, 10
+COMMA, NEWLINE, MINUS, POINT, ZERO = 44, 10, 45, 46, 48
+FEW_TEXTS = 1000  # that are written one by one
+MOST_DIGITS = 18  # of a fraction, so that it fits into 64 bits
 
 
 class Choice(NamedTuple):
@@ -224,8 +226,38 @@ def texts_of(column: AnyColumn, series: Series) -> Array:
         known, places = series.values.numbers(), None
     else:
         known, places = looked_up(series.values.parts[0])
+        if not isinstance(column, Algebraic) and len(known) > FEW_TEXTS:
+            found = decimals(np.array(known), column.bits)
+            if found is not None:
+                return found[places]
     texts = np.array([text_of(column, number).encode() for number in known] or [b""])
     return texts if places is None else texts[places]
+
+
+def decimals(numbers: Array, bits: int) -> Optional[Array]:
+    """The decimals of numbers times 2^-bits, with bytes 0 in place of digits that are left out, or None where the
+    fraction has too many digits.
+    """
+    shift = min(trailing_zeros(int(np.bitwise_or.reduce(numbers))), bits)
+    bits -= shift
+    if bits > MOST_DIGITS:
+        return None
+    sizes = np.abs(numbers >> shift)
+    whole, part = sizes >> bits, (sizes & ((1 << bits) - 1)) * 5**bits
+    width = len(str(int(whole.max())))
+    found = np.zeros((len(numbers), 2 + width + bits), dtype=np.uint8)
+    found[:, 0] = np.where(numbers < 0, MINUS, 0)
+    found[:, 1 + width] = np.where(part > 0, POINT, 0)
+    rest = part
+    is_zero = np.ones(len(numbers), dtype=bool)
+    for place in range(1 + width + bits, 1 + width, -1):
+        rest, digit = np.divmod(rest, 10)
+        is_zero &= digit == 0
+        found[:, place] = np.where(is_zero, 0, digit + ZERO)
+    for place in range(width, 0, -1):
+        found[:, place] = np.where((whole > 0) | (place == width), whole % 10 + ZERO, 0)
+        whole //= 10
+    return found.view("S%d" % found.shape[1]).ravel()
 
 
 def text_of(column: AnyColumn, number: int) -> str:
