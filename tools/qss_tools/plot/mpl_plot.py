@@ -16,7 +16,7 @@ from .svg import COLOURS, SIGNATURE, legend_name
 WIDTH = 8.0  # inches
 DOTS = 100  # of an inch
 MOST_LEGEND = 8  # curves with a legend
-LEFT, RIGHT, TOP, BOTTOM, GAP = 0.85, 0.15, 0.35, 0.5, 0.12  # inches around panels
+LEFT, RIGHT, TOP, BOTTOM, GAP = 0.85, 0.3, 0.35, 0.5, 0.12  # inches around panels
 NOTE_HEIGHT = 0.2  # inches of the line that explains bands
 MARK_HEIGHT = 0.16  # inches of a row of marks
 LETTER = 0.062  # inches of a letter in a legend
