@@ -102,6 +102,10 @@ class Installed(InFolder):
         asked = "COMP_WORDS=('%s' m.mo --over-); COMP_CWORD=2; _qss_tool '%s'; echo ${COMPREPLY[@]}" % (plot, plot)
         status, out, err = self.call("bash", "-c", "source '%s'; %s" % (script, asked))
         self.assertEqual((status, out.split(), err), (0, ["--over-model", "--over-rule"], ""))
+        tools = self.path("bin", "qss-tools")
+        asked = "COMP_WORDS=('%s' me); COMP_CWORD=1; _qss_tool '%s'; echo ${COMPREPLY[@]}" % (tools, tools)
+        status, out, err = self.call("bash", "-c", "source '%s'; %s" % (script, asked))
+        self.assertEqual((status, out.split(), err), (0, ["measure"], ""))
 
     def test_uninstall_leaves_nothing(self):
         done = subprocess.run(["make", "uninstall", "PREFIX=" + self.prefix], cwd=ROOT, stdout=subprocess.DEVNULL)

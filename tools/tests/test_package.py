@@ -119,6 +119,14 @@ class Package(InFolder):
         )
         self.assertEqual((first, second), (sorted(user.SCRIPTS), sorted(developer.SCRIPTS)))
 
+    def test_a_tool_runs_by_its_name(self):
+        for words in (("qss-table", "--help"), ("table", "--help")):
+            status, out, err = run("qss-tools", *words)
+            self.assertEqual((status, err, out[:17]), (0, "", "usage: qss-table "), words)
+        self.assertEqual(run("qss-tools", "table", "--bogus", "m.mo")[0], 2)
+        self.assert_fault(run("qss-tools", "tabel"), "no tool has the name 'tabel' (perhaps table)")
+        self.assert_fault(run("qss-tools", "zzz"), "no tool has the name 'zzz'; qss-tools lists the tools")
+
     def test_entry_points_are_the_tools_for_all(self):
         found = re.findall(r'^([\w-]+) = "([\w.]+):main"$', project(), re.MULTILINE)
         self.assertEqual(sorted(found), sorted(user.SCRIPTS.items()))
