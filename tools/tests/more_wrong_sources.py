@@ -49,8 +49,8 @@ WRONG_TOO = [
         "end a3;\n",
         "refused: parse 1 17",
         "5:10",
-        "there are no functions ('max')",
-        "choose by clauses",
+        "unexpected '('",
+        "there are no functions ('max'): choose by clauses",
         (
             ("Real u;", "Real u; discrete Real low(start = 0), high(start = 1);"),
             ("u = max(0, min(1, 2*x));", "u = high + (1 - high - low)*2*x;"),
@@ -220,8 +220,8 @@ WRONG_TOO = [
         "end b3;\n",
         "refused: parse 1 9",
         "2:28",
+        "unexpected '('",
         "there are no functions ('asin')",
-        "straight pieces",
         (
             ("2*asin(1.0)", "3.14159265"),
             ("10*cos(w*time)", "10*c"),

@@ -200,9 +200,9 @@ class Runs(InFolder):
             out,
             "a,QSS_TickBits,mean(x),duty(x),status\n"
             "0,0,8,,duty(x): x does not switch: it is 8\n"
-            "0,21,,,refused: machine 1 QSS_TickBits 21/1\n"
+            "0,21,,,"refused: QSS_TickBits = 21 is not accepted: it is a whole number from 0 to 20, and with QSS_CoefBits = 0 at most 44 (line 4 of the changed model)"\n"
             "-8000000,0,32000008,0.5,overflow: x at 2\n"
-            "-8000000,21,,,refused: machine 1 QSS_TickBits 21/1\n",
+            "-8000000,21,,,"refused: QSS_TickBits = 21 is not accepted: it is a whole number from 0 to 20, and with QSS_CoefBits = 0 at most 44 (line 4 of the changed model)"\n",
         )
 
     def test_an_interrupted_sweep_goes_on(self):

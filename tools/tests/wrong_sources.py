@@ -508,7 +508,7 @@ WRONG = [
         "refused: parse 1 40",
         "6:4",
         "unexpected '*'",
-        "divide the right side",
+        "write 'der(x) = (-x/R)/C'",
         (("C*der(x) = -x/R;", "der(x) = -x/R/C;"),),
     ),
     (

@@ -26,6 +26,8 @@ def equation_at(tokens: Sequence[Token], place: int) -> Optional[Equation]:
     while last < len(tokens) and tokens[last].text != ";":
         last += 1
     some = list(tokens[first:last])
+    if any(one.kind == "word" and one.text not in ("der", "pre", "time") for one in some):
+        return None
     if last == len(tokens) or [one.text for one in some].count("=") != 1:
         return None
     while some and some[-1].kind == "string":

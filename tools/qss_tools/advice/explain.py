@@ -132,7 +132,8 @@ def parsed(source: Source, number: str, fields: List[str]) -> Story:
 
 def written(some: edits.Edits) -> str:
     """What edits write, as a suggested fix."""
-    return "write %s" % " and ".join("'%s'" % one.text for one in some[:3])
+    way = "divide the right side: " if len(some) == 1 and some[0].text.startswith("der(") else ""
+    return way + "write %s" % " and ".join("'%s'" % one.text for one in some[:3])
 
 
 def wanted_at(source: Source, place: int) -> str:
@@ -381,7 +382,7 @@ def tool(arguments: Sequence[str]) -> int:
     if args.apply is not None and os.path.exists(args.apply) and not args.force:
         raise Fault("%s: this file exists (--force writes it)" % args.apply)
     given = args.line if args.line is not None else piped_line()
-    line = (given or line_of_run(args)).strip()
+    line = (given if given or args.line is not None else line_of_run(args)).strip()
     if line == "read fault" and not os.path.isfile(args.model):
         print("%s: %s" % (args.model, why_unreadable(args.model)))
         return WARNED
@@ -451,8 +452,9 @@ def mistakes_of(source: Source, line: str, again: Optional[Callable[[bytes], str
     before: List[edits.Edits] = []
     here = source
     while line and len(found) < MOST_MISTAKES:
+        story = explain(here, line)
         some = edits.certain_edits(here, line, wanted_at)
-        found.append(Mistake(line, explain(here, line), here, some, tuple(before)))
+        found.append(Mistake(line, story, here, some, tuple(before)))
         if not some or again is None:
             break
         before.append(some)
