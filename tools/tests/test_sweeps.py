@@ -38,6 +38,13 @@ MEASURE = ("--measure", "mean(x) min(x)", "--measure", "final(x)")
 RATES = "a,mean(x),min(x),final(x),status\n0,8,8,8,ok\n1,2,0,0,ok\n2,0,-8,8,ok\n3,2,-16,32,ok\n"
 
 
+# Why a run with 21 tick bits is refused.
+REFUSED = (
+    '"refused: QSS_TickBits = 21 is not accepted: it is a whole number from 0 to 20, and with QSS_CoefBits = 0 at most 44'
+    ' (line 4 of the changed model)"'
+)
+
+
 class Changes(unittest.TestCase):
     def changed(self, **values):
         return changed_text("m.mo", CANONICAL.encode(), values).decode()
@@ -200,9 +207,9 @@ class Runs(InFolder):
             out,
             "a,QSS_TickBits,mean(x),duty(x),status\n"
             "0,0,8,,duty(x): x does not switch: it is 8\n"
-            "0,21,,,"refused: QSS_TickBits = 21 is not accepted: it is a whole number from 0 to 20, and with QSS_CoefBits = 0 at most 44 (line 4 of the changed model)"\n"
+            "0,21,,,%s\n"
             "-8000000,0,32000008,0.5,overflow: x at 2\n"
-            "-8000000,21,,,"refused: QSS_TickBits = 21 is not accepted: it is a whole number from 0 to 20, and with QSS_CoefBits = 0 at most 44 (line 4 of the changed model)"\n",
+            "-8000000,21,,,%s\n" % (REFUSED, REFUSED),
         )
 
     def test_an_interrupted_sweep_goes_on(self):
