@@ -291,7 +291,7 @@ class Tool(InFolder):
     def test_faults_are_one_line(self):
         other = os.path.join(self.folder, "other.mo")
         none = os.path.join(self.folder, "none.mo")
-        self.assert_fault(run("qss-advise", none, "--program", STAND_IN), "read fault")
+        self.assert_fault(run("qss-advise", none, "--program", STAND_IN), "there is no such file")
         refused = self.file("r.mo", "// stand-in print: 5 refused: parse 1 3\nmodel m x\n")
         self.assert_fault(run("qss-advise", refused, "--program", STAND_IN, "--rewrite", other), "qss-explain")
         refused = self.file("n.mo", "// stand-in: 5 refused: names 3 72\nmodel m Real x; equation der(x) = y; end m;\n")

@@ -75,7 +75,10 @@ printf '#!/bin/sh\\n[ $# = 0 ] && { echo "usage: qss VERB"; exit 2; }\\necho %s 
 
 
 # The modules of a build: no other one is loaded.
-MODULES = {"qss_tools": ("fault", "program"), "qss_dev": ("build", "crates", "quick_build", "schedule", "split_module")}
+MODULES = {
+    "qss_tools": ("arrays", "fault", "program"),
+    "qss_dev": ("build", "crates", "quick_build", "schedule", "split_module"),
+}
 
 
 class Builds(InFolder):

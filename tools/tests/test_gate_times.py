@@ -53,7 +53,7 @@ class Tables(InFolder):
 
     def test_faults(self):
         self.assert_fault(run("gate-times"), "give a command")
-        self.assert_fault(run("gate-times", "--from", os.path.join(self.folder, "none")), "none: no such file")
+        self.assert_fault(run("gate-times", "--from", os.path.join(self.folder, "none")), "none: there is no such file")
         self.assert_fault(run("gate-times", "--from", self.file("x", "{}")), "not a file that --save wrote")
 
 

@@ -66,38 +66,55 @@ class Oscillator:
         return ", ".join(names[:-1]) + " and " + names[-1]
 
 
-def blocks(flat: Flat) -> List[Block]:
-    """The states that act on each other, in one mode or another: the strongly connected components, by Tarjan."""
-    following: List[List[int]] = []
-    for row in flat.rows()[: flat.states]:
-        following.append(sorted({key[1] for key in row.form.parts if key[1] < flat.states}))
-    order: Dict[int, int] = {}
-    low: Dict[int, int] = {}
-    stack: List[int] = []
-    found: List[Block] = []
-    for root in range(flat.states):
-        waiting = [] if root in order else [(root, iter(following[root]))]
+class Search:
+    """The search for strongly connected components, by Tarjan, without recursion."""
+
+    def __init__(self, following: List[List[int]]) -> None:
+        self.following = following
+        self.order: Dict[int, int] = {}
+        self.low: Dict[int, int] = {}
+        self.stack: List[int] = []
+        self.found: List[Block] = []
+
+    def begin(self, root: int) -> None:
+        """Finds the components that can be reached from a state."""
+        waiting = [(root, iter(self.following[root]))]
         while waiting:
             one, more = waiting[-1]
-            if one not in order:
-                order[one] = low[one] = len(order)
-                stack.append(one)
+            if one not in self.order:
+                self.order[one] = self.low[one] = len(self.order)
+                self.stack.append(one)
             other = next(more, None)
             if other is None:
                 waiting.pop()
-                if waiting:
-                    low[waiting[-1][0]] = min(low[waiting[-1][0]], low[one])
-                if low[one] == order[one]:
-                    place = stack.index(one)
-                    found.append(tuple(sorted(stack[place:])))
-                    for member in stack[place:]:
-                        low[member] = flat.states  # in no open component
-                    del stack[place:]
-            elif other not in order:
-                waiting.append((other, iter(following[other])))
-            elif low[other] < flat.states:
-                low[one] = min(low[one], order[other])
-    return [block for block in found if len(block) > 1]
+                self.leave(one, waiting[-1][0] if waiting else None)
+            elif other not in self.order:
+                waiting.append((other, iter(self.following[other])))
+            elif self.low[other] < len(self.following):
+                self.low[one] = min(self.low[one], self.order[other])
+
+    def leave(self, one: int, above: Optional[int]) -> None:
+        """Ends the search from a state, and closes the component that began there, if one did."""
+        if above is not None:
+            self.low[above] = min(self.low[above], self.low[one])
+        if self.low[one] == self.order[one]:
+            place = self.stack.index(one)
+            self.found.append(tuple(sorted(self.stack[place:])))
+            for member in self.stack[place:]:
+                self.low[member] = len(self.following)  # in no open component
+            del self.stack[place:]
+
+
+def blocks(flat: Flat) -> List[Block]:
+    """The states that act on each other, in one mode or another: the strongly connected components."""
+    following: List[List[int]] = []
+    for row in flat.rows()[: flat.states]:
+        following.append(sorted({key[1] for key in row.form.parts if key[1] < flat.states}))
+    search = Search(following)
+    for root in range(flat.states):
+        if root not in search.order:
+            search.begin(root)
+    return [block for block in search.found if len(block) > 1]
 
 
 def block_matrix(flat: Flat, block: Block, discretes: Sequence[float]) -> List[List[float]]:
