@@ -25,7 +25,8 @@ from .runs.columns import chosen, columns_of
 from .runs.measures import Request, measured, requests
 from .runs.quadratics import check_name, lines_of_names, value_of
 from .runs.rows import Rows, Run, exact, lines_of
-from .runs.trajectories import Combination, Trajectory, trajectories
+from .runs.curves import trajectories
+from .runs.trajectories import Combination, Trajectory
 from .sweeps.clusters import by_dask, by_processes, processors
 from .sweeps.grids import MOST_POINTS, Points
 from .sweeps.jobs import Job

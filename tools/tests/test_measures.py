@@ -16,7 +16,8 @@ from qss_tools.model.source import Source
 from qss_tools.runs.machines import Machine
 from qss_tools.runs.measures import measured, requests
 from qss_tools.runs.rows import Rows, Run
-from qss_tools.runs.trajectories import Trajectory, trajectories
+from qss_tools.runs.curves import trajectories
+from qss_tools.runs.trajectories import Trajectory
 from qss_dev.ticks import start_snapshot, step
 
 EXAMPLES = ("ladder", "boost", "bouncing", "sigmadelta", "heat2d")

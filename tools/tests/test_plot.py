@@ -285,7 +285,7 @@ class Faults(InFolder):
         other, none = self.file("other.mo", SWITCHED), os.path.join(self.folder, "none")
         cases = [
             ([ball, none], "no such file"),
-            ([none, rows], "read fault"),
+            ([none, rows], "there is no such file"),
             ([other, rows], "another model"),
             ([ball, self.file("cut.csv", BALL_ROWS[:40])], "the rows end in the middle of line 2"),
             ([ball, rows, "--names", "w"], "no variable 'w'"),

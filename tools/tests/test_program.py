@@ -10,6 +10,16 @@ from support import BUILT, ROOT, InFolder, run
 
 EXAMPLES = sorted(glob.glob(os.path.join(ROOT, "examples", "*.mo")))
 SMALL = ("ball", "boost", "buck", "cable", "decay", "thermostat")  # with settings for reading
+WARNINGS = {  # chaos, oscillators without damping, second order, and settings that are by 1 % to 3 % off
+    "chua": "of its size off",
+    "cradle": "an oscillator without damping, and a run lets it grow",
+    "cuk": "of its size off",
+    "heat2d": "first order does not fit this model",
+    "hysteresis": "of its size off",
+    "massspring": "of its size off",
+    "neurons": "of its size off",
+    "sigmadelta": "of its size off",
+}
 
 
 def sources_are_newer():
@@ -36,13 +46,15 @@ class WithTheProgram(InFolder):
         self.assertEqual((status, err), (1, ""))
         self.assertTrue(out.startswith("%s:%s: " % (model, place)))
 
-    def test_nothing_spoils_the_examples(self):
+    def test_what_spoils_examples_is_known(self):
         for path in EXAMPLES:
             name = os.path.splitext(os.path.basename(path))[0]
             if name not in SMALL:
                 with self.subTest(name):
                     status, out, err = run("qss-advise", path)
-                    self.assertEqual((status, err), (0, ""), out)
+                    self.assertEqual((status, err), (int(name in WARNINGS), ""), out)
+                    self.assertIn(WARNINGS.get(name, ""), out)
+                    self.assertEqual(out.count("warning: "), int(name in WARNINGS), out)
 
     def test_a_model_that_is_refused(self):
         model = self.file("m.mo", "model m Real x; equation der(x) = y; end m;\n")

@@ -168,8 +168,8 @@ class Faults(InFolder):
         without = self.file("without.mo", BALL + "// stand-in: 5 refused: machine 4 1\n")
         none = os.path.join(self.folder, "none")
         return [
-            ([ball, none], "none: no such file"),
-            ([none, rows], "read fault"),
+            ([ball, none], "there is no such file"),
+            ([none, rows], "there is no such file"),
             ([refused, rows], "qss-explain"),
             ([without], "machine 4 1"),
             ([other, rows], "another model"),

@@ -83,7 +83,7 @@ class Worked(InFolder):
         )
         self.assert_fault(run("by-ticks", "run", self.file("n.mo", "model n Real x; end n;")), "no model")
         self.assert_fault(run("by-ticks", "run", self.file("t.mo", DECAY.replace("-1*x", "time"))), "no model")
-        self.assert_fault(run("by-ticks", "run", "absent.mo"), "absent.mo: no such file")
+        self.assert_fault(run("by-ticks", "run", "absent.mo"), "absent.mo: there is no such file")
 
     def test_nearest(self):
         self.assertEqual([nearest(number, 2) for number in range(-5, 6)], [-2, -2, -2, -1, 0, 0, 0, 1, 2, 2, 2])

@@ -121,7 +121,7 @@ class Traces(InFolder):
         self.assert_fault(self.solution("time,x\n0,64\n0.0000001,64\n"), "at most 65536 places")
         self.assert_fault(self.solution(solution(16), "--finer", "65537"), "is not from 1 to 65536")
         self.assert_fault(
-            run("solution-to-trace", self.model, "none.csv", "--program", STAND_IN), "none.csv: no such file"
+            run("solution-to-trace", self.model, "none.csv", "--program", STAND_IN), "none.csv: there is no such file"
         )
 
     def test_a_run_that_is_too_long_is_told_at_once(self):

@@ -49,7 +49,9 @@ class Tried:
 
     @property
     def worst(self) -> Optional[Off]:
-        return max(self.off, key=lambda one: one.share(self.by_phase), default=None)
+        if not self.off:
+            return None
+        return max(self.off, key=lambda one: one.share(self.by_phase))
 
     @property
     def share(self) -> float:

@@ -8,7 +8,8 @@ from typing import Iterator, List, Optional, Sequence, Tuple
 from ..fault import Fault
 from ..runs.columns import chosen
 from ..runs.rows import Rows, Run, lines_of
-from ..runs.trajectories import Exact, Trajectory, trajectories
+from ..runs.curves import trajectories
+from ..runs.trajectories import Exact, Trajectory
 from ..tables.measure import number_of
 from .curves import Curve
 from .drawing import Drawing

@@ -7,7 +7,6 @@ from bisect import bisect_right
 from fractions import Fraction
 from typing import Any, Dict, Iterator, List, Mapping, Optional, Sequence, Set, Tuple, Union
 
-from ..arrays import load
 from ..fault import Fault
 from ..model.flat import ALGEBRAIC, Meaningless
 from .machines import Machine, NoMachine
@@ -277,42 +276,3 @@ def level_lines(
         else:
             line.jump(tick, value)
     return lines, last, overflow
-
-
-def trajectories(
-    run: Run,
-    rows: Rows,
-    numbers: Sequence[int],
-    all_values: bool = False,
-    more: Optional[Mapping[int, Combination]] = None,
-) -> Tuple[List[Trajectory], Optional[Tuple[int, str]]]:
-    """The trajectories of these variables, from the rows of a run, and the tick and the name of an overflow or None. A
-    value of a discrete variable that holds for one tick only is left out (module steady), unless all are asked for. The
-    numbers of `more` denote these sums.
-    """
-    flat = run.flat
-    sums = dict(more or {})
-    for number in numbers:
-        if number not in sums and flat.variables[number].role == ALGEBRAIC:
-            sums[number] = Combination(run, number)
-    if load() is not None and run.order == 1:
-        from .lines import array_trajectories
-
-        return array_trajectories(run, rows, numbers, sums, all_values)
-    needed = {number for number in numbers if number not in sums}.union(*(one.needs() for one in sums.values()))
-    if run.order == 2:
-        known, last, overflow = level_lines(run, rows, needed)
-    else:
-        follower = Follower(run, sorted(needed))
-        last, overflow = follower.follow(rows)
-        known = follower.lines
-    for number, line in known.items():
-        line.last = last
-        if number >= flat.states and not all_values:
-            line.leave_short_values_out()
-    tick = Fraction(1, 2**run.units.time)
-    lines = {number: one.trajectory(known, tick) for number, one in sums.items()}
-    for line in lines.values():
-        line.last = last
-    lines.update(known)
-    return [lines[number] for number in numbers], overflow

@@ -14,7 +14,8 @@ from ..runs.measures import MEASURES, TIME, VALUE, Request, requests
 from ..runs.quadratics import Line, check_name, lines_of_names, value_of
 from ..runs.rows import Rows, Run, add_run_options, lines_of, run_of
 from ..runs.steady import add_all_values_option
-from ..runs.trajectories import Combination, Trajectory, trajectories
+from ..runs.curves import trajectories
+from ..runs.trajectories import Combination, Trajectory
 from .table import overflow_text
 
 ABOUT = """Measures of a run, weighted by time. They are exact: a state is a piecewise linear function of time, which is
