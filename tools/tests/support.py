@@ -28,7 +28,7 @@ def program_to_test():
     return program.UNPROVED
 
 
-BUILT = program_to_test()
+BUILT, PROVED = program_to_test(), program.BUILT
 PROGRAM = BUILT if os.path.exists(BUILT) else BY_TICKS
 # The tools run the program to test too. Where there is none, they run no unproved one from other sources.
 if os.path.exists(BUILT):

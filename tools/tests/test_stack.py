@@ -2,10 +2,12 @@
 import os
 import unittest
 
-from support import BUILT, InFolder, module_of, run
+from support import BUILT, PROVED, InFolder, module_of, run
 
 # What a call of these verbs may need, in KiB: as much as the kernel maps at the start. Other calls may need more.
 SMALL, MOST, ANY = ("run", "devs", "run2", "print", "gen"), "128", "256"
+# What a call of the program without proofs may need: its checks at run time have larger frames.
+UNPROVED = "512"
 SCRIPT = "#!/bin/sh\necho $1 $2\n"
 LISTING = """
 out/qss:     file format elf64-x86-64
@@ -87,7 +89,10 @@ class Limits(InFolder):
 
     @unittest.skipUnless(os.path.exists(BUILT), "the program is not built")
     def test_each_verb_needs_little(self):
-        for words in ((*SMALL, "--shallow", "--most", MOST), ("--most", ANY)):
+        calls = ((*SMALL, "--shallow", "--most", MOST), ("--most", ANY))
+        if BUILT != PROVED:
+            calls = (("--most", UNPROVED),)
+        for words in calls:
             status, out, err = run("stack-use", "--frames", "0", *words)
             self.assertEqual((status, err), (0, ""), out)
 
