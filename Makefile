@@ -25,12 +25,12 @@ install:
 	rm -rf "$(LIB)/tools"
 	mkdir -p "$(LIB)/tools" "$(BIN)" "$(MAN)" "$(COMPLETIONS)"
 	install -m 755 "$(PROGRAM)" "$(LIB)/qss"
-	install -m 755 tools/run_tool "$(LIB)/tools"
+	install -m 644 tools/run_tool.py "$(LIB)/tools"
 	for module in $(MODULES); do \
 	    mkdir -p "$$(dirname "$(LIB)/$$module")" && install -m 644 "$$module" "$(LIB)/$$module" || exit 1; \
 	done
 	for tool in $(TOOLS); do \
-	    ln -sf run_tool "$(LIB)/tools/$$tool" && ln -sf "../lib/qss/tools/$$tool" "$(BIN)/$$tool" || exit 1; \
+	    install -m 755 "tools/$$tool" "$(LIB)/tools" && ln -sf "../lib/qss/tools/$$tool" "$(BIN)/$$tool" || exit 1; \
 	done
 	ln -sf ../lib/qss/qss "$(BIN)/qss"
 	install -m 644 tools/share/qss.1 "$(MAN)/qss.1"

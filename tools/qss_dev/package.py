@@ -87,8 +87,8 @@ def deb(program: str, stage: Path, into: Path) -> Path:
     source = stage / f"qss-{VERSION}"
     copy_tools(source)
     for path in sorted(TOOLS.iterdir()):
-        if path.name == "run_tool" or path.is_symlink():
-            shutil.copy(path, source / "tools", follow_symlinks=False)
+        if path.is_file():
+            shutil.copy(path, source / "tools")
     shutil.copytree(SHARE, source / "tools" / "share")
     shutil.copytree(SHARE / "debian", source / "debian")
     shutil.copytree(ROOT / "examples", source / "examples", ignore=shutil.ignore_patterns("*.svg"))

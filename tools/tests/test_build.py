@@ -91,8 +91,8 @@ class Builds(InFolder):
         os.makedirs(f"{self.folder}/tools")
         for name in ("qss", "prove"):
             shutil.copy(f"{ROOT}/{name}", self.folder)
-        for name in ("run_tool", "build-program", "quick-build"):
-            shutil.copy(f"{ROOT}/tools/{name}", f"{self.folder}/tools", follow_symlinks=False)
+        for name in ("run_tool.py", "build-program", "quick-build"):
+            shutil.copy(f"{ROOT}/tools/{name}", f"{self.folder}/tools")
         for package, names in MODULES.items():
             os.makedirs(f"{self.folder}/tools/{package}")
             for name in ("__init__", "scripts", *names):

@@ -6,7 +6,7 @@ import unittest
 from support import TOOLS, modules_of
 
 MOST_LINES, MOST_NESTED, MOST_PARAMETERS = 40, 3, 7
-FILES = [os.path.join(TOOLS, "run_tool"), *modules_of("qss_tools", "qss_dev", "tests")]
+FILES = [os.path.join(TOOLS, "run_tool.py"), *modules_of("qss_tools", "qss_dev", "tests")]
 FUNCTIONS = (ast.FunctionDef, ast.AsyncFunctionDef)
 BLOCKS = (ast.If, ast.For, ast.AsyncFor, ast.While, ast.With, ast.AsyncWith, ast.Try)
 

@@ -1,5 +1,6 @@
-"""The packages: each tool has a link and a module; its arguments and its layout keep the rules."""
+"""The packages: each tool has a file and a module; its arguments and its layout keep the rules."""
 import ast
+import filecmp
 import importlib.util
 import os
 import re
@@ -16,9 +17,9 @@ from qss_dev import scripts as developer
 from qss_tools import scripts as user
 
 
-def links():
-    """The links of tools/, each with the module of its name."""
-    names = sorted(name for name in os.listdir(TOOLS) if os.path.islink(os.path.join(TOOLS, name)))
+def files():
+    """The files of tools/ with the names of tools, each with the module of its name."""
+    names = sorted(it.name for it in os.scandir(TOOLS) if it.is_file() and not it.name.endswith(".py"))
     return [(name, user.modules().get(name)) for name in names]
 
 
@@ -103,9 +104,10 @@ class Imports(unittest.TestCase):
 
 
 class Package(InFolder):
-    def test_each_tool_has_a_link(self):
-        self.assertEqual(links(), sorted({**user.SCRIPTS, **developer.SCRIPTS}.items()))
-        self.assertEqual({os.readlink(os.path.join(TOOLS, name)) for name, _ in links()}, {"run_tool"})
+    def test_each_tool_has_a_file(self):
+        self.assertEqual(files(), sorted({**user.SCRIPTS, **developer.SCRIPTS}.items()))
+        paths = [os.path.join(TOOLS, name) for name, _ in files()]
+        self.assertTrue(all(filecmp.cmp(paths[0], path, shallow=False) and os.access(path, os.X_OK) for path in paths))
 
     def test_tools_are_in_their_package(self):
         self.assertEqual({module.split(".")[0] for module in user.SCRIPTS.values()}, {"qss_tools"})
@@ -140,21 +142,20 @@ class Package(InFolder):
             self.assertEqual((done.returncode, done.stdout[:16]), (0, b"usage: qss-plot "))
 
     def test_a_name_without_a_tool(self):
-        path = os.path.join(self.folder, "qss-nothing")
-        os.symlink(os.path.join(TOOLS, "run_tool"), path)
-        done = subprocess.run([sys.executable, path], stdout=subprocess.PIPE, stderr=subprocess.PIPE)
-        wanted = b"run_tool: no tool has this name (tools/qss-tools lists the tools)\n"
+        words = [sys.executable, "-c", "from run_tool import run; run('qss-nothing')"]
+        done = subprocess.run(words, cwd=TOOLS, stdout=subprocess.PIPE, stderr=subprocess.PIPE)
+        wanted = b"qss-nothing: no tool has this name (tools/qss-tools lists the tools)\n"
         self.assertEqual((done.returncode, done.stdout, done.stderr), (2, b"", wanted))
 
     def test_each_tool_prints_its_help(self):
-        for name, _ in links():
+        for name, _ in files():
             with self.subTest(name):
                 status, out, err = run(name, "--help")
                 self.assertEqual((status, err), (0, ""))
                 self.assertTrue(out.startswith("usage: %s " % name), out[:80])
 
     def test_wrong_arguments_are_one_line_and_status_2(self):
-        for name, _ in links():
+        for name, _ in files():
             with self.subTest(name):
                 status, out, err = run(name, "--no-such-option", "a", "b")
                 self.assertEqual((status, out, err.count("\n")), (2, "", 1), err)
@@ -185,11 +186,11 @@ class Checkers(unittest.TestCase):
         """Starts them in parallel."""
         holder = tempfile.TemporaryDirectory()
         cls.addClassCleanup(holder.cleanup)
-        files = ["tools/qss_tools", "tools/qss_dev", "tools/tests", "tools/run_tool"]
+        places = ["tools/qss_tools", "tools/qss_dev", "tools/tests", "tools/run_tool.py"]
         cls.started = {}
         for words in (
-            ["flake8", *files],
-            ["black", "--check", "--quiet", *files],
+            ["flake8", *places],
+            ["black", "--check", "--quiet", *places],
             ["mypy", "--cache-dir", holder.name],
         ):
             if shutil.which(words[0]) is not None:

@@ -5,7 +5,7 @@ import unittest
 
 from support import TOOLS, modules_of
 
-MODULES = [os.path.join(TOOLS, "run_tool"), *modules_of("qss_tools", "qss_dev")]
+MODULES = [os.path.join(TOOLS, "run_tool.py"), *modules_of("qss_tools", "qss_dev")]
 
 
 def parameters(function):

@@ -8,7 +8,7 @@ from fractions import Fraction
 from typing import Any, Dict, Iterator, List, Mapping, Optional, Sequence, Set, Tuple, Union
 
 from ..fault import Fault
-from ..model.flat import ALGEBRAIC, Meaningless
+from ..model.flat import Meaningless
 from .machines import Machine, NoMachine
 from .machines import Row as MachineRow
 from .rows import Rows, Run

@@ -5,9 +5,9 @@ from typing import Any, Callable, List, Optional, Sequence, Tuple
 
 from ..arrays import load
 from .lines import ArrayTrajectory
-from .measures import Piece, Window, size
 from .trajectories import Exact
 from .wide import Array, square_sum
+from .window import Piece, Window, size
 
 np = load()
 
