@@ -6,6 +6,7 @@
   tools/try-mutants --list --drop       removes the files of those that cannot be applied
   tools/try-mutants --text [CRATE ..]   reads the mutated code without its proofs, in seconds for each crate
   tools/try-mutants --page              writes the counts of all crates into docs/MUTANTS.md
+  tools/try-mutants --specs [CRATE ..]  checks theorems over edited definitions (--at-once N, --built FOLDER, --list)
 
 A mutant is a file crates/CRATE/mutants/WHAT_IS_WRONG.edit in the form of a negative test of the kit: a line
 'file: PATH', then pairs of lines 'old: TEXT' and 'new: TEXT'. Each old text occurs exactly once in its file, and each
@@ -31,6 +32,10 @@ is masked, which is no verdict: the mutant is tried again in a later round, and 
 
 After the table the tool prints, for each crate, how many mutants have each verdict.
 
+An edit of a definition is a file crates/CRATE/mutants-of-specs/WHAT_IS_WRONG.edit with a line 'theorem: CRATE::PATH'.
+With --specs the tool checks each of these theorems first as it is and then over its edited definitions. It must
+be refused. It uses the libraries that ./prove keeps. The table also names the first place that is not admitted.
+
 Status: 0 each verdict is as the mutants state, 1 some verdict is not, 2 wrong arguments or a fault.
 """
 import argparse
@@ -47,13 +52,14 @@ from qss_tools.fault import FINE, WARNED, Arguments, Fault, read_text, run_tool
 from qss_tools.output import Output
 from qss_tools.program import ROOT
 
+from . import spec_edits
 from .crates import below_each, needed
+from .edits import REFUSED, THROUGH, UNKNOWN, Mutant, applied, mutants_of, text_of
 from .rattle_source import functions
 
 PARTS = ("src", "specs", "proofs")
-REFUSED, THROUGH = "refused", "let through"
 MISSING, NAMES = "the answer names a missing goal", "proof names it"
-UNREAD, UNAPPLIED, UNKNOWN = "does not read", "not applied", "no verdict"
+UNREAD, UNAPPLIED = spec_edits.UNREAD, spec_edits.UNAPPLIED
 VERDICTS = (REFUSED, THROUGH, MISSING, NAMES, UNREAD, UNAPPLIED, UNKNOWN)
 # The result of a round for a function that calls a function which is not proved. It is no verdict.
 MASKED = "masked"
@@ -79,76 +85,11 @@ LACKS_GOAL = re.compile(r"\bGoals`\s+has no `")
 LACKS_NAME = re.compile(r"has no field|is not in scope|has no `|was not admitted")
 
 
-class Mutant(NamedTuple):
-    """An edit of a crate: its name, its file and pairs of texts, and the verdict that it states."""
-
-    name: str
-    file: str
-    pairs: List[Tuple[str, str]]
-    through: str
-    open: str
-
-    @property
-    def stated(self) -> str:
-        """The verdict that the file states."""
-        return THROUGH if self.through else UNKNOWN if self.open else REFUSED
-
-
 class Planted(NamedTuple):
     """A mutant with the function that it changes, as rt names it."""
 
     mutant: Mutant
     function: str
-
-
-def mutant_of(path: str) -> Mutant:
-    """Reads a mutant."""
-    found: Dict[str, str] = {}
-    pairs, old = [], None
-    for line in read_text(path).split("\n"):
-        key, colon, value = line.partition(":")
-        value = value[1:] if value.startswith(" ") else value
-        if not line:
-            continue
-        if key == "old" and old is None:
-            old = value
-        elif key == "new" and old:
-            pairs.append((old, value))
-            old = None
-        elif key in ("file", "through", "open") and colon and key not in found:
-            found[key] = value
-        else:
-            raise Fault("%s: %r is no line of a mutant" % (path, line))
-    if "file" not in found or not pairs or old is not None:
-        raise Fault("%s: a mutant has a line 'file: ' and pairs of lines 'old: ' and 'new: '" % path)
-    name = os.path.splitext(os.path.basename(path))[0]
-    return Mutant(name, found["file"], pairs, found.get("through", ""), found.get("open", ""))
-
-
-def mutants_of(root: str, crate: str) -> List[Mutant]:
-    """The mutants of a crate, by name."""
-    folder = os.path.join(root, "crates", crate, "mutants")
-    if not os.path.isdir(folder):
-        return []
-    names = sorted(os.listdir(folder))
-    odd = [it for it in names if not it.endswith(".edit")]
-    if odd:
-        raise Fault("%s: %s is no mutant" % (folder, odd[0]))
-    return [mutant_of(os.path.join(folder, it)) for it in names]
-
-
-def text_of(root: str, crate: str, file: str) -> str:
-    """The text of a file of a crate."""
-    return read_text(os.path.join(root, "crates", crate, file))
-
-
-def applied(text: str, mutant: Mutant) -> Optional[str]:
-    """The text with the mutant's changes, or None if an old text is not located exactly once."""
-    for old, new in mutant.pairs:
-        if text.count(old) != 1:
-            return None
-        text = text.replace(old, new)
-    return text
 
 
 def function_of(text: str, mutant: Mutant) -> Optional[str]:
@@ -483,9 +424,12 @@ def parser_of() -> Arguments:
     parser.add_argument("--name", action="append", default=[], metavar="N", help="try only this mutant")
     parser.add_argument("--root", default=ROOT, metavar="FOLDER", help="the checkout (else the one of this tool)")
     kind = parser.add_mutually_exclusive_group()
-    kind.add_argument("--list", action="store_true", help="print the mutants; try none")
+    parser.add_argument("--list", action="store_true", help="print the mutants; try none")
     kind.add_argument("--text", action="store_true", help="read the mutated code without its proofs")
+    kind.add_argument("--specs", action="store_true", help="check theorems over edited definitions")
     kind.add_argument("--page", action="store_true", help="write the counts of all crates into docs/MUTANTS.md")
+    parser.add_argument("--at-once", type=int, default=1, metavar="N", help="with --specs: N edits at a time")
+    parser.add_argument("--built", metavar="FOLDER", help="with --specs: the checkout with libraries (else this one)")
     parser.add_argument("--drop", action="store_true", help="with --list: remove mutants that cannot be applied")
     return parser
 
@@ -494,11 +438,26 @@ def arguments_of(arguments: Sequence[str]) -> argparse.Namespace:
     """The arguments, which go together."""
     parser = parser_of()
     args = parser.parse_args(arguments)
-    if not args.crates and not (args.list or args.text or args.page):
-        parser.error("give a crate, --list, --text or --page")
+    if not args.crates and not (args.list or args.text or args.page or args.specs):
+        parser.error("give a crate, --list, --text, --specs or --page")
+    if args.list and (args.text or args.page) or args.at_once < 1:
+        parser.error("--list goes with neither --text nor --page, and --at-once takes a number from 1 on")
     if args.drop and not args.list or args.page and args.crates:
         parser.error("--drop goes with --list, and --page takes no crate")
     return args
+
+
+def specs(args: argparse.Namespace) -> int:
+    """Tries or lists the edits of definitions that the arguments name."""
+    known = with_mutants(args.root, args.crates) if args.crates else list(below_each(args.root))
+    edits = [it for crate in known for it in spec_edits.edits_of(args.root, crate)]
+    edits = [it for it in edits if not args.name or it.mutant.name in args.name]
+    print("| crate | theorem | edit | verdict |", "|---|---|---|---|", sep="\n", flush=True)
+    expected = True
+    for it, verdict in spec_edits.verdicts(args.root, args.built or args.root, edits, args.list, args.at_once):
+        print(spec_edits.row(it, verdict), flush=True)
+        expected = expected and verdict.said == it.mutant.stated
+    return FINE if expected else WARNED
 
 
 def tool(arguments: Sequence[str]) -> int:
@@ -507,6 +466,8 @@ def tool(arguments: Sequence[str]) -> int:
     if args.page:
         write_page(args.root)
         return FINE
+    if args.specs:
+        return specs(args)
     expected, summaries = True, []
     crates = with_mutants(args.root, args.crates)
     print("| crate | function | mutant | verdict |", "|---|---|---|---|", sep="\n")

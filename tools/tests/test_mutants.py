@@ -9,7 +9,7 @@ from unittest import mock
 from support import ROOT, InFolder, run
 
 from qss_tools.fault import Fault
-from qss_dev import mutants
+from qss_dev import edits, mutants
 
 MOST = 40  # mutants of a crate
 
@@ -91,6 +91,11 @@ class Files(unittest.TestCase):
         status, out, err = run("try-mutants", "--list")
         self.assertEqual((status, err), (0, ""), out)
 
+    def test_each_edit_of_a_specification_can_be_applied(self):
+        status, out, err = run("try-mutants", "--specs", "--list")
+        self.assertEqual((status, err), (0, ""), out)
+        self.assertGreaterEqual(out.count("\n"), 2 + 20)
+
     def test_each_crate_has_few(self):
         for folder in glob.glob(os.path.join(ROOT, "crates", "*", "mutants")):
             self.assertLessEqual(len(os.listdir(folder)), MOST, folder)
@@ -98,9 +103,9 @@ class Files(unittest.TestCase):
     def test_no_mutant_is_a_negative_test_too(self):
         for folder in glob.glob(os.path.join(ROOT, "crates", "*", "mutants")):
             negative = os.path.join(os.path.dirname(folder), "must-fail", "*.edit")
-            kept = [mutants.mutant_of(it) for it in glob.glob(negative)]
+            kept = [edits.mutant_of(it) for it in glob.glob(negative)]
             for it in glob.glob(os.path.join(folder, "*.edit")):
-                one = mutants.mutant_of(it)
+                one = edits.mutant_of(it)
                 self.assertFalse(
                     [k for k in kept if k.name == one.name or (k.file, k.pairs) == (one.file, one.pairs)], it
                 )
@@ -234,7 +239,7 @@ class Trying(InFolder):
 
     def one_and_two(self):
         first = self.mutant("first", "let b = a;", "let b = 0;")
-        return [mutants.mutant_of(it) for it in (first, self.mutant("second", "let c = 2;", "let c = 0;"))]
+        return [edits.mutant_of(it) for it in (first, self.mutant("second", "let c = 2;", "let c = 0;"))]
 
     def test_what_is_stated(self):
         self.mutant("stays_proved", "let c = 2;", "let c = 5;", "through: 5 is as good as 2")
@@ -330,6 +335,81 @@ class Verdicts(unittest.TestCase):
             "help: `Goals` has no `in-Some`; rattle asks for `b`",
         )
         self.assertEqual(self.verdict(*other), "refused")
+
+
+# A stand-in for rattle. Of the crate `low` it reads `two`; the theorem of `top` holds for an even number, and a word is
+# no definition.
+RATTLE = r"""#!/usr/bin/env python3
+import re
+import sys
+words = sys.argv[1:]
+path = [it for it in words if it.startswith("low:")][0].partition("=")[2]
+text = open(path.replace("src/lib.rt", "specs/Two.antt")).read()
+value = re.search("two = (.*)", text)[1]
+theorem = words[words.index("--only") + 1]
+assert "middle:core,std,low=" in " ".join(words) and words[words.index("--crate-name") + 1] == "top"
+if not value.isdigit():
+    print("./specs/Two.antt:1:7: error: no number")
+    print("fn %s: not proved" % theorem)
+elif int(value) % 2:
+    print("./proofs/Even.antt:3:1: these are not equal")
+    print("fn %s: no proof: its proof is not accepted" % theorem)
+else:
+    print("checked %s, 1 of 1" % theorem)
+    print("only=1 proved=1")
+"""
+
+
+class Specs(InFolder):
+    def setUp(self):
+        super().setUp()
+        for it in ("low/specs", "low/src", "low/mutants-of-specs", "middle/src", "top/src", "top/out/statements"):
+            os.makedirs(os.path.join(self.folder, "crates", it))
+        os.makedirs(os.path.join(self.folder, "kit", "bin"))
+        self.file("crates.txt", "low:\nother:\nmiddle: low\ntop: middle other\n")
+        self.file("crates/low/specs/Two.antt", "two = 2\n")
+        os.chmod(self.file("kit/bin/rattle", RATTLE), stat.S_IRWXU)
+        said = "#!/bin/sh\necho %s/kit/START-HERE.md\n" % self.folder
+        os.chmod(self.file("kit/bin/rt", said), stat.S_IRWXU)
+        path = os.path.join(self.folder, "kit", "bin") + os.pathsep + os.environ["PATH"]
+        patch = mock.patch.dict(os.environ, {"PATH": path})
+        patch.start()
+        self.addCleanup(patch.stop)
+
+    def edit(self, name, new, old="two = 2"):
+        lines = ["file: specs/Two.antt", "theorem: top::laws::two_is_even", "old: " + old, "new: " + new]
+        self.file("crates/low/mutants-of-specs/%s.edit" % name, "\n".join(lines) + "\n")
+
+    def tried(self, *words):
+        status, out, _ = run("try-mutants", "--specs", "--root", self.folder, *words)
+        rows = [it.strip("| ").split(" | ") for it in out.split("\n")[2:] if it]
+        return status, {row[2]: row[3] for row in rows}
+
+    def test_verdicts(self):
+        self.edit("odd", "two = 3")
+        expected = {"odd": "refused at `proofs/Even.antt:3`"}
+        self.assertEqual(self.tried("low"), (0, expected))
+        self.edit("even", "two = 4")
+        self.edit("absent", "two = 5", "three")
+        self.edit("word", "two = x")
+        expected["even"] = "let through (stated: refused)"
+        expected["absent"] = "not applied (stated: refused)"
+        expected["word"] = "does not read at `specs/Two.antt:1` (stated: refused)"
+        self.assertEqual(self.tried("--at-once", "3"), (1, expected))
+        self.assertEqual(self.tried("--name", "odd"), (0, {"odd": expected["odd"]}))
+        listed = {**{it: "refused" for it in expected}, "absent": expected["absent"]}
+        self.assertEqual(self.tried("--list"), (1, listed))
+
+    def test_a_theorem_that_does_not_hold_before(self):
+        self.file("crates/low/specs/Two.antt", "two = 7\n")
+        self.edit("even", "two = 4", "two = 7")
+        self.assertEqual(self.tried(), (1, {"even": "no verdict (stated: refused)"}))
+
+    def test_each_edit_names_a_theorem(self):
+        self.file("crates/low/mutants-of-specs/odd.edit", "file: specs/Two.antt\nold: 2\nnew: 3\n")
+        status, _, err = run("try-mutants", "--specs", "--root", self.folder, "--list")
+        self.assertEqual(status, 2)
+        self.assertIn("theorem: CRATE::FUNCTION", err)
 
 
 if __name__ == "__main__":
