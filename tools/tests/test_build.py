@@ -1,4 +1,5 @@
 """The builds: the proved one shows its progress and builds again what changed; the quick one needs no proof; ./qss chooses."""
+import contextlib
 import fcntl
 import os
 import pty
@@ -224,9 +225,12 @@ class Builds(InFolder):
         with subprocess.Popen([f"{self.folder}/qss", *words], **how) as front:
             os.close(theirs)
             out = front.communicate()[0]
-        lines = os.read(ours, 1000).decode().splitlines()
+        read = b""
+        with contextlib.suppress(OSError):  # (the end of a terminal is an error)
+            while part := os.read(ours, 1000):
+                read += part
         os.close(ours)
-        return front.returncode, out.decode(), lines
+        return front.returncode, out.decode(), read.decode().splitlines()
 
     def test_a_terminal_is_told_that_nothing_is_proved(self):
         self.call("run", "a.mo")
