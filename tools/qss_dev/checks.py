@@ -27,7 +27,16 @@ from . import build, quick_build
 
 TESTS = os.path.join(ROOT, "tools", "tests")
 # The modules that take longest, which begin first.
-LONG = ("test_package", "test_program", "test_naive", "test_certificates", "test_python", "test_install", "test_plot")
+LONG = (
+    "test_package",
+    "test_program",
+    "test_naive",
+    "test_certificates",
+    "test_python",
+    "test_install",
+    "test_plot",
+    "test_fits",
+)
 # The longest that a module takes, in seconds.
 LONGEST = 900
 MEMBERS = ("passed", "failed", "skipped")

@@ -39,6 +39,7 @@ USES = (
     (["qss-plot", "tried.mo", "-o", "tried.svg"], ""),
     (["qss-explain", "tried.mo"], ""),
     (["qss-lsp", "--help"], "language server"),
+    (["qss-fit", "--help"], "measured values"),
     (["qss-tools", "--version"], "program: "),
 )
 

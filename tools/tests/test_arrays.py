@@ -2,11 +2,14 @@
 import itertools
 import os
 import random
+import re
+import shutil
+import subprocess
 import unittest
 from unittest import mock
 
 from models import BALL, BALL_ROWS, GROWING, GROWING_ROWS, HEADER, LINE, LINE_ROWS, SWITCHED, SWITCHED_ROWS
-from support import STAND_IN, InFolder, run
+from support import STAND_IN, InFolder, python_with, run, run_by
 from test_plot import LIMITED, LIMITED_ROWS
 
 import qss_tools
@@ -320,6 +323,21 @@ class Formats(InFolder):
         self.assertEqual(answer, (0, "", ""))
         found = loadmat(path)
         self.assertEqual((found["time"].ravel().tolist(), found["y"].ravel().tolist()), (times, y))
+
+    @unittest.skipUnless(python_with("numpy"), "numpy is not installed")
+    @unittest.skipUnless(shutil.which("ngspice"), "ngspice is not installed")
+    def test_ngspice_loads_the_raw_file(self):
+        path, model = os.path.join(self.folder, "ball.raw"), self.file("ball.mo", BALL)
+        words = [model, self.file("ball.csv", BALL_ROWS), "-o", path, "--program", STAND_IN, "--no-advice"]
+        self.assertEqual(run_by(python_with("numpy"), "qss-table", *words), (0, "", ""))
+        commands = "* rows\n.control\nload ball.raw\nset width=200\nprint time y\nquit\n.endc\n.end\n"
+        words = ["ngspice", "-b", self.file("read.cir", commands)]
+        environment = dict(os.environ, HOME=self.folder)
+        done = subprocess.run(words, cwd=self.folder, env=environment, stdout=subprocess.PIPE, stderr=subprocess.STDOUT)
+        text = done.stdout.decode()
+        found = re.findall(r"^\d+\t(\S+)\t(\S+)\s*$", text, re.MULTILINE)
+        wanted = [(0, 1), (0.25, 1), (0.5, 0.25), (0.75, -1), (1, -0.5), (1.25, -0.5)]
+        self.assertEqual([tuple(map(float, row)) for row in found], wanted, text)
 
     @unittest.skipUnless(HAS_NUMPY, "numpy is not installed")
     def test_parquet(self):

@@ -1,6 +1,7 @@
 """Changes parameters, settings and start values of a model, but not its file.
 
-The text that is changed is the one that `print` writes, which has one declaration on a line and no comments.
+The text that is changed is a source, or the one that `print` writes, which has one declaration on a line and no
+comments.
 """
 import atexit
 import functools
@@ -15,12 +16,13 @@ from typing import Any, Dict, List, Mapping, Optional, Sequence, Tuple
 
 from ..fault import Fault
 from ..program import canonical_text
-from .grammar import Model, Parser, Span, SyntaxFault, parse
+from .grammar import CLOSING, Declaration, Model, Parser, Span, SyntaxFault, parse
 from .source import SETTINGS, Source
 from .spelling import decimal_text
 from .walks import leaves
 
 MOST_TERM = 2**62  # of a numerator or a denominator
+OPENING = frozenset(CLOSING)
 ASSIGNMENT = re.compile(r"^\s*([A-Za-z_][\w.]*)\s*=(.*)$", re.DOTALL)
 
 
@@ -86,7 +88,7 @@ def parsed_once(model: str, text: bytes) -> Tuple[Source, Model]:
 
 
 def changed_text(model: str, text: bytes, values: Mapping[str, Any]) -> bytes:
-    """The canonical text of a model with these values in place of its own."""
+    """The text of a model, as a rule its canonical text, with these values in place of its own."""
     source, parsed = parsed_once(model, text)
     edits: List[Tuple[int, int, str]] = []
     added: List[str] = []
@@ -125,7 +127,7 @@ def component_edit(model: str, source: Source, parsed: Model, name: str, spelt: 
     if is_parameter:
         if one.value is None:
             return (one.end, one.end), " = " + spelt
-        return (source.text.index("=", one.at) + 1, one.end), " " + spelt
+        return value_span(source, one), spelt
     if part == "start" and any(item.target.name == base for item in leaves(parsed.starts)):
         raise Fault("%s: '%s' starts as its initial algorithm states, so '%s' has no effect" % (model, base, name))
     span = one.start_span if part == "start" else one.quantum_span
@@ -135,8 +137,41 @@ def component_edit(model: str, source: Source, parsed: Model, name: str, spelt: 
         if one.annotated:
             raise Fault("%s: the annotation of '%s' has no QSS_Quantum" % (model, base))
         return (one.end, one.end), " annotation(QSS_Quantum = %s)" % spelt
-    each = "each " if one.size is not None else ""
-    return (one.end, one.end), " (%sstart = %s)" % (each, spelt)
+    return added_start(source, one, spelt)
+
+
+def value_span(source: Source, one: Declaration) -> Span:
+    """The span of a parameter's value: from the equals sign outside of brackets up to a description or the end."""
+    depth, begin, end = 0, 0, one.at
+    for token in source.tokens[place_of(source, one) :]:
+        depth += (token.text in OPENING) - (token.text in CLOSING.values())
+        is_end = token.kind == "string" or token.text in (",", ";", "annotation")
+        if begin and not depth and is_end:
+            break
+        end = token.at + len(token.text)
+        if not begin and not depth and token.text == "=":
+            begin = end
+    return begin + len(source.text[begin:end]) - len(source.text[begin:end].lstrip()), end
+
+
+def added_start(source: Source, one: Declaration, spelt: str) -> Tuple[Span, str]:
+    """The edit that writes a start value which a declaration has not: after its name and its size."""
+    text = "%sstart = %s" % ("each " if one.size is not None else "", spelt)
+    place = place_of(source, one) + 1
+    if source.tokens[place].text == "[":
+        while source.tokens[place - 1].text != "]":
+            place += 1
+    last, following = source.tokens[place - 1 : place + 1]
+    if following.text == "(":
+        at = following.at + 1
+        return (at, at), text + ", "
+    at = last.at + len(last.text)
+    return (at, at), " (%s)" % text
+
+
+def place_of(source: Source, one: Declaration) -> int:
+    """The place of a declaration's name among the tokens."""
+    return next(place for place, token in enumerate(source.tokens) if token.at == one.at)
 
 
 def added_settings(source: Source, parsed: Model, text: str) -> Tuple[int, int, str]:

@@ -26,6 +26,7 @@ class Curve:
         self.at = begin
         self.tube: Optional[Tube] = None  # the certified band around it
         self.is_held = True  # no value moves on a line
+        self.is_dotted = False  # there are no lines between the points
         self.place: Optional[int] = None  # the last column, whose points are in `column`
         self.column: List[Point] = []
         self.found: List[Point] = []

@@ -64,6 +64,11 @@ class Drawing:
                 plain.append(one.declaration.name)
         return [some_of(run, name) for name in plain[:MOST_PANELS]]
 
+    def add_panel(self, label: str) -> None:
+        """Adds a panel below the others."""
+        self.labels.append(label)
+        self.panels.append((label, []))
+
     def parts(self) -> List[str]:
         """The patterns in all panels."""
         return [part for label in self.labels for part in split_outside(label, "+")]

@@ -96,8 +96,9 @@ def add_panel(
             x=[time for time, _ in points],
             y=[shortened(value) for _, value in points],
             name=curve.label,
-            mode="lines",
+            mode="markers" if curve.is_dotted else "lines",
             line=line,
+            marker={"color": line["color"], "size": 4},
             hovertemplate=("%{y:.7~g} " + (drawing.unit_of(curve.label) or "")).rstrip(),
             showlegend=len(curves) > 1,
         )

@@ -116,9 +116,8 @@ def draw_panel(axis: Any, label: str, curves: Sequence[Tuple[Curve, bool]], time
         axis.plot(
             [time for time, _ in points],
             [value for _, value in points],
-            lw=0.9,
             color=COLOURS[place % len(COLOURS)],
-            ls="--" if dashed else "-",
+            **style_of(curve, dashed),
             label=legend_name(curve),
         )
     least, greatest = widened(min(low for low, _ in bounds), max(high for _, high in bounds)) if bounds else (0.0, 1.0)
@@ -130,6 +129,13 @@ def draw_panel(axis: Any, label: str, curves: Sequence[Tuple[Curve, bool]], time
     axis.grid(alpha=0.3)
     if 1 < len(curves) <= MOST_LEGEND:
         axis.legend(fontsize=7, loc="upper left", bbox_to_anchor=(1.0, 1.0), frameon=False)
+
+
+def style_of(curve: Curve, dashed: bool) -> Dict[str, Any]:
+    """How a curve is drawn."""
+    if curve.is_dotted:
+        return {"ls": "none", "marker": "o", "ms": 2.2, "mew": 0}
+    return {"lw": 0.9, "ls": "--" if dashed else "-"}
 
 
 def draw_firings(axis: Any, firings: Mapping[str, Iterable[int]], width: int, times: Tuple[float, float]) -> None:

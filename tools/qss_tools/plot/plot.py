@@ -16,7 +16,8 @@ from ..runs.columns import AnyColumn, Column, Watch, columns_of
 from ..runs.rows import Row, Rows, Run, add_run_options, lines_of
 from ..runs.steady import add_all_values_option, steady_rows
 from ..tables.table import overflow_text
-from . import differences, html_plot, mpl_plot
+from ..tables.measurements import add_data_options
+from . import differences, dots, html_plot, mpl_plot
 from .bands import bands_of
 from .curves import Curve, Marks, Path
 from .drawing import HEIGHT, Drawing, Panel
@@ -35,12 +36,14 @@ ABOUT = """A picture of a run, from a model or from its rows.
   tools/qss-plot MODEL --certificate CERT               with the proved bands around each state: of the solution (dark)
                                                         and of every quantized run (light)
   tools/qss-plot MODEL --over-rule near --difference    the difference of two runs, with its largest value
+  tools/qss-plot MODEL --with data.csv                  with measured values as points (also --column uC=CH1)
   tools/qss-plot MODEL --html                           an interactive page: zoom, pan, values under the cursor
   tools/qss-plot MODEL --text                           into the terminal
 
 A picture is SVG; PNG and PDF need matplotlib or gnuplot (python3-matplotlib or gnuplot-nox of Debian), and a page needs
 plotly (python3-plotly). SVG is drawn by matplotlib if it is installed, and with --plain by no package. The name of the
 file is printed. The unit of time is that of QSS_TimeUnit in the model, if --unit names no other one.
+Measured values have a line of names with units, as 't [ms],uC [V]', and columns with the names of variables.
 A value of a discrete variable that holds for one tick only, between values that hold for longer, is left out, unless
 --all-values is there.
 Status: 0 all was drawn, 1 all was drawn, and the run overflowed or the rows end early, 2 nothing was written."""
@@ -64,6 +67,7 @@ def parser_of() -> Arguments:
     parser.add_argument("--over-rule", choices=RULES, help="run the model a second time, by this rule")
     parser.add_argument("--over-model", metavar="MODEL", help="the model of the second run, if it is another one")
     add_certificate_option(parser)
+    add_data_options(parser)
     parser.add_argument("--from", dest="begin", metavar="TIME", help="draw from this time on")
     parser.add_argument("--to", dest="end", metavar="TIME", help="draw up to this time")
     parser.add_argument("--unit", help="the model's unit of time, for the axis")
@@ -87,9 +91,12 @@ def tool(arguments: Sequence[str]) -> int:
     if not 40 <= args.height <= 2000:
         raise Fault("--height: from 40 to 2000")
     drawing = Plot(args)
+    data = dots.measurements_of(drawing)
     drawing.check_output()
     warn(args, drawing.run, "qss-plot")
     drawing.gather()
+    if data is not None:
+        dots.fill(drawing, data)
     drawing.write()
     return WARNED if drawing.overflowed or drawing.is_cut else FINE
 
@@ -337,7 +344,8 @@ def draw_elsewhere(drawing: Drawing, panels: Sequence[Panel], times: Tuple[float
         lines = []
         for curve, dashed in curves:
             points = points_of(curve, times)
-            lines.append((curve.label, dashed, [time for time, _ in points], [value for _, value in points]))
+            style = "points pointtype 7 pointsize 0.4" if curve.is_dotted else "lines" + " dashtype 2" * dashed
+            lines.append((curve.label, style, [time for time, _ in points], [value for _, value in points]))
         series.append((label, lines, bands_of([curve for curve, _ in curves], *times)))
     by_gnuplot(drawing, series, times)
 
@@ -365,12 +373,12 @@ def by_gnuplot(
                 "%s with filledcurves fillcolor rgb '%s' fillstyle transparent solid %g notitle"
                 % (block, COLOURS[place % len(COLOURS)], opacity)
             )
-        for place, (name, dashed, times_of, values) in enumerate(lines):
+        for place, (name, style, times_of, values) in enumerate(lines):
             block = "$d%d_%d" % (len(script), place)
             script.append(
                 "%s << END\n%s\nEND" % (block, "\n".join("%.12g %.10g" % pair for pair in zip(times_of, values)))
             )
-            plots.append("%s with lines %s title '%s' noenhanced" % (block, "dashtype 2" if dashed else "", name))
+            plots.append("%s with %s title '%s' noenhanced" % (block, style, name))
         script.append("set ylabel '%s' noenhanced" % label.replace("'", ""))
         script.append("plot " + ", ".join(plots))
     script.append("unset multiplot")

@@ -21,6 +21,7 @@ MOST_LABELS = 8
 LETTER, SMALL_LETTER = 0.56, 6.2  # the width of a letter: of its height, and in a legend in pixels
 LABEL_SIZE, LEAST_LABEL_SIZE = 12, 8
 OPACITY = 0.8  # of curves that share a panel
+DOT = 3  # pixels of a measured value
 PATH_LETTERS = 36000  # of a path of points, at most about
 
 
@@ -96,6 +97,15 @@ class Picture:
                     ' stroke-opacity="%g"' % opacity if opacity < 1 else "",
                 )
             )
+
+    def dots(self, corner: Tuple[float, float], points: Sequence[Tuple[int, int]], colour: str) -> None:
+        """Points in units, from a corner."""
+        x, y = corner
+        path = "".join("M%d %dh0" % point for point in points)
+        self.parts.append(
+            '<path transform="translate(%g %g) scale(%g)" d="%s" stroke="%s" stroke-width="%g" stroke-linecap="round"/>'
+            % (x, y, 1 / UNITS, path, colour, DOT * UNITS)
+        )
 
     def area(self, x: float, y: float, points: Sequence[Tuple[int, int]], colour: str, opacity: float) -> None:
         """An area between points in units, from the corner (x, y)."""
@@ -193,7 +203,10 @@ def panel(
         colour = COLOURS[place % len(COLOURS)]
         across = curve.scale * UNITS
         points = [(round((tick - curve.begin) * across), scale.down(value)) for tick, value in curve.points()]
-        picture.curve((LEFT, top), points, colour, dashed, opacity=opacity)
+        if curve.is_dotted:
+            picture.dots((LEFT, top), points, colour)
+        else:
+            picture.curve((LEFT, top), points, colour, dashed, opacity=opacity)
     picture.frame(LEFT, top, width, height)
     picture.upright(14, top + height / 2, label, height)
     if len(curves) > 1:

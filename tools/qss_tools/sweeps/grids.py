@@ -82,9 +82,9 @@ class Axis:
         return found
 
 
-def rounded(value: float) -> str:
-    """A random value as a decimal of nine digits that the language takes."""
-    number = Decimal("%.*e" % (DIGITS - 1, value))
+def rounded(value: float, digits: int = DIGITS) -> str:
+    """A value as a decimal of some digits that the language takes."""
+    number = Decimal("%.*e" % (digits - 1, value))
     number = round(number, MOST_PLACES)
     return value_text(Fraction(number))
 

@@ -8,9 +8,9 @@ import resource
 import shlex
 import sys
 import time
-from typing import Iterator, List, Optional, Sequence, TextIO
+from typing import Iterator, List, Optional, Sequence
 
-from ..fault import FINE, WARNED, Arguments, Fault, run_tool, unreadable
+from ..fault import FINE, WARNED, Arguments, Fault, run_tool
 from ..model.changes import changed_text
 from ..output import Output
 from ..program import ROOT, add_program_option, canonical_text, find_program
@@ -21,6 +21,7 @@ from ..tables.measure import csv_line, number_of, number_text
 from .clusters import by_dask, by_processes, processors
 from .grids import Points
 from .jobs import Job
+from .parts import Part
 
 ABOUT = """Runs a model at many points, and writes a table (CSV) of measures: a line for each run.
 
@@ -128,7 +129,7 @@ class Sweep:
             return self.failed
         if os.path.exists(self.args.output) and not self.args.force:
             raise Fault("%s: the file exists (--force writes it anew)" % self.args.output)
-        part = Part(self.args.output + ".part", self.identity(), points)
+        part = Lines(self.args.output + ".part", self.identity(), points)
         self.failed = part.failed
         progress = Progress(len(points), len(part.lines))
         with part.opened() as file:
@@ -159,38 +160,18 @@ class Sweep:
                 output.write(" ".join(map(shlex.quote, words + sets + rest)) + "\n")
 
 
-class Part:
-    """The lines of a sweep that is not at its end. The first line of the file identifies the sweep."""
+class Lines(Part):
+    """The lines of a sweep that is not at its end."""
 
     def __init__(self, path: str, identity: str, points: Sequence[List[str]]) -> None:
-        self.path, self.failed = path, 0
-        self.lines: List[str] = []
-        self.head = "qss-sweep %s\n" % identity
-        try:
-            with open(path, encoding="utf-8", newline="\n") as file:
-                kept = file.read().splitlines(True)
-        except FileNotFoundError:
-            return
-        except (OSError, UnicodeDecodeError) as error:
-            raise unreadable(path, error) if isinstance(error, OSError) else Fault("%s: not a sweep" % path) from error
-        if not kept or kept[0] != self.head:
-            raise Fault("%s: this is of another sweep: remove it, or name another table" % path)
-        for line, values in zip(kept[1:], points):
+        super().__init__(path, "qss-sweep %s\n" % identity, "sweep")
+        kept, self.lines, self.failed = self.lines, [], 0
+        for line, values in zip(kept, points):
             fields = next(csv.reader([line]))
-            if not line.endswith("\n") or fields[: len(values)] != values:
+            if fields[: len(values)] != values:
                 break
             self.lines.append(line)
             self.failed += fields[-1] != "ok"
-
-    def opened(self) -> TextIO:
-        """The file, with its whole lines, to write the next ones."""
-        try:
-            file = open(self.path, "w", encoding="utf-8", newline="\n")
-        except OSError as error:
-            raise unreadable(self.path, error) from error
-        file.write(self.head + "".join(self.lines))
-        file.flush()
-        return file
 
 
 class Progress:

@@ -1,4 +1,5 @@
-"""The tool qss-accuracy: compares runs with the solutions of their models."""
+"""The tool qss-accuracy: compares runs with the solutions of their models, or with measured values."""
+import argparse
 import os
 import re
 import subprocess
@@ -6,30 +7,37 @@ import sys
 import tempfile
 from typing import TYPE_CHECKING, Any, Container, Dict, List, NamedTuple, Optional, Sequence, Set, Tuple
 
-from ..fault import FINE, Arguments, Fault, run_tool
+from ..fault import FINE, WARNED, Arguments, Fault, run_tool
 from ..model.changes import add_set_option
 from ..model.flat import Flat
 from ..output import write_between
 from ..program import ROOT, add_program_option, find_program
 from ..runs.columns import AnyColumn, Column
 from ..runs.rows import Lines, Rows, Run, opened, ordered, run_of
+from .compared import compared, share_text
+from .measurements import Measurements, add_data_options
 from .phase import APART, PART, Phase, irregular, measures, period
-from .table import Writer, follow
+from .table import Writer, follow, overflow_text
 
 if TYPE_CHECKING:
     from ..numeric.reference import Reference
 
-ABOUT = """Runs models, and compares each run with the solution in floating point (numpy and scipy).
+ABOUT = """Runs models, and compares each run with the solution in floating point (numpy and scipy), or with measured
+values.
 
   tools/qss-accuracy MODEL ..       these models, a paragraph each
   tools/qss-accuracy --page         all examples of the gallery, into the table of docs/ACCURACY.md
   tools/qss-accuracy MODEL --order 2 --set R=10      a run of second order, with other values
+  tools/qss-accuracy MODEL --with data.csv           a run and measured values (also --column uC=CH1 --shift 1.5ms)
 
 The solution is exact between events, up to rounding. The states are compared at 1001 times. A state that clauses
 set by reinit is left out, since near a jump a small shift in time is a large difference. If all states are set so, each
 is compared by the difference that 99 of 100 times keep. If the events of a model depend on states, its ripple may be
 out of phase. Then mean, root mean square, ripple and period of the second half of the run are compared.
-Status: 0 all was compared, 2 a fault."""
+
+Measured values are compared at their own times, at which the run is interpolated. Their file has a line of names with
+units, as 't [ms],uC [V]', and columns with the names of variables. Without a unit a column has that of the model.
+Status: 0 all was compared, 1 a run overflowed (it was compared up to there), 2 a fault."""
 
 SAMPLES = 1001
 PAGE = os.path.join(ROOT, "docs", "ACCURACY.md")
@@ -98,10 +106,6 @@ class Accuracy(NamedTuple):
         return text
 
 
-def share_text(share: Optional[float]) -> str:
-    return "-" if share is None else ("%.2g %%" if share < 100 else "%.0f %%") % share
-
-
 class Samples(Writer):
     """A writer that keeps the values of columns at some ticks, and the firings of branches."""
 
@@ -124,20 +128,39 @@ def tool(arguments: Sequence[str]) -> int:
     parser.add_argument("--page", action="store_true", help="compare the gallery, and write docs/ACCURACY.md")
     parser.add_argument("--order", choices=(1, 2), type=int, default=1, help="2: run the models by `qss run2`")
     add_set_option(parser)
+    add_data_options(parser)
+    parser.add_argument("--unit", help="the model's unit of time, with --with")
     add_program_option(parser)
     args = parser.parse_args(arguments)
-    if bool(args.models) == args.page or args.page and (args.set or args.order == 2):
+    if bool(args.models) == args.page or args.page and (args.set or args.order == 2 or args.data):
         parser.error("give a model, or --page")
+    if args.data is None and (args.column or args.shift or args.unit):
+        parser.error("--column, --shift and --unit go with --with")
     program = find_program(args.program)
     if args.page:
         page(program)
         return FINE
+    status = FINE
     for model in args.models:
         args.model = model
         run = run_of(args)
+        if args.data is not None:
+            status = max(status, compare_with_data(args, run))
+            continue
         found = accuracy(run.model, program, args.order)
         print(found._replace(model=args.label).text(), flush=True)
-    return FINE
+    return status
+
+
+def compare_with_data(args: argparse.Namespace, run: Run) -> int:
+    """Compares a run with measured values; the status."""
+    args.rows = args.rule = args.relative = None
+    found = compared(args, run, Measurements(args, run))
+    print(found.text(), flush=True)
+    if found.overflow is None:
+        return FINE
+    print("qss-accuracy: %s" % overflow_text(found.overflow, run), file=sys.stderr)
+    return WARNED
 
 
 def page(program: str) -> None:

@@ -1,0 +1,1 @@
+"""Fits: values of parameters for which runs of a model are near measured values."""
