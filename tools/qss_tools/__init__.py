@@ -9,15 +9,16 @@ The tools need only Python's standard library. With numpy they read and draw lon
 Pictures use matplotlib or plotly if they are installed.
 """
 import os
-from typing import TYPE_CHECKING, Any, Iterable, List, Mapping, Optional, Union
+from typing import TYPE_CHECKING, Any, Iterable, List, Mapping, Optional, Sequence, Union
 
 from .fault import Fault
 
 if TYPE_CHECKING:
+    from .interactive import Interactive
     from .simulation import Simulation
     from .studies import Accuracy, Advice, Certificate, Remark
 
-__all__ = ["Fault", "accuracy", "advise", "certificate", "explain", "run", "sweep"]
+__all__ = ["Fault", "accuracy", "advise", "certificate", "explain", "interact", "run", "sweep"]
 
 
 def __dir__() -> List[str]:
@@ -72,6 +73,20 @@ def certificate(
     from .studies import certificate as found
 
     return found(model, state, program)
+
+
+def interact(
+    model: "Union[str, os.PathLike[str]]",
+    names: "Union[str, Sequence[str], None]" = None,
+    program: Optional[str] = None,
+    **options: Any,
+) -> "Interactive":
+    """Sliders for the parameters of a model and the plot of its run, in a notebook (ipywidgets). The options are those
+    of the plot of a run.
+    """
+    from .interactive import Interactive
+
+    return Interactive(model, names, program, **options)
 
 
 def sweep(

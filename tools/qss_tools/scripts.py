@@ -12,6 +12,7 @@ SCRIPTS: Dict[str, str] = {
     "qss-certificate": "qss_tools.certificates.certificate",
     "qss-explain": "qss_tools.advice.explain",
     "qss-fit": "qss_tools.fits.fit",
+    "qss-live": "qss_tools.live.live",
     "qss-lsp": "qss_tools.editor.server",
     "qss-measure": "qss_tools.tables.measure",
     "qss-plot": "qss_tools.plot.plot",

@@ -28,11 +28,11 @@ MOST_CURVES = 40
 class Drawing:
     """What is drawn of one run or of two, and how it is labelled: panels of curves, marks of branches, or paths."""
 
-    def __init__(self, args: argparse.Namespace):
+    def __init__(self, args: argparse.Namespace, run: Optional[Run] = None):
         self.args = args
         self.path: Optional[str] = None
         self.kind = "text"
-        self.run = run_of(args)
+        self.run = run_of(args) if run is None else run
         self.certified = certified(args, self.run)
         if self.certified and (args.text or args.against):
             raise Fault("--certificate draws states over time, into a picture")

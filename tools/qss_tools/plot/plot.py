@@ -168,7 +168,7 @@ class Plot(Drawing):
                 self.read_arrays(rows, takes, args.rows is None)
         if rows.cut:
             self.is_cut = True
-            print("qss-plot: %s; the picture ends there" % rows.cut, file=sys.stderr)
+            self.say("%s; the picture ends there" % rows.cut)
 
     def with_tubes(self, states: States, columns: Sequence[AnyColumn], curves: Sequence[Curve]) -> States:
         """Gives the curve of each state its certified band, which follows these states."""
@@ -244,7 +244,11 @@ class Plot(Drawing):
     def overflows(self, run: Run, tick: int, name: str) -> None:
         """The run overflowed at this tick."""
         self.overflowed = tick, name
-        print("qss-plot: %s" % overflow_text((tick, name), run), file=sys.stderr)
+        self.say(overflow_text((tick, name), run))
+
+    def say(self, text: str) -> None:
+        """Reports something about the rows."""
+        print("qss-plot: %s" % text, file=sys.stderr)
 
     def write(self) -> None:
         times = float(self.begin), float(self.end)
