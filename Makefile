@@ -12,7 +12,7 @@ BIN = $(DESTDIR)$(PREFIX)/bin
 MAN = $(DESTDIR)$(PREFIX)/share/man/man1
 COMPLETIONS = $(DESTDIR)$(PREFIX)/share/bash-completion/completions
 # The tools for all. Those for work on qss, in tools/qss_dev, are not installed.
-MODULES = $(wildcard tools/qss_tools/*.py tools/qss_tools/*/*.py)
+MODULES = $(wildcard tools/qss_tools/*.py tools/qss_tools/*/*.py tools/qss_tools/live/page.*)
 TOOLS = $(notdir $(wildcard tools/qss-*)) rows-to-trace solution-to-trace
 
 .PHONY: all install uninstall check wheel deb docs

@@ -28,9 +28,6 @@ NOT_VERSIONED = ("python:", "program:", "binary:")
 
 # What the pyproject.toml of the wheel adds to the one of the repository.
 WHEEL_FILES = """
-[tool.setuptools.package-data]
-qss_tools = ["VERSION"]
-
 [tool.setuptools.data-files]
 bin = ["program/qss"]
 "share/man/man1" = ["program/qss.1"]

@@ -13,6 +13,7 @@ SCRIPTS: Dict[str, str] = {
     "golden-test": "qss_dev.golden_test",
     "house-rules": "qss_dev.house_rules",
     "largest-inputs": "qss_dev.largest_inputs",
+    "live-times": "qss_dev.live_times",
     "make-gallery": "qss_dev.gallery",
     "make-index": "qss_dev.index",
     "make-package": "qss_dev.package",

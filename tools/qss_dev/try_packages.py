@@ -38,6 +38,7 @@ USES = (
     (["qss-advise", "tried.mo"], "settings that fit"),
     (["qss-plot", "tried.mo", "-o", "tried.svg"], ""),
     (["qss-explain", "tried.mo"], ""),
+    (["qss-live", "--help"], "slider for each parameter"),
     (["qss-lsp", "--help"], "language server"),
     (["qss-fit", "--help"], "measured values"),
     (["qss-tools", "--version"], "program: "),

@@ -16,8 +16,9 @@ TOOLS = ("qss-accuracy", "qss-advise", "qss-certificate", "qss-explain", "qss-pl
 
 
 def modules_below(folder):
-    """The names of the modules of qss_tools below a folder, and of those of qss_dev, with their packages."""
-    found = [os.path.join(path, name) for path, _, names in os.walk(folder) for name in names if name.endswith(".py")]
+    """The names of the modules and pages of qss_tools below a folder, and of those of qss_dev, with their packages."""
+    kinds = (".py", ".html", ".js", ".css")
+    found = [os.path.join(path, name) for path, _, names in os.walk(folder) for name in names if name.endswith(kinds)]
     return sorted(re.sub(r".*/(?=qss_(tools|dev)/)", "", path) for path in found)
 
 

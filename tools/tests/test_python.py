@@ -1,8 +1,10 @@
-"""Runs from Python: docs/PYTHON.md and examples/sweep.ipynb."""
+"""Runs from Python: docs/PYTHON.md and the notebooks of the examples."""
+import ast
 import json
 import os
 import re
 import subprocess
+import sys
 import unittest
 from fractions import Fraction
 
@@ -12,7 +14,7 @@ from test_sweeps import RATE
 
 import qss_tools as qss
 
-NOTEBOOK = os.path.join(ROOT, "examples", "sweep.ipynb")
+NOTEBOOKS = [os.path.join(ROOT, "examples", name) for name in ("sweep.ipynb", "converter.ipynb", "tolerances.ipynb")]
 PAGE = os.path.join(ROOT, "docs", "PYTHON.md")
 
 
@@ -81,41 +83,105 @@ class Runs(InFolder):
         self.assertEqual((done.returncode, done.stdout), (0, b""))
 
 
-class Notebook(InFolder):
-    def cells(self):
-        with open(NOTEBOOK, encoding="utf-8") as file:
-            notebook = json.load(file)
-        return ["".join(cell["source"]) for cell in notebook["cells"] if cell["cell_type"] == "code"]
+def cells_of(path):
+    """The cells of a notebook."""
+    with open(path, encoding="utf-8") as file:
+        return json.load(file)["cells"]
 
-    def test_its_cells_are_kept_without_results(self):
-        with open(NOTEBOOK, encoding="utf-8") as file:
-            notebook = json.load(file)
-        self.assertEqual([cell.get("outputs", []) for cell in notebook["cells"] if cell.get("outputs")], [])
-        for source in self.cells():
-            compile(source, NOTEBOOK, "exec")
+
+@unittest.skipUnless(os.path.exists(BUILT), "the program is not built")
+class Sliders(InFolder):
+    SCRIPT = """import sys; sys.path.insert(0, %r)
+import qss_tools as qss
+one = qss.interact(%r, "v", program=%r)
+assert list(one.sliders) == ["R", "C", "Vin"] and one.values == {}, one.values
+before = one.picture.value
+assert before.startswith("<svg"), before[:80]
+one.sliders["R"].value = 2
+one.sliders["Vin"].value = 4
+assert one.values == {"R": "2", "Vin": "4"} and one.picture.value != before
+# after 8 ms the voltage is 4 V times 1 - e^-4
+assert abs(one.run.measure("final(v)") - 4*(1 - 2.718281828**-4)) < 0.02, one.run.measure("final(v)")
+one.model = "nothing.mo"
+one.sliders["C"].value = 2
+assert "no such file" in one.picture.value, one.picture.value
+"""
+
+    def test_sliders(self):
+        python = python_with("ipywidgets", "IPython")
+        if python is None:
+            self.skipTest("ipywidgets is not installed")
+        script = self.SCRIPT % (TOOLS, os.path.join(ROOT, "examples", "rc.mo"), PROGRAM)
+        done = subprocess.run([python, "-c", script], stdout=subprocess.PIPE, stderr=subprocess.STDOUT)
+        self.assertEqual((done.returncode, done.stdout.decode()), (0, ""))
+
+    def test_without_ipywidgets(self):
+        if python_with("ipywidgets") == sys.executable:
+            self.skipTest("ipywidgets is installed for this Python")
+        with self.assertRaises(qss.Fault) as caught:
+            qss.interact(os.path.join(ROOT, "examples", "rc.mo"), program=PROGRAM)
+        self.assertIn("needs the package ipywidgets", str(caught.exception))
+
+
+class Notebooks(InFolder):
+    # Executes a notebook as a program that shows no widgets does, and writes it with its results.
+    EXECUTE = """import sys, nbformat, nbclient
+book = nbformat.read(sys.argv[1], 4)
+client = nbclient.NotebookClient(book, timeout=600)
+client.comm_open_handlers = {}
+client.execute()
+nbformat.write(book, sys.argv[2])
+"""
+
+    def test_cells_are_kept_without_results(self):
+        for path in NOTEBOOKS:
+            cells = cells_of(path)
+            self.assertEqual([one for one in cells if one.get("outputs") or one.get("execution_count")], [], path)
+            for one in cells:
+                if one["cell_type"] == "code":
+                    source = [line for line in one["source"] if not line.startswith("%")]
+                    compile("".join(source), path, "exec")
+
+    def results(self, name, *packages):
+        """The results of the cells of a notebook that was executed."""
+        python = python_with("nbclient", "nbformat", "ipykernel", *packages)
+        if python is None:
+            self.skipTest("nbclient, ipykernel%s: not installed" % "".join(", " + one for one in packages))
+        path = os.path.join(self.folder, name)
+        environment = {**os.environ, "JUPYTER_RUNTIME_DIR": self.folder, "IPYTHONDIR": self.folder, "HOME": self.folder}
+        words = [python, "-c", self.EXECUTE, os.path.join(ROOT, "examples", name), path]
+        done = subprocess.run(
+            words, cwd=os.path.join(ROOT, "examples"), stdout=subprocess.PIPE, stderr=subprocess.STDOUT, env=environment
+        )
+        self.assertEqual(done.returncode, 0, done.stdout.decode()[-2000:])
+        cells = [cell for cell in cells_of(path) if cell["cell_type"] == "code"]
+        self.assertEqual([one for cell in cells for one in cell["outputs"] if one["output_type"] == "error"], [])
+        return [[one["data"] for one in cell["outputs"] if "data" in one] for cell in cells]
 
     @unittest.skipUnless(os.path.exists(BUILT), "the program is not built")
-    def test_it_runs(self):
-        """By nbconvert if it is installed, else cell by cell."""
-        python = python_with("nbconvert", "ipykernel")
-        environment = dict(os.environ, HOME=self.folder, JUPYTER_RUNTIME_DIR=self.folder, IPYTHONDIR=self.folder)
-        if python is None:
-            python = python_with("sys")
-            path = self.file("cells.py", "\n".join(self.cells() + ["print(run.measure('mean(uC, from=500)'))"]))
-            done = subprocess.run(
-                [python, path], cwd=ROOT, stdout=subprocess.PIPE, stderr=subprocess.STDOUT, env=environment
-            )
-            self.assertEqual(done.returncode, 0, done.stdout.decode())
-            self.assertTrue(10 < float(done.stdout.split()[-1]) < 14)
-            return
-        words = [python, "-m", "nbconvert", "--to", "notebook", "--execute", "--output-dir", self.folder, NOTEBOOK]
-        done = subprocess.run(words, stdout=subprocess.PIPE, stderr=subprocess.STDOUT, env=environment)
-        self.assertEqual(done.returncode, 0, done.stdout.decode()[-2000:])
-        with open(os.path.join(self.folder, "sweep.ipynb"), encoding="utf-8") as file:
-            cells = [cell for cell in json.load(file)["cells"] if cell["cell_type"] == "code"]
-        self.assertEqual([one for cell in cells for one in cell["outputs"] if one["output_type"] == "error"], [])
-        self.assertIn("image/svg+xml", cells[1]["outputs"][0]["data"])
-        self.assertIn("mean(uC, from=500)", "".join(cells[2]["outputs"][0]["data"]["text/plain"]))
+    def test_sweep(self):
+        found = self.results("sweep.ipynb", "pandas")
+        self.assertIn("image/svg+xml", found[1][0])
+        self.assertIn("mean(uC, from=500)", "".join(found[2][0]["text/plain"]))
+
+    @unittest.skipUnless(os.path.exists(BUILT), "the program is not built")
+    def test_converter(self):
+        """The ripples are near those of the formulas of the notebook: 1.2 A and 0.3 V."""
+        found = self.results("converter.ipynb", "pandas")
+        self.assertIn("<svg", "".join(found[0][0]["text/html"]))
+        chosen = ast.literal_eval("".join(found[2][0]["text/plain"]))
+        self.assertAlmostEqual(chosen["ripple(iL, from=9000)"], 1.2, delta=0.03)
+        self.assertAlmostEqual(chosen["ripple(uC, from=9000)"], 0.3, delta=0.01)
+        self.assertAlmostEqual(chosen["mean(uC, from=9000)"], 12, delta=0.01)
+        self.assertIn("image/svg+xml", found[3][0])
+
+    @unittest.skipUnless(os.path.exists(BUILT), "the program is not built")
+    def test_tolerances(self):
+        """A ripple of 600 A uH / L is at most 7 A from 85.7 uH on, in about three of four samples or fewer."""
+        found = self.results("tolerances.ipynb", "pandas", "matplotlib")
+        share = re.match(r"'(\d+) % of 100 converters", "".join(found[2][0]["text/plain"]))
+        self.assertTrue(30 <= int(share[1]) <= 75, share[0])
+        self.assertEqual(["image/png" in one for cell in found[4:] for one in cell], [True, True])
 
 
 if __name__ == "__main__":
