@@ -2,16 +2,19 @@
 import http.client
 import json
 import os
+import re
+import shlex
 import shutil
 import signal
 import subprocess
 import unittest
 
 from browser import Page, browser
-from models import BALL, GROWING
+from models import BALL, GROWING, LINE
 from support import BUILT, PROGRAM, ROOT, TOOLS, InFolder, python_with, run
 
 from qss_tools.fault import Fault
+from qss_tools.live.live import parser_of
 from qss_tools.live.runs import Limits, Runs, Text
 from qss_tools.live.server import HOST, MOST_REQUEST, started
 from qss_tools.live.session import Options, Session, Stale
@@ -199,6 +202,51 @@ class Answers(Live):
         self.assertEqual(done.stopped, "the run was stopped after 0.5 s")
         with open(done.rows, encoding="ascii") as file:
             self.assertEqual(file.read().splitlines()[-1], "1,level,x,1001,1001")
+
+
+@unittest.skipUnless(os.path.exists(BUILT), "the program is not built")
+class PageOfDocs(Live):
+    """docs/LIVE.md: its commands begin as it says, and its model runs."""
+
+    def setUp(self):
+        super().setUp()
+        with open(os.path.join(ROOT, "docs", "LIVE.md"), encoding="utf-8") as file:
+            self.page = file.read()
+
+    def test_its_commands(self):
+        commands = re.findall(r"^tools/qss-live ([^#\n]*)", self.page, re.MULTILINE)
+        self.assertEqual(len(commands), 4)
+        for number, command in enumerate(commands):
+            args = parser_of().parse_args(shlex.split(command))
+            folder = os.path.join(self.folder, str(number))
+            os.mkdir(folder)
+            options = Options(args.names, args.measures)
+            session = Session(os.path.join(ROOT, args.model), PROGRAM, folder, options)
+            session.look()
+            session.check_names()
+            state = session.state()
+            self.assertEqual((state["problems"], state["measures"]), ([], args.measures), command)
+            if args.names:
+                self.assertEqual(",".join("+".join(one) for one in state["panels"]), args.names)
+
+    def test_its_model(self):
+        (model,) = re.findall(r"```modelica\n(.*?)```", self.page, re.DOTALL)
+        session = self.session("converter.mo", model, names="uC,iL")
+        self.assertEqual(session.problems, [])
+        self.assertEqual([one.name for one in session.loaded.sheet.parameters], ["U", "L", "C", "ref", "kp", "kc"])
+        for inductance, ripple in (("100", 1.2), ("200", 0.6)):
+            asked = self.ask(session, values={"L": inductance}, names=["iL"], window=["2940", "3000"])
+            # (at the duty ratio 1/2 the ripple is 24 V times 10 us over 2 L)
+            self.assertAlmostEqual(session.measure(asked)["table"][0]["values"][3], ripple, delta=0.02)
+
+    def test_second_order(self):
+        """The line from 1 with the slope 1/2, which goes up to 5 at the time 8."""
+        text = LINE.replace("QSS_CoefBits = 0", "QSS_CoefBits = 1")
+        session = self.session("line.mo", text, limits=Limits(order=2))
+        curve = session.draw(self.ask(session, panels=[["x"]]))["panels"][0]["curves"][0]
+        self.assertEqual((curve["held"], curve["x"], curve["y"]), (False, [0, 8], [1, 5]))
+        row = session.measure(self.ask(session, panels=[["x"]], names=["x"]))["table"][0]["values"]
+        self.assertEqual(row, [1, 3, 5, 4, 5])
 
 
 class Saves(Live):
