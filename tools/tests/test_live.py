@@ -46,6 +46,7 @@ end charged;
 """
 WANTED_MS = 300  # from a slider to the curve
 MOVES = 8
+NEEDS_PROGRAM = unittest.skipUnless(os.path.exists(BUILT), "the program is not built")
 
 
 class Ranges(unittest.TestCase):
@@ -136,6 +137,7 @@ class Answers(Live):
         wrong = session.measure({**asked, "measures": "mean(nothing)"})["measures"]
         self.assertIn("no variable 'nothing'", wrong[0]["reason"])
 
+    @NEEDS_PROGRAM
     def test_other_values(self):
         session = self.session("charged.mo", CHARGED)
         one, two = (session.draw(self.ask(session, values=values)) for values in ({}, {"R": "2"}))
@@ -165,12 +167,11 @@ class Answers(Live):
         self.assertEqual(found["notices"], ["the run overflowed: x at tick 5 (time 5)"])
         self.assertAlmostEqual(found["panels"][0]["curves"][0]["y"][-1] / 1004006004001, 1, 9)
 
+    @NEEDS_PROGRAM
     def test_a_band(self):
         decay = os.path.join(ROOT, "examples", "decay.mo")
         with open(decay, encoding="utf-8") as file:
             session = self.session("decay.mo", file.read())
-        if not os.path.exists(BUILT):
-            self.skipTest("the program is not built")
         found = session.measure(self.ask(session, panels=[["x"]], band=True))
         self.assertEqual([one["opacity"] for one in found["bands"]], [0.13, 0.22])
         wide, narrow = found["bands"]
@@ -204,7 +205,7 @@ class Answers(Live):
             self.assertEqual(file.read().splitlines()[-1], "1,level,x,1001,1001")
 
 
-@unittest.skipUnless(os.path.exists(BUILT), "the program is not built")
+@NEEDS_PROGRAM
 class PageOfDocs(Live):
     """docs/LIVE.md: its commands begin as it says, and its model runs."""
 
@@ -250,6 +251,7 @@ class PageOfDocs(Live):
 
 
 class Saves(Live):
+    @NEEDS_PROGRAM
     def test_a_wrong_source_keeps_the_last_one(self):
         session = self.session("charged.mo", CHARGED)
         before, revision = session.state(), session.revision
@@ -270,6 +272,7 @@ class Saves(Live):
         self.assertRaises(Stale, session.draw, {"text": before["text"], "panels": [["u"]]})
         self.assertEqual(session.draw(self.ask(session))["panels"][0]["curves"][0]["x"][1], 0.125)
 
+    @NEEDS_PROGRAM
     def test_a_source_that_is_wrong_at_first_or_missing(self):
         session = self.session("m.mo", "model m Real x; equation der(x) = ; end m;")
         self.assertEqual((session.loaded, "sheet" in session.state()), (None, False))
@@ -447,7 +450,7 @@ class Tool(InFolder):
             self.skipTest("plotly is installed for this Python")
         self.assert_fault(run("qss-live", self.file("ball.mo", BALL), "--no-browser"), "needs the package plotly")
 
-    @unittest.skipUnless(os.path.exists(BUILT), "the program is not built")
+    @NEEDS_PROGRAM
     def test_a_slider_moves_the_curve(self):
         """A slider is moved by the mouse: the last value of the curve follows, in time."""
         model = os.path.join(ROOT, "docs", "tutorial", "converter.mo")
@@ -473,6 +476,7 @@ class Tool(InFolder):
         self.assertIn("--set U=", page.value("document.getElementById('command').textContent"))
         self.keep(page, "live_slider")
 
+    @NEEDS_PROGRAM
     def test_a_wrong_source_is_explained_beside_the_last_curve(self):
         model = self.file("charged.mo", CHARGED)
         page = self.open(self.start(model))

@@ -93,7 +93,7 @@ class Session:
         except (Fault, RecursionError) as fault:
             name = os.path.basename(self.model)
             found = [problem_json(one, Source(name, data)) for one in self.checker.problems(name, data)]
-            return None, found or [{"sentence": str(fault), "fixes": []}]
+            return None, found or [{"sentence": self.named(fault), "fixes": []}]
 
     def understood(self, data: bytes) -> Loaded:
         """What a page shows of a source, which is run once."""
