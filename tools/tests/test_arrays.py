@@ -1,5 +1,7 @@
 """Rows as arrays: the same rows, measures and tables as without numpy, and numbers of any size."""
+import cmath
 import itertools
+import math
 import os
 import random
 import re
@@ -220,6 +222,28 @@ class Same(InFolder):
             self.assertEqual(self.both("qss-measure", model, rows, "max(duty)", *words)[1], "max(duty)  %d\n" % most)
             self.assertEqual(self.both("qss-table", model, rows, "--names", "duty", *words)[1], "time,duty\n" + table)
             self.assertEqual(self.both("qss-measure", model, each, "max(duty)", *words)[1], "max(duty)  2\n")
+
+    def test_averages_count_values_of_one_tick(self):
+        """duty is 0 for 2 ticks, 5 for 1 tick and 1 for 13 ticks: its sum is 18, and that of its squares is 38."""
+        model, rows = self.file("limit.mo", LIMITED), self.file("limit.csv", LIMITED_ROWS)
+        averages = "mean(duty) integral(duty) mean(2*duty + 1) duty(duty) rms(duty) mean(x*duty) "
+        for words, extremes in (((), "1,1,3"), (("--all-values",), "5,5,11")):
+            text = averages + "max(duty) ripple(duty) max(2*duty + 1)"
+            found = self.both("qss-measure", model, rows, text, "--csv", *words)[1].split("\n")[1].split(",")
+            # (the default level of duty is half way from min to max)
+            share = "0.875" if not words else "0.0625"
+            self.assertEqual(found[:4], ["1.125", "18", "3.25", share])
+            self.assertAlmostEqual(float(found[4]) ** 2, 38 / 16, 9)
+            self.assertEqual(found[5:], ["1.125"] + extremes.split(","))
+
+    def test_harmonics_count_values_of_one_tick(self):
+        """Over 16 ticks: 5 - 1 from 2 to 3, and 0 - 1 from 0 to 2, over a constant 1."""
+        model, rows = self.file("limit.mo", LIMITED), self.file("limit.csv", LIMITED_ROWS)
+        turn = -2j * math.pi / 16
+        parts = [(-1, 0, 2), (4, 2, 3)]
+        wanted = abs(sum(value * (cmath.exp(turn * b) - cmath.exp(turn * a)) / turn for value, a, b in parts)) / 8
+        found = self.both("qss-measure", model, rows, "harmonic(duty, f=1/16)")[1].split()[-1]
+        self.assertAlmostEqual(float(found), wanted, 9)
 
 
 def requests_of(text):

@@ -2,6 +2,7 @@
 import os
 import re
 import shlex
+import subprocess
 import unittest
 
 from support import BUILT, PROGRAM, ROOT, InFolder, run
@@ -71,6 +72,21 @@ class WithTheProgram(InFolder):
                 status, out, err = run(tool, *words, "--program", PROGRAM)
                 self.assertEqual((status, err), (int(tool == "qss-explain"), ""))
                 self.assertEqual(out, shown)
+
+    def test_mean_power_is_that_of_a_plain_sum(self):
+        """ptotal, in kW, of the rows of the run: value times duration, from the time 1000 to the end at 2000."""
+        command = [PROGRAM, "run", os.path.join(self.folder, "airconds.mo"), "--only", "ptotal"]
+        rows = subprocess.run(command, stdout=subprocess.PIPE, check=True).stdout.decode().splitlines()
+        ticks, begin, end, total, since, value = 2**6, 1000 * 2**6, 2000 * 2**6, 0, 0, 0
+        for tick, event, name, level, _ in (row.split(",") for row in rows[1:]):
+            if name == "ptotal":
+                self.assertIn(event, ("start", "set", "end"))
+                total += value * (int(tick) - max(since, begin)) if int(tick) > begin else 0
+                since, value = int(tick), int(level)
+        self.assertEqual(since, end)
+        shown = dict(re.findall(r"^(mean\(ptotal, from=1000\)) +(\S+)$", page(), re.MULTILINE))
+        self.assertEqual(list(shown.values()), ["%.12g" % (total / (end - begin) / 2**20)])
+        self.assertEqual(ticks * 1000, end - begin)
 
 
 if __name__ == "__main__":

@@ -6,7 +6,7 @@ from ..arrays import load
 from ..model.flat import ALGEBRAIC
 from .lines import array_trajectories
 from .rows import Rows, Run
-from .trajectories import Combination, Follower, Trajectory, level_lines
+from .trajectories import Combination, Follower, Trajectory, level_lines, with_sums
 
 
 def trajectories(
@@ -18,7 +18,7 @@ def trajectories(
 ) -> Tuple[List[Trajectory], Optional[Tuple[int, str]]]:
     """The trajectories of these variables, from the rows of a run, and the tick and the name of an overflow or None. A
     value of a discrete variable that holds for one tick only is left out (module steady), unless all are asked for. The
-    numbers of `more` denote these sums.
+    complete trajectories of the trajectories keep it. The numbers of `more` denote these sums.
     """
     flat = run.flat
     sums = dict(more or {})
@@ -34,13 +34,13 @@ def trajectories(
         follower = Follower(run, sorted(needed))
         last, overflow = follower.follow(rows)
         known = follower.lines
-    for number, line in known.items():
+    for line in known.values():
         line.last = last
-        if number >= flat.states and not all_values:
-            line.leave_short_values_out()
-    tick = Fraction(1, 2**run.units.time)
-    lines = {number: one.trajectory(known, tick) for number, one in sums.items()}
-    for line in lines.values():
-        line.last = last
-    lines.update(known)
-    return [lines[number] for number in numbers], overflow
+
+    def total(one: Combination, some: Mapping[int, Trajectory]) -> Trajectory:
+        found = one.trajectory(some, Fraction(1, 2**run.units.time))
+        found.last = last
+        return found
+
+    lines = with_sums(known, sums, total, flat.states)
+    return [lines[number].complete if all_values else lines[number] for number in numbers], overflow

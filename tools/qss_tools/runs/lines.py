@@ -7,7 +7,7 @@ from .bulk import END, LEVEL, REINIT, SET, Record, record_of
 from .machines import Machine, nearest
 from .rows import Rows, Run
 from .series import Series, changes_of, overflow_of, steady
-from .trajectories import Combination, Exact, SlopeRow, Trajectory, machine_of, off_trajectory
+from .trajectories import Combination, Exact, SlopeRow, Trajectory, machine_of, off_trajectory, with_sums
 from .wide import Array, Wide
 
 np = load()
@@ -28,6 +28,7 @@ class ArrayTrajectory(Trajectory):
         self.name, self.last = name, last
         self.unit, self.tick, self.quantum = units
         self.ticks, self.starts, self.rises = arrays
+        self._complete = None
         self._lists: Dict[str, List[int]] = {}
         self._pieces: Optional[Tuple[Array, Wide, Wide]] = None
 
@@ -47,6 +48,17 @@ class ArrayTrajectory(Trajectory):
     @property  # type: ignore[override]
     def slopes(self) -> List[int]:
         return self._list("slopes", self.rises.numbers)
+
+    def steady(self) -> "ArrayTrajectory":
+        series = Series(self.ticks, self.starts)
+        kept = steady(series)
+        if kept is series:
+            return self
+        none = Wide([np.zeros(len(kept.ticks), dtype=np.int64)])
+        units = self.unit, self.tick, self.quantum
+        found = ArrayTrajectory(self.name, units, (kept.ticks, kept.values, none), self.last)
+        found._complete = self
+        return found
 
     def place(self, time: Exact) -> int:
         """The place of the piece that holds at a time in ticks."""
@@ -85,28 +97,26 @@ class Follower:
         overflow = overflow_of(record, run)
         self.last = max(overflow[0] - 1, 0) if overflow else int(record.ticks[-1])
 
-    def line(self, number: int, all_values: bool) -> ArrayTrajectory:
+    def line(self, number: int) -> ArrayTrajectory:
         """The trajectory of a state or of a discrete variable."""
         run = self.run
         is_state = number < run.flat.states
         unit = Fraction(1, 2 ** (run.units.state if is_state else run.units.level))
         one = run.flat.variables[number]
         units = unit, Fraction(1, 2**run.units.time), one.quantum if is_state else None
-        arrays = self.state(number) if is_state else self.discrete(number, all_values)
+        arrays = self.state(number) if is_state else self.discrete(number)
         inside = arrays[0] <= self.last
         if not inside.all():
             arrays = arrays[0][inside], arrays[1][inside], arrays[2][inside]
         return ArrayTrajectory(one.name, units, arrays, self.last)
 
-    def discrete(self, number: int, all_values: bool) -> Tuple[Array, Wide, Wide]:
+    def discrete(self, number: int) -> Tuple[Array, Wide, Wide]:
         record = self.record
         places = np.flatnonzero((record.names == number) & (record.kinds == SET))
         ticks = np.append([0], record.ticks[places])
         values = np.append([self.levels[number]], record.levels[places])
         last = np.append(ticks[1:] != ticks[:-1], True)
         series = changes_of(Series(ticks[last], Wide([values[last]])))
-        if not all_values:
-            series = steady(series)
         return series.ticks, series.values, Wide([np.zeros(len(series.ticks), dtype=np.int64)])
 
     def state(self, number: int) -> Tuple[Array, Wide, Wide]:
@@ -253,10 +263,13 @@ def array_trajectories(
             wanted |= SlopeRow(machine, machine.rows[number]).reads()
     record = record_of(rows, wanted, True)
     follower = Follower(run, record, rows.name)
-    lines = {number: follower.line(number, all_values) for number in sorted(states)}
-    tick = Fraction(1, 2**run.units.time)
-    found: Dict[int, ArrayTrajectory] = dict(lines)
-    for number, one in sums.items():
-        found[number] = sum_of_lines(run, one, lines, tick)
-        found[number].last = follower.last
-    return [found[number] for number in numbers], overflow_of(record, run)
+    lines = {number: follower.line(number) for number in sorted(states)}
+
+    def total(one: Combination, some: Mapping[int, ArrayTrajectory]) -> ArrayTrajectory:
+        found = sum_of_lines(run, one, some, Fraction(1, 2**run.units.time))
+        found.last = follower.last
+        return found
+
+    found = with_sums(lines, sums, total, machine.states)
+    chosen = [found[number].complete if all_values else found[number] for number in numbers]
+    return chosen, overflow_of(record, run)

@@ -31,6 +31,12 @@ def window_of(line: Trajectory, begin: Optional[Exact] = None, end: Optional[Exa
     return Window(line, begin, end)
 
 
+def complete(window: Window) -> Window:
+    """The same window of the trajectory with all values. Averages count the values that hold for one tick only, too."""
+    line = window.line.complete
+    return window if line is window.line else window_of(line, window.begin * line.tick, window.end * line.tick)
+
+
 # the measures
 
 
@@ -66,17 +72,17 @@ def at(window: Window, t: Exact) -> Fraction:
 
 def integral(window: Window) -> Fraction:
     """The integral over time."""
-    return window.value(Fraction(window.twice_area()) / 2) * window.line.tick
+    return window.value(Fraction(complete(window).twice_area()) / 2) * window.line.tick
 
 
 def mean(window: Window) -> Fraction:
     length = window.length()
-    return window.value(Fraction(window.twice_area()) / (2 * length))
+    return window.value(Fraction(complete(window).twice_area()) / (2 * length))
 
 
 def mean_square(window: Window) -> Fraction:
     """The mean of the square."""
-    return Fraction(window.thrice_square()) / (3 * window.length()) * window.line.unit**2
+    return Fraction(complete(window).thrice_square()) / (3 * window.length()) * window.line.unit**2
 
 
 def rms(window: Window) -> float:
@@ -181,6 +187,7 @@ def frequency(window: Window, level: Optional[Exact] = None) -> Fraction:
 def duty(window: Window, level: Optional[Exact] = None) -> Fraction:
     """The fraction of time at the level or above it, over the whole periods, or over the window if there is none."""
     level = threshold(window, level)
+    window = complete(window)
     rising, falling = window.crossings(level)
     begin, end = (rising[0], rising[-1]) if len(rising) > 1 else (window.begin, window.end)
     if begin == end:
@@ -209,7 +216,7 @@ def amplitudes(window: Window, f: Exact, harmonics: Sequence[int]) -> List[float
         raise Fault("%s: the window is shorter than a period of the frequency %g" % (window.line.name, float(f)))
     begin = plain(window.end - periods * ticks)
     span = float(periods * ticks)
-    sums = window.spectrum(begin, 2 * math.pi / float(ticks), harmonics)
+    sums = complete(window).spectrum(begin, 2 * math.pi / float(ticks), harmonics)
     return [abs(one) / span * (2 if number else 1) for one, number in zip(sums, harmonics)]
 
 

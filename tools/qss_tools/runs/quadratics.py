@@ -61,10 +61,11 @@ class Quadratic:
         return value
 
     def integrated(self, asked: Request) -> Fraction:
-        window = window_of(self.linear, asked.options.get("from"), asked.options.get("to"))
+        window = window_of(self.linear.complete, asked.options.get("from"), asked.options.get("to"))
         total = Fraction(window.twice_area()) / 2 * self.linear.unit
         for one, other in self.pairs:
-            total += Fraction(product_integral(one, other, window.begin, window.end)) / 6 * one.unit * other.unit
+            product = product_integral(one.complete, other.complete, window.begin, window.end)
+            total += Fraction(product) / 6 * one.unit * other.unit
         return total / window.length() if asked.name == "mean" else total * self.linear.tick
 
 

@@ -1,8 +1,9 @@
 """Values that hold for one tick only.
 
 A limit that is a clause of its own acts a tick late: a value past the limit holds for that tick. Pictures, tables and
-measures leave out such values. The rule: a value of a discrete variable that holds for one tick, between two values
-that hold for longer, is left out. The value before it holds for that tick.
+measures of values and of crossings leave out such values, and averages count them (module measures). The rule: a value
+of a discrete variable that holds for one tick, between two values that hold for longer, is left out. The value before
+it holds for that tick.
 """
 import argparse
 from collections import deque
@@ -10,7 +11,7 @@ from typing import Deque, Dict, Iterable, Iterator, List, Optional, Sequence, Se
 
 from .rows import Row, Run
 
-ALL_VALUES = "count values of discrete variables that hold for one tick only, too"
+ALL_VALUES = "show values of discrete variables that hold for one tick only, too"
 
 
 def add_all_values_option(parser: argparse.ArgumentParser) -> None:

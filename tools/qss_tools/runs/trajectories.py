@@ -5,7 +5,7 @@ rows state when these change. Each state that a row or the end of the run states
 """
 from bisect import bisect_right
 from fractions import Fraction
-from typing import Any, Dict, Iterator, List, Mapping, Optional, Sequence, Set, Tuple, Union
+from typing import Any, Callable, Dict, Iterator, List, Mapping, Optional, Sequence, Set, Tuple, Union
 
 from ..fault import Fault
 from ..model.flat import Meaningless
@@ -24,7 +24,7 @@ class Trajectory:
     tick. The value at the tick of a jump is the one after it.
     """
 
-    __slots__ = ("name", "unit", "tick", "times", "values", "slopes", "last", "quantum")
+    __slots__ = ("name", "unit", "tick", "times", "values", "slopes", "last", "quantum", "_complete")
 
     def __init__(self, name: str, unit: Fraction, tick: Fraction, quantum: Optional[Fraction] = None) -> None:
         self.name, self.unit, self.tick, self.quantum = name, unit, tick, quantum
@@ -32,6 +32,12 @@ class Trajectory:
         self.values: List[int] = []
         self.slopes: List[int] = []
         self.last = 0
+        self._complete: Optional[Trajectory] = None
+
+    @property
+    def complete(self) -> "Trajectory":
+        """The trajectory with all values, if values that hold for one tick only are left out of this one."""
+        return self if self._complete is None else self._complete
 
     def turn(self, tick: int, slope: int) -> None:
         """From this tick on the function has this slope."""
@@ -48,16 +54,20 @@ class Trajectory:
         self.turn(tick, self.slopes[-1])
         self.values[-1] = value
 
-    def leave_short_values_out(self) -> None:
+    def steady(self) -> "Trajectory":
         """Without values that hold for one tick only, of a discrete variable."""
         points: List[Tuple[int, int]] = []
         for point in zip(self.times, self.values):
             if not points or points[-1][1] != point[1]:
                 points.append(point)
         short = set(short_places([time for time, _ in points]))
+        if not short:
+            return self
         kept = [point for place, point in enumerate(points) if place not in short]
-        self.times, self.values = [time for time, _ in kept], [value for _, value in kept]
-        self.slopes = [0] * len(kept)
+        found = Trajectory(self.name, self.unit, self.tick, self.quantum)
+        found.times, found.values = [time for time, _ in kept], [value for _, value in kept]
+        found.slopes, found.last, found._complete = [0] * len(kept), self.last, self
+        return found
 
     def pieces(
         self, begin: Optional[Exact] = None, end: Optional[Exact] = None
@@ -140,6 +150,23 @@ class Combination:
             found.values.append(value)
             found.slopes.append(after - value)
         return found
+
+
+Total = Callable[[Combination, Mapping[int, Any]], Any]  # the trajectory of a sum, from those of its variables
+
+
+def with_sums(lines: Mapping[int, Any], sums: Mapping[int, Combination], total: Total, states: int) -> Dict[int, Any]:
+    """The trajectories of variables by number, of which the first are states, and those of sums. Values that hold for
+    one tick only are left out of them, and the complete trajectories keep these values.
+    """
+    shorter = {number: line if number < states else line.steady() for number, line in lines.items()}
+    changed = {number for number, line in shorter.items() if line is not lines[number]}
+    for number, one in sums.items():
+        found = total(one, lines)
+        if one.needs() & changed:
+            found, found._complete = total(one, shorter), found
+        shorter[number] = found
+    return shorter
 
 
 class SlopeRow:

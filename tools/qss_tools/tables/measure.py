@@ -37,8 +37,8 @@ rms(uC - u0). Of a product of two states there are mean, integral, at, start and
   thd         harmonics 2 to n= (default: 40) of the frequency f=, relative to the first
 Each has from= and to=, two times in the model's unit of time. A frequency is in periods per unit of time.
 Of a run of second order the levels are measured, which move along lines.
-A value of a discrete variable that holds for one tick only, between values that hold for longer, is not measured,
-unless --all-values is there.
+The averages mean, rms, integral, duty, harmonic and thd count every value. The other measures leave out a value of a
+discrete variable that holds for one tick only, between values that hold for longer, unless --all-values is there.
 
 Status: 0 all was measured, 1 the run overflowed (it was measured up to there), 2 a fault: nothing was written."""
 
