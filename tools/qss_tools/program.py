@@ -5,10 +5,9 @@ import shlex
 import shutil
 import subprocess
 import sys
-import tempfile
 from argparse import ArgumentParser
 from importlib import metadata
-from typing import Any, Iterator, List, NamedTuple, Optional, Sequence
+from typing import Any, Dict, Iterator, List, NamedTuple, Optional, Sequence
 
 from .fault import NO_FILE, Fault
 
@@ -179,9 +178,9 @@ def canonical_text(program: str, model: str) -> bytes:
     raise Fault("%s: %s" % (model, answer.line or "status %d" % answer.status))
 
 
+CHANGED: Dict[str, str] = {}  # the words for qss-explain by the path of each changed model that this process wrote
+
+
 def way_to_place(model: str) -> str:
-    """The command that shows the place of a refusal, for a model that is a file and not a changed one."""
-    folder = os.path.dirname(os.path.abspath(model))
-    if os.path.isfile(model) and not folder.startswith(os.path.join(tempfile.gettempdir(), "qss-")):
-        return " (tools/qss-explain %s shows the place)" % shlex.quote(model)
-    return " (tools/qss-run with --print writes the changed model, and tools/qss-explain shows the place in it)"
+    """The command that shows the place of a refusal."""
+    return " (tools/qss-explain %s shows the place)" % CHANGED.get(model, shlex.quote(model))

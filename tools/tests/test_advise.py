@@ -153,6 +153,33 @@ class Findings(unittest.TestCase):
         self.assert_told(room % 0, "this condition is true at the start")
         self.assertEqual(told(room % 1), [])
 
+    def test_branches_that_never_fire(self):
+        text = (
+            "model m Real x(start = 1); discrete Real s(start = %s), n; equation der(x) = -x; algorithm"
+            " when s > 0.5 then n := n + 1; s := 1; end when;%s annotation(experiment(QSS_CoefBits = 16)); end m;"
+        )
+        never = "and no other branch sets s, so this branch never fires"
+        self.assert_told(text % (1, ""), "'s > 0.5' holds at the start " + never)
+        self.assert_told(text % (0, ""), "'s > 0.5' does not hold at the start " + never)
+        other = " when x < 0.5 then s := 1 - s; end when;"
+        self.assertEqual([one for one in told(text % (0, other)) if "never fires" in one], [])
+
+    def test_start_values_of_algebraic_variables(self):
+        text = (
+            "model m Real x(start = 1), y(start = %s); equation der(x) = -x; y = 2*x; annotation(experiment("
+            "QSS_CoefBits = 16)); end m;"
+        )
+        self.assert_told(text % 3, "the start value 3 of y has no effect: its equation gives 2 at the start")
+        self.assertEqual(told(text % 2), [])
+
+    def test_states_that_are_too_small_for_any_quantum(self):
+        text = (
+            'model m Real i(start = %s, unit = "A"); equation der(i) = -i; annotation(experiment('
+            "QSS_CoefBits = 16, QSS_Quantum = 1e-7)); end m;"
+        )
+        self.assert_told(text % "4e-8", "i reaches about 4e-08, and a quantum is at least 2^-24")
+        self.assertEqual([one for one in told(text % "4e-5") if "no settings resolve" in one], [])
+
 
 class Rewritten(unittest.TestCase):
     def assert_same_forms(self, text):

@@ -3,9 +3,10 @@ import glob
 import os
 import re
 import unittest
+from unittest import mock
 
 from refused_sources import REFUSED
-from support import ROOT, InFolder, run
+from support import ROOT, STAND_IN, InFolder, run
 
 from qss_tools.advice.certificate_story import keyword_of
 from qss_tools.advice.explain import explain
@@ -207,6 +208,40 @@ class Tool(InFolder):
         self.assertEqual((status, err), (1, ""))
         self.assertTrue(out.startswith(model + ":1:35: "))
         self.assertEqual(run("qss-explain", model, "--line", ""), (0, "", ""))
+
+    def test_a_number_in_place_of_a_long_product(self):
+        """(2*3.14159265*32768)^2 is 42389628...: the product at byte 91 has 9 digits in its stead."""
+        text = "model m parameter Real pi = 3.14159265, w = 2*pi*32768; Real x; equation der(x) = 1 - w*w*x; end m;\n"
+        at = text.index("*w*x")
+        exact = (2 * 3.14159265 * 32768) ** 2
+        status, out, err = run("qss-explain", self.file("m.mo", text), "--line", "refused: affine 3 %d 1" % at)
+        self.assertEqual((status, err), (1, ""))
+        number = re.search(r"write (\d+) in place of w\*w\n", out)
+        self.assertIsNotNone(number, out)
+        self.assertLess(abs(float(number.group(1)) / exact - 1), 1e-8)
+
+    def test_other_values_of_a_model(self):
+        """The place is that in the changed text, and a run that begins is no mistake."""
+        text = "model m parameter Real R = 1; Real x; equation der(x) = 1/R; end m;\n"
+        model = self.file("m.mo", text)
+        refused = mock.patch("qss_tools.advice.explain.line_of_text", return_value="refused: affine 3 57 2")
+        with refused:
+            status, out, err = run("qss-explain", model, "--set", "R=0", "--program", STAND_IN)
+        self.assertEqual((status, err), (1, ""))
+        self.assertTrue(out.startswith(model + " with R = 0:1:58: division by 0"), out)
+        self.assertEqual(run("qss-explain", model, "--set", "R=2", "--program", STAND_IN), (0, "", ""))
+        words = "--set", "R=2", "--line", "refused: affine 3 57 2", "--program", STAND_IN
+        self.assert_fault(run("qss-explain", model, *words), "--set goes with none of")
+
+    def test_the_way_to_the_place_can_be_executed(self):
+        """The refusal of a changed model names the command that explains it."""
+        model = self.file(
+            "a model.mo", "// stand-in: 5 refused: affine 3 57 2\nmodel m Real x; equation der(x) = 1; end m;\n"
+        )
+        for tool, more in (("qss-run", ()), ("qss-measure", ("mean(x)",)), ("qss-table", ())):
+            status, _, err = run(tool, model, *more, "--set", "x.start=2", "--program", STAND_IN)
+            self.assertEqual(status, 2)
+            self.assertIn("(tools/qss-explain '%s' --set x.start=2 shows the place)" % model, err)
 
     def test_a_file_that_is_not_there_is_named(self):
         status, out, err = run("qss-explain", os.path.join(self.folder, "none.mo"), given="read fault\n")

@@ -230,6 +230,19 @@ class Runs(InFolder):
             with self.subTest(words=words):
                 self.assert_fault(run("qss-measure", *words, "--program", STAND_IN, "--no-advice"), part)
 
+    def test_windows_and_orders_that_cannot_be(self):
+        ball, rows = self.file("ball.mo", BALL), self.file("ball.csv", BALL_ROWS)
+        words = "--program", STAND_IN, "--no-advice"
+        found = run("qss-measure", ball, rows, "mean(y, from=1, to=0.5)", *words)
+        self.assert_fault(found, "the window begins at 1.0, after its end at 0.5")
+        for tool in ("qss-table", "qss-plot"):
+            found = run(tool, ball, rows, "--from", "1", "--to", "0.5", *words)
+            self.assert_fault(found, "--from 1 is not before --to 0.5")
+            self.assert_fault(run(tool, ball, rows, "--to", "0", *words), "--to 0 is not after the start of the run")
+        for tool, more in (("qss-measure", ("mean(y)",)), ("qss-table", ()), ("qss-plot", ())):
+            found = run(tool, ball, *more, "--order", "2", *words)
+            self.assert_fault(found, "a run of second order takes models without 'when' clauses")
+
     def test_states_between_rows_are_those_of_each_tick(self):
         """The ball, and a converter with a product, gone through tick by tick."""
         for name, stop in (("ball", None), ("boost", "1"), ("buck_pi", "4")):

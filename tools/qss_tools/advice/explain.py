@@ -9,16 +9,18 @@ import tempfile
 from typing import Callable, Dict, List, NamedTuple, Optional, Sequence
 
 from ..fault import FINE, WARNED, Arguments, Fault, read_bytes, run_tool
+from ..model.changes import add_set_option, assignments, changed_text, shown
 from ..model.flat import ALGEBRAIC, DISCRETE, PARAMETER, STATE, Flat, Meaningless, roles_of
 from ..model.grammar import Model, SyntaxFault, parse
 from ..model.source import LONGEST, Source, Token
 from ..model.story import Story
 from ..model.walks import uses
 from ..output import Output
-from ..program import add_program_option, call, find_program
+from ..program import add_program_option, call, canonical_text, find_program
 from ..settings import limits
 from . import certificate_story, compare_story, edits, hints, trace_story
 from .products import not_affine
+from .scales import number_in_place
 
 LINE = re.compile(r"^refused: (\w+) (\d+)((?: \S+)*)$")
 OVERFLOW = re.compile(r"^overflow: (\S+) at tick (\d+)$")
@@ -335,7 +337,8 @@ def formed(source: Source, number: str, fields: List[str]) -> Story:
     if number == "2":
         return Story(at, "'time' is not supported in an equation", "use a state: 'Real t; der(t) = 1;'")
     if number == "3":
-        return Story(at, OUT_OF_RANGE[fields[1]], SHORTEN if fields[1] == "1" else None)
+        way = (number_in_place(parse(source), at) or SHORTEN) if fields[1] == "1" else None
+        return Story(at, OUT_OF_RANGE[fields[1]], way)
     return not_affine(source, parse(source), at)
 
 
@@ -360,6 +363,7 @@ ABOUT = """Why the program refused a model or a run overflowed, with the place i
   tools/qss-explain MODEL --certificate CERTIFICATE          checks a certificate and explains the verdict
   tools/qss-explain MODEL --trace TRACE                      checks a trace and explains the verdict
   tools/qss-explain MODEL --apply NEW                        writes the model with all fixes that are certain to NEW
+  tools/qss-explain MODEL --set R=0                          runs the model with another value of R
   tools/qss-explain MODEL --json                             prints the mistakes and their edits for programs
 
 A line on standard input is explained. Where there is none, the model is run. Lines of the form 'qss: ..' are skipped.
@@ -377,10 +381,13 @@ def tool(arguments: Sequence[str]) -> int:
     parser.add_argument("--apply", metavar="NEW", help="write the model with the fixes that are certain to this file")
     parser.add_argument("--force", action="store_true", help="write the file although it exists")
     parser.add_argument("--json", action="store_true", help="print the mistakes and their edits as JSON")
+    add_set_option(parser)
     add_program_option(parser)
     args = parser.parse_args(arguments)
     if args.apply is not None and os.path.exists(args.apply) and not args.force:
         raise Fault("%s: this file exists (--force writes it)" % args.apply)
+    if args.set:
+        return changed_tool(args)
     given = args.line if args.line is not None else piped_line()
     line = (given if given or args.line is not None else line_of_run(args)).strip()
     if line == "read fault" and not os.path.isfile(args.model):
@@ -405,6 +412,21 @@ def tool(arguments: Sequence[str]) -> int:
         number = sum(1 for mistake in mistakes if mistake.edits)
         print("%s: %d of %d mistakes are mended" % (args.apply, number, len(mistakes)), file=sys.stderr)
     return WARNED if mistakes else FINE
+
+
+def changed_tool(args: argparse.Namespace) -> int:
+    """Explains the refusal of a model with other values. Its places are those of the text that `print` writes."""
+    if args.line or args.certificate or args.trace or args.apply:
+        raise Fault("--set goes with none of --line, --certificate, --trace and --apply")
+    values = assignments(args.set)
+    data = changed_text(args.model, canonical_text(find_program(args.program), args.model), values)
+    source, line = Source(shown(args.model, values), data), line_of_text(args, data)
+    if not line:
+        return FINE
+    story = explain(source, line)
+    mistake = Mistake(line, story, source, None, ())
+    print(json.dumps([mistake.as_json(source)], indent=2) if args.json else story.text(source))
+    return WARNED
 
 
 class Mistake(NamedTuple):

@@ -23,6 +23,8 @@ from ..settings.limits import (
 from ..settings.sticking import branch_rows, holds, sticking
 from .alternating import growing, late_turns
 from .finding import Finding
+from .scales import LEAST_SIZE, small_states
+from .silent import constant_branches, idle_branches, idle_starts, value_at_start
 
 MOST_OF_A_KIND = 6  # findings of one kind that are listed
 THOUSANDTH = Fraction(1, 1000)
@@ -59,6 +61,9 @@ def findings(flat: Flat, trial: Trial) -> List[Finding]:
     for look in (
         misspelt,
         never_fires,
+        idle_branches,
+        idle_starts,
+        small_states,
         growing,
         late_turns,
         long_runs,
@@ -257,7 +262,7 @@ def quanta(flat: Flat, trial: Trial) -> Iterator[Finding]:
         if (
             trial.size[number]
             and not trial.grown
-            and 0 < trial.size[number] < 20 * float(one.quantum)
+            and LEAST_SIZE <= trial.size[number] < 20 * float(one.quantum)
             and one.declaration.at not in told
         ):
             told.add(one.declaration.at)
@@ -387,11 +392,7 @@ def near_limits(flat: Flat, trial: Trial) -> Iterator[Finding]:
 
 def at_the_start(flat: Flat, row: Row) -> bool:
     """Whether a condition holds at the start."""
-    value = row.form.constant
-    for key, weight in row.form.parts.items():
-        if key[0] != "time":
-            value += weight * flat.starts[key[1]]
-    return holds(row.part.relation, value)
+    return holds(row.part.relation, value_at_start(flat, row.form))
 
 
 def stays_true(flat: Flat, row: Row, statements: List[Row]) -> bool:
@@ -448,7 +449,7 @@ def never_fires(flat: Flat, trial: Trial) -> Iterator[Finding]:
 
 def true_at_the_start(flat: Flat, trial: Trial) -> Iterator[Finding]:
     """Conditions that hold at the start, and so do not fire before they were false."""
-    told = set()
+    told = constant_branches(flat)
     for row, statements in branch_rows(flat):
         changes = any(one.form.parts or one.form.constant != flat.starts[one.variable] for one in statements)
         if row.part.at in told or not changes or stays_true(flat, row, statements):

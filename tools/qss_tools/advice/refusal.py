@@ -8,7 +8,7 @@ from ..model.flat import Flat, Meaningless
 from ..model.grammar import parse
 from ..model.source import Source
 from ..model.story import Story
-from ..program import call, canonical_text
+from ..program import call, canonical_text, way_to_place
 from ..settings import limits
 from .explain import LINE
 
@@ -21,14 +21,14 @@ def read_model(name: str, program: str) -> Tuple[Source, Flat, Optional[Story]]:
     refused = LINE.match(line)
     if refused and refused.group(1) != "machine":
         line = call(program, ["run", name, "--only", "-"], keep=False).line
-        raise Fault("%s: %s (tools/qss-explain %s shows the place)" % (name, line, name))
+        raise Fault(f"{name}: {line}{way_to_place(name)}")
     try:
         flat = Flat(parse(source))
         flat.rows()
         most = (limits.MOST_COEF_BITS, limits.MOST_TICK_BITS, limits.MOST_LEVEL_BITS)
         bits = [flat.bits(setting) for setting in ("QSS_CoefBits", "QSS_TickBits", "QSS_LevelBits")]
         if any(one > limit for one, limit in zip(bits, most)):
-            raise Fault("%s: %s (tools/qss-explain %s shows the place)" % (name, line, name))
+            raise Fault(f"{name}: {line}{way_to_place(name)}")
     except Meaningless as error:
         raise Fault("%s:%d:%d: %s" % ((name,) + source.place(error.at) + (error.reason,))) from error
     story = limits.rounded(source, refused.group(2), refused.group(3).split()) if refused else None

@@ -7,6 +7,7 @@ import atexit
 import functools
 import os
 import re
+import shlex
 import shutil
 import tempfile
 from argparse import ArgumentParser
@@ -15,7 +16,7 @@ from fractions import Fraction
 from typing import Any, Dict, List, Mapping, Optional, Sequence, Tuple
 
 from ..fault import Fault
-from ..program import canonical_text
+from ..program import CHANGED, canonical_text
 from .grammar import CLOSING, Declaration, Model, Parser, Span, SyntaxFault, parse
 from .source import SETTINGS, Source
 from .spelling import decimal_text
@@ -23,6 +24,7 @@ from .walks import leaves
 
 MOST_TERM = 2**62  # of a numerator or a denominator
 OPENING = frozenset(CLOSING)
+MOST_SHOWN = 40  # characters of a number in a message
 ASSIGNMENT = re.compile(r"^\s*([A-Za-z_][\w.]*)\s*=(.*)$", re.DOTALL)
 
 
@@ -63,7 +65,9 @@ def value_text(value: Any) -> str:
     except (TypeError, ValueError, OverflowError) as error:
         raise Fault("'%s' is not a number" % (value,)) from error
     if max(abs(exact.numerator), exact.denominator) > MOST_TERM:
-        raise Fault("'%s' has more digits than the language allows" % (value,))
+        text = str(value)
+        few = text if len(text) <= MOST_SHOWN else "%s.. (%d characters)" % (text[:MOST_SHOWN], len(text))
+        raise Fault("'%s' has more digits than the language allows" % few)
     return decimal_text(exact)
 
 
@@ -199,4 +203,11 @@ def write_changed(model: str, program: str, values: Mapping[str, Any], folder: O
     path = os.path.join(folder, os.path.basename(model))
     with open(path, "wb") as file:
         file.write(text)
+    CHANGED[path] = explain_words(model, values)
     return path
+
+
+def explain_words(model: str, values: Mapping[str, Any]) -> str:
+    """The words of qss-explain for a model with its changes."""
+    changes = [word for name, one in values.items() for word in ("--set", "%s=%s" % (name, value_text(one)))]
+    return " ".join(shlex.quote(word) for word in [model, *changes])

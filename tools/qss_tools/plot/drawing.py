@@ -1,7 +1,6 @@
 """A drawing: what of one run or two is drawn, and the labels of its panels. The drawers write it as a picture."""
 import argparse
 import os
-from fractions import Fraction
 from typing import List, Optional, Sequence, Tuple
 
 from ..certificates.band import certified
@@ -12,7 +11,7 @@ from ..model.units import axis_label, variable_units
 from ..numeric.trial import time_like
 from ..runs.columns import AnyColumn, columns_of
 from ..runs.expressions import split_outside
-from ..runs.rows import Run, fraction, run_of
+from ..runs.rows import Run, run_of, window_of
 from .curves import Curve, Marks, Path
 
 # A panel: its label, and its curves, each with whether it is dashed.
@@ -37,10 +36,7 @@ class Drawing:
         if self.certified and (args.text or args.against):
             raise Fault("--certificate draws states over time, into a picture")
         self.width = TEXT_WIDTH if args.text else WIDTH
-        self.begin: Fraction = Fraction(0) if args.begin is None else fraction(args.begin, "--from")
-        self.end: Fraction = self.run.flat.settings["StopTime"] if args.end is None else fraction(args.end, "--to")
-        if not self.begin < self.end and self.run.last:
-            raise Fault("there is nothing to draw from %s to %s" % (float(self.begin), float(self.end)))
+        self.begin, self.end = window_of(args, self.run, "draw")
         self.labels = self.panel_names(self.run)
         for part in self.parts():
             columns_of(self.run, part)

@@ -197,6 +197,9 @@ def run_lines(args: argparse.Namespace, run: Run) -> Iterator[Lines]:
     options += ["--relative", args.relative] if args.relative else []
     if options and args.order == 2:
         raise Fault("a run of second order has no --rule and no --relative")
+    if args.order == 2 and run.flat.clauses():
+        label = getattr(args, "label", args.model)
+        raise Fault("%s: a run of second order takes models without 'when' clauses" % label)
     arguments = ["run2" if args.order == 2 else "run", args.model, *options]
     with start(run.program, arguments, stdout=subprocess.PIPE, stderr=subprocess.PIPE) as process:
         assert process.stdout is not None and process.stderr is not None
@@ -332,6 +335,21 @@ class Rows:
             return True, False
         is_state = self.run.names[variable] < self.run.flat.states
         return event != "reinit", event != "set" and is_state
+
+
+def window_of(args: argparse.Namespace, run: Run, what: str) -> Tuple[Fraction, Fraction]:
+    """The times of --from and --to, or those at which the run begins and ends."""
+    begin = Fraction(0) if args.begin is None else fraction(args.begin, "--from")
+    end = run.flat.settings["StopTime"] if args.end is None else fraction(args.end, "--to")
+    if begin < end or not run.last:
+        return begin, end
+    if args.begin is not None and args.end is not None:
+        raise Fault("--from %s is not before --to %s" % (args.begin, args.end))
+    if args.begin is None:
+        raise Fault("there is nothing to %s: --to %s is not after the start of the run" % (what, args.end))
+    raise Fault(
+        "there is nothing to %s: --from %s is not before the end of the run at %s" % (what, args.begin, float(end))
+    )
 
 
 def fraction(text: str, what: str) -> Fraction:

@@ -12,7 +12,7 @@ from ..model.flat import DISCRETE, STATE, roles_of
 from ..model.grammar import parse
 from ..model.source import Source
 from ..output import Output
-from ..program import OVERFLOWED, RULES, add_program_option, canonical_text, find_program, start
+from ..program import OVERFLOWED, REFUSED, RULES, add_program_option, canonical_text, find_program, start, way_to_place
 
 ABOUT = """Runs a model as `qss run` does, with other values for parameters, settings, starts and quanta.
 
@@ -56,12 +56,18 @@ def tool(arguments: Sequence[str]) -> int:
         with Output(args.output) as output:
             status, line = copy(program, words, output.held)
             if status not in (0, OVERFLOWED):
-                raise Fault("%s: %s" % (label, line or "status %d" % status))
+                raise failed(label, path, status, line)
     if status not in (0, OVERFLOWED):
-        raise Fault("%s: %s" % (label, line or "status %d" % status))
+        raise failed(label, path, status, line)
     if status == OVERFLOWED:
         print("qss-run: %s: %s" % (label, line), file=sys.stderr)
     return WARNED if status == OVERFLOWED else FINE
+
+
+def failed(label: str, path: str, status: int, line: str) -> Fault:
+    """The fault of a run that the program did not begin."""
+    way = way_to_place(path) if status == REFUSED else ""
+    return Fault(f"{label}: {line or f'status {status}'}{way}")
 
 
 def check_name(name: str, model: str, text: bytes) -> None:

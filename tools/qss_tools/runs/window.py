@@ -27,6 +27,9 @@ class Window:
         scale = 1 / line.tick
         self.begin = plain(Fraction(0) if begin is None else Fraction(begin) * scale)
         self.end = plain(Fraction(line.last) if end is None else Fraction(end) * scale)
+        if self.begin > self.end:
+            times = float(self.begin * line.tick), float(self.end * line.tick)
+            raise Fault("%s: the window begins at %s, after its end at %s" % (line.name, *times))
         if not 0 <= self.begin <= self.end <= line.last:
             raise Fault(
                 "%s: the window from %s to %s is not within the run, which ends at %s"

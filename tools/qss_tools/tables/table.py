@@ -16,7 +16,7 @@ from ..model.spelling import decimal_text
 from ..model.units import SECONDS, time_unit, variable_units
 from ..output import Output
 from ..runs.columns import AnyColumn, Watch, columns_of
-from ..runs.rows import Row, Rows, Run, add_run_options, exact, fraction, lines_of, run_of
+from ..runs.rows import Row, Rows, Run, add_run_options, exact, fraction, lines_of, run_of, window_of
 from ..runs.steady import add_all_values_option, steady_rows
 from .formats import ENDS, FORMS, Data, check_form, write_mat, write_parquet, write_raw
 
@@ -78,7 +78,7 @@ def tool(arguments: Sequence[str]) -> int:
     unit = args.unit or time_unit(Source(args.source, read_bytes(args.source)))
     args.unit = unit if unit in SECONDS else "s"
     form = args.form = args.format or form_of(args.output)
-    window_of(args, run)
+    window_of(args, run, "write")
     if args.every is not None:
         step_of(args.every, run)
     columns_of(run, args.names, args.states)
@@ -108,7 +108,7 @@ def write_arrays(
     """Writes the lines of CSV from arrays; the tick and the name of an overflow, or None."""
     from .bulk_table import Choice, Table
 
-    begin, end = window_of(args, rows.run)
+    begin, end = window_of(args, rows.run, "write")
     every = None if args.every is None else step_of(args.every, rows.run)
     choice = Choice(every, begin if args.begin else None, end if args.end else None, args.events, args.all_values)
     table = Table(rows, columns, choice)
@@ -135,7 +135,7 @@ def write_rows(
         states = States(bounds, rows.name) if bounds else None
         kind = Wide if args.every is None else Sampled
         writer = kind(output, run, columns, args, bound_columns(bounds, states, columns))
-    cut = Window(writer, *window_of(args, run)) if args.begin or args.end else writer
+    cut = Window(writer, *window_of(args, run, "write")) if args.begin or args.end else writer
     return follow(cut, rows, columns, states, args.all_values)
 
 
@@ -162,15 +162,6 @@ def form_of(path: Optional[str]) -> str:
     if end not in FORMS:
         raise Fault("%s: a table is %s (--format names the format of a file with another end)" % (path, ENDS))
     return FORMS[end]
-
-
-def window_of(args: argparse.Namespace, run: Run) -> Tuple[Fraction, Fraction]:
-    """The times of --from and --to, or those at which the run begins and ends."""
-    begin = Fraction(0) if args.begin is None else fraction(args.begin, "--from")
-    end = run.flat.settings["StopTime"] if args.end is None else fraction(args.end, "--to")
-    if not begin < end and run.last:
-        raise Fault("there is nothing from time %s to %s" % (float(begin), float(end)))
-    return begin, end
 
 
 def bound_columns(
