@@ -17,6 +17,7 @@ from test_plot import LIMITED, LIMITED_ROWS
 import qss_tools
 from qss_tools import arrays
 from qss_tools.fault import Fault
+from qss_tools.runs.curves import trajectories
 from qss_tools.runs.expressions import split_outside
 from qss_tools.runs.rows import Lines, Rows, Run, ordered
 from qss_tools.runs.steady import short_places
@@ -222,6 +223,19 @@ class Same(InFolder):
             self.assertEqual(self.both("qss-measure", model, rows, "max(duty)", *words)[1], "max(duty)  %d\n" % most)
             self.assertEqual(self.both("qss-table", model, rows, "--names", "duty", *words)[1], "time,duty\n" + table)
             self.assertEqual(self.both("qss-measure", model, each, "max(duty)", *words)[1], "max(duty)  2\n")
+
+    @unittest.skipUnless(HAS_NUMPY, "numpy is not installed")
+    def test_trusted_rows_have_the_same_trajectories(self):
+        """The states of rows `reinit` are read, and those of other rows are not compared."""
+        spoilt = BALL_ROWS.replace("2,level,y,1,96", "2,level,y,1,97")
+        self.assertNotEqual(spoilt, BALL_ROWS)
+        found = []
+        for text, trusted in ((BALL_ROWS, False), (BALL_ROWS, True), (spoilt, True)):
+            one = Run(self.file("ball.mo", BALL), STAND_IN)
+            rows = Rows(one, iter(text.splitlines(True)), "rows", trusted=trusted)
+            lines, _ = trajectories(one, rows, [0, 1])
+            found.append([(line.times, line.values, line.slopes, line.last) for line in lines])
+        self.assertEqual(found[1:], [found[0]] * 2)
 
     def test_averages_count_values_of_one_tick(self):
         """duty is 0 for 2 ticks, 5 for 1 tick and 1 for 13 ticks: its sum is 18, and that of its squares is 38."""

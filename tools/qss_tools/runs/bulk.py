@@ -119,9 +119,11 @@ class Format:
         found >>= np.uint64(32)
         return found.view(np.int64)
 
-    def numbers(self, fields: Fields, column: int) -> Optional[Numbers]:
-        """The whole numbers of a column, or None where one has too many digits or only a sign."""
+    def numbers(self, fields: Fields, column: int, places: Optional[Array] = None) -> Optional[Numbers]:
+        """The whole numbers of a column, or of some rows, or None where one has too many digits or only a sign."""
         starts, ends = fields.starts[column], fields.ends[column]
+        if places is not None:
+            starts, ends = starts[places], ends[places]
         lengths = ends - starts
         negative = fields.raw[starts] == MINUS
         digits = lengths - negative
@@ -287,8 +289,9 @@ class Reader:
         if fields is None:
             return None
         ticks, levels = form.numbers(fields, 0), form.numbers(fields, 3)
-        states = form.numbers(fields, 4) if self.with_states else None
-        if ticks is None or levels is None or self.with_states and states is None:
+        all_states = self.with_states and not self.rows.trusted
+        states = form.numbers(fields, 4) if all_states else None
+        if ticks is None or levels is None or all_states and states is None:
             return None
         if not ticks.given.all() or len(ticks.values.parts) > 1 or len(levels.values.parts) > 1:
             return None
@@ -296,7 +299,10 @@ class Reader:
         kinds, names = form.events(fields), form.names.find(form, fields)
         if kinds is None:
             return None
-        record = Record(ticks.values.parts[0], kinds, names, levels.values.parts[0], states and states.values, [])
+        kept = states.values if states else self.reinitialized(fields, kinds)
+        if self.with_states and kept is None:
+            return None
+        record = Record(ticks.values.parts[0], kinds, names, levels.values.parts[0], kept, [])
         others = form.others_of(kinds, names) + self.name_branches(fields, record)
         if fields.others != others + ticks.signs + levels.signs + signs:
             return None
@@ -308,6 +314,22 @@ class Reader:
         self.rows.number += len(kinds)
         self.rows.tick, self.rows.event = int(record.ticks[-1]), KINDS[int(kinds[-1])]
         return record
+
+    def reinitialized(self, fields: Fields, kinds: Array) -> Optional[Wide]:
+        """The states of the rows `reinit`, and 0 in all other rows; None if they are not wanted or no numbers."""
+        if not self.with_states:
+            return None
+        places = np.flatnonzero(kinds == REINIT)
+        if not len(places):
+            return Wide([np.zeros(len(kinds), dtype=np.int64)])
+        found = self.form.numbers(fields, 4, places)
+        if found is None:
+            return None
+        parts = []
+        for part in found.values.parts:
+            parts.append(np.zeros(len(kinds), dtype=np.int64))
+            parts[-1][places] = part
+        return Wide(parts)
 
     def fits(self, record: Record, has_level: Array, has_state: Array) -> bool:
         """Whether the rows of a block are valid, and in order."""

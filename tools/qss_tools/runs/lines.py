@@ -16,7 +16,7 @@ np = load()
 class ArrayTrajectory(Trajectory):
     """A trajectory whose ticks, values and slopes are arrays."""
 
-    __slots__ = ("ticks", "starts", "rises", "_lists", "_pieces")
+    __slots__ = ("ticks", "starts", "rises", "_lists", "_pieces", "_ends")
 
     def __init__(
         self,
@@ -30,7 +30,8 @@ class ArrayTrajectory(Trajectory):
         self.ticks, self.starts, self.rises = arrays
         self._complete = None
         self._lists: Dict[str, List[int]] = {}
-        self._pieces: Optional[Tuple[Array, Wide, Wide]] = None
+        self._pieces: Optional[Tuple[Array, Wide]] = None
+        self._ends: Optional[Wide] = None
 
     def _list(self, name: str, made: Callable[[], List[int]]) -> List[int]:
         if name not in self._lists:
@@ -71,13 +72,18 @@ class ArrayTrajectory(Trajectory):
         place = self.place(time)
         return self.starts.number(place) + self.rises.number(place) * (time - int(self.ticks[place]))
 
-    def whole_pieces(self) -> Tuple[Array, Wide, Wide]:
-        """Of all pieces but the last: lengths in ticks, by how much the value changes, and the value at the end."""
+    def whole_pieces(self) -> Tuple[Array, Wide]:
+        """Of all pieces but the last: lengths in ticks, and by how much the value changes."""
         if self._pieces is None:
             lengths = np.diff(self.ticks)
-            moves = self.rises[:-1] * Wide([lengths])
-            self._pieces = lengths, moves, self.starts[:-1] + moves
+            self._pieces = lengths, self.rises[:-1] * Wide([lengths])
         return self._pieces
+
+    def ends(self) -> Wide:
+        """Of all pieces but the last: the value at the end."""
+        if self._ends is None:
+            self._ends = self.starts[:-1] + self.whole_pieces()[1]
+        return self._ends
 
     def sampled(self, times: Array) -> Array:
         """The values at times of the model's unit, as floats."""
@@ -90,8 +96,8 @@ class ArrayTrajectory(Trajectory):
 class Follower:
     """The trajectories of states and discrete variables, from rows as arrays."""
 
-    def __init__(self, run: Run, record: Record, name: str) -> None:
-        self.run, self.record, self.name = run, record, name
+    def __init__(self, run: Run, record: Record, rows: Rows) -> None:
+        self.run, self.record, self.name, self.trusted = run, record, rows.name, rows.trusted
         self.machine = machine_of(run)
         self.levels = [self.machine.level_below(start) for start in self.machine.starts] + list(self.machine.values)
         overflow = overflow_of(record, run)
@@ -135,7 +141,8 @@ class Follower:
         values = before
         if jumped.any():
             values, before = events.with_jumps(before, jumped)
-        self.check(events, before, number)
+        if not self.trusted:
+            self.check(events, before, number)
         changed = jumped
         for part in slopes.parts:
             changed[1:] |= part[1:] != part[:-1]
@@ -262,7 +269,7 @@ def array_trajectories(
         if number < machine.states:
             wanted |= SlopeRow(machine, machine.rows[number]).reads()
     record = record_of(rows, wanted, True)
-    follower = Follower(run, record, rows.name)
+    follower = Follower(run, record, rows)
     lines = {number: follower.line(number) for number in sorted(states)}
 
     def total(one: Combination, some: Mapping[int, ArrayTrajectory]) -> ArrayTrajectory:

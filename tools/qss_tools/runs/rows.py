@@ -219,11 +219,14 @@ class Rows:
     """Each row as (tick, event, name, level, state), the last two whole numbers or None.
 
     Rows that are not of this model are a fault. Rows that end too early are one too, unless they may be cut: then `cut`
-    says where they end. Of a run of second order the values of discrete variables are in the finer units too.
+    says where they end. Of a run of second order the values of discrete variables are in the finer units too. If the
+    rows are trusted, their states are not compared with the trajectories.
     """
 
-    def __init__(self, run: Run, lines: Iterable[str], name: str, may_be_cut: bool = False):
-        self.run = run
+    def __init__(
+        self, run: Run, lines: Iterable[str], name: str, may_be_cut: bool = False, trusted: bool = False
+    ) -> None:
+        self.run, self.trusted = run, trusted
         self.may_be_cut = may_be_cut
         self.cut = ""
         self.lines = lines

@@ -41,14 +41,14 @@ class ArrayWindow(Window):
         return [self.head] if self.tail is None else [self.head, self.tail]
 
     def twice_area(self) -> Exact:
-        lengths, moves, _ = self.line.whole_pieces()
+        lengths, moves = self.line.whole_pieces()
         inner = self.inner
         total = super().twice_area_of(self.edges())
         twice = self.line.starts[inner].weighed(lengths[inner]) * 2 + moves[inner].weighed(lengths[inner])
         return total + twice
 
     def thrice_square(self) -> Exact:
-        lengths, moves, _ = self.line.whole_pieces()
+        lengths, moves = self.line.whole_pieces()
         inner = self.inner
         doubled = self.line.starts[inner] * 2 + moves[inner]
         squares = 3 * square_sum(doubled, None, lengths[inner]) + square_sum(moves[inner], None, lengths[inner])
@@ -57,14 +57,14 @@ class ArrayWindow(Window):
     def bounds(self) -> Tuple[Exact, Exact]:
         found = [value for _, one, _, other in self.edges() for value in (one, other)]
         if self.last_place - self.first_place > 1:
-            for some in (self.line.starts[self.inner], self.line.whole_pieces()[2][self.inner]):
+            for some in (self.line.starts[self.inner], self.line.ends()[self.inner]):
                 found += [some.least(), some.greatest()]
         return min(found), max(found)
 
     def compared(self, array: Callable[[Any], Array], exact: Callable[[Exact], bool]) -> Tuple[Array, Array]:
         """Of each piece, whether its first and its last value meet a condition, of arrays and of numbers."""
         edges = [(exact(one), exact(other)) for _, one, _, other in self.edges()]
-        ends = self.line.whole_pieces()[2]
+        ends = self.line.ends()
         found = []
         for side, values in enumerate((self.line.starts, ends)):
             inside = [array(values[self.inner])] if self.last_place - self.first_place > 1 else []
@@ -164,5 +164,5 @@ def float_pieces(window: ArrayWindow, begin: Exact) -> Tuple[Array, Array, Array
     inside = (line.ticks[part.first_place + 1 : part.last_place + 1] - float(begin)).tolist()
     times = np.concatenate([[float(head[0] - begin)], inside, [float(tail[2] - begin)]])
     ones = np.concatenate([[float(head[1])], line.starts[inner].floats(), [float(tail[1])]]) * unit
-    others = np.concatenate([[float(head[3])], line.whole_pieces()[2][inner].floats(), [float(tail[3])]]) * unit
+    others = np.concatenate([[float(head[3])], line.ends()[inner].floats(), [float(tail[3])]]) * unit
     return times, ones, others
