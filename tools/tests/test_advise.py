@@ -36,6 +36,28 @@ algorithm
 end buck_si;
 """
 
+BOOST = """model boost_si "boost converter whose controller has an integrator x"
+  parameter Real U = 12, L = 47e-6, C = 220e-6, RL = 0.05, T = 10e-6;
+  Real iL(start = 2.4), uC(start = 24);
+  discrete Real s(start = 0), on(start = T), off(start = 1), d(start = 0.5), x(start = 0.5);
+equation
+  der(iL) = (U - RL*iL - (1 - s)*uC)/L;
+  der(uC) = ((1 - s)*iL - 0.05*uC)/C;
+algorithm
+  when time >= on then
+    s := 1;
+    x := pre(x) + 0.00002*(24 - uC);
+    d := pre(x) + 0.001*(24 - uC);
+    off := pre(on) + T*d;
+    on := pre(on) + T;
+  end when;
+  when time >= off then
+    s := 0;
+  end when;
+  annotation(experiment(StopTime = 0.001));
+end boost_si;
+"""
+
 PEAK = """model peak
   parameter Real T = 2e-5, slope = 1000, big = 64;
   Real i(start = 3) annotation(QSS_Quantum = 1/256);
@@ -250,6 +272,13 @@ class Quanta(unittest.TestCase):
     def test_a_quantum_of_the_model_is_kept(self):
         settings = "experiment(StopTime = 50, QSS_Quantum = 0.125)"
         self.assertEqual(self.quanta("0.02", settings), [Fraction(1, 8)] * 2)
+
+    def test_what_an_integrator_adds_is_no_step(self):
+        """The product 0.00002*24 needs no bits of its own, since x is set by the difference from 24."""
+        flat = Flat(parse(Source("m.mo", BOOST.encode())))
+        proposal = propose(flat, Trial(flat))
+        self.assertTrue(proposal.fits)
+        self.assertEqual(proposal.unit, 10**6)
 
     def test_no_damping_has_no_sum(self):
         self.assertEqual(self.quanta("0", "experiment(StopTime = 5)"), [Fraction(1, 1024)] * 2)

@@ -177,7 +177,9 @@ class Runs(InFolder):
     def test_run_of_what_is_refused_or_overflows(self):
         status, out, err = self.call("qss-run", "--set", "QSS_TickBits=21")
         self.assertEqual((status, out), (2, ""))
-        self.assertEqual(err, "qss-run: %s with QSS_TickBits = 21: refused: machine 1 QSS_TickBits 21/1\n" % self.model)
+        way = " (tools/qss-explain %s --set QSS_TickBits=21 shows the place)" % self.model
+        line = "qss-run: %s with QSS_TickBits = 21: refused: machine 1 QSS_TickBits 21/1%s\n" % (self.model, way)
+        self.assertEqual(err, line)
         status, out, err = self.call("qss-run", "--set", "a=-8000000", "--set", "StopTime=9")
         self.assertEqual((status, out.split("\n")[-2]), (1, "2,overflow,x,,"))
         self.assertIn("overflow: x at tick 2", err)

@@ -9,7 +9,7 @@ from ..model.grammar import Name, Pre, Sum
 from ..model.source import SETTINGS
 from ..model.spelling import decimal_text, spell
 from ..model.units import TIME_UNIT
-from ..numeric.trial import Trial, is_step, time_like
+from ..numeric.trial import Trial, adds, is_step, time_like
 from ..settings.limits import (
     COEFFICIENT_BITS,
     FORM_BITS,
@@ -285,7 +285,8 @@ def quanta(flat: Flat, trial: Trial) -> Iterator[Finding]:
 
 def steps(flat: Flat) -> List[Row]:
     """The statements that set a discrete variable to itself plus a constant."""
-    return [row for row in flat.rows() if row.kind == "set" and row.form.constant and is_step(row)]
+    clocks = time_like(flat)
+    return [row for row in flat.rows() if row.kind == "set" and row.form.constant and is_step(row, clocks)]
 
 
 def rounded_steps(flat: Flat, trial: Trial) -> Iterator[Finding]:
@@ -325,7 +326,7 @@ def lost_sums(flat: Flat, trial: Trial) -> Iterator[Finding]:
             for key, value in row.form.parts.items()
             if key[0] == "x" and key[1] != row.variable and abs(value) < SMALL
         ]
-        if small and is_step(row):
+        if small and adds(row):
             key, value = min(small, key=lambda item: item[1])
             name = flat.variables[row.variable].name
             yield Finding(
@@ -437,7 +438,7 @@ def never_fires(flat: Flat, trial: Trial) -> Iterator[Finding]:
         if not clocks:
             continue
         name = flat.variables[clocks[0]].name
-        step = next((one for one in statements if one.variable == clocks[0] and is_step(one)), None)
+        step = next((one for one in statements if one.variable == clocks[0] and adds(one)), None)
         yield Finding(
             row.part.at,
             "%s starts at %s, so '%s' holds at the start and is never false: this branch never fires"

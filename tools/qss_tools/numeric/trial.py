@@ -223,16 +223,23 @@ def shortest_clock(flat: Flat) -> Optional[float]:
     steps = [
         abs(row.form.constant)
         for row in flat.rows()
-        if row.kind == "set" and row.variable in clocks and row.form.constant and is_step(row)
+        if row.kind == "set" and row.variable in clocks and row.form.constant and is_step(row, clocks)
     ]
     return float(min(steps)) if steps else None
 
 
-def is_step(row: Row) -> bool:
-    """A statement adds a constant to its own variable."""
+def adds(row: Row) -> bool:
+    """A statement adds something to its own variable."""
     return any(
         key[0] in ("x", "pre") and key[1] == row.variable and value == 1 for key, value in row.form.parts.items()
     )
+
+
+def is_step(row: Row, clocks: Set[int]) -> bool:
+    """A statement adds a constant to its own variable, and to a clock a constant and perhaps more. What an integrator
+    of a controller adds depends on other variables, and is no step.
+    """
+    return adds(row) and (len(row.form.parts) == 1 or row.variable in clocks)
 
 
 def time_like(flat: Flat) -> Set[int]:

@@ -201,7 +201,7 @@ def level_bits(flat: Flat, trial: Trial, unit: Fraction, most: int, quanta: List
     for number, start in enumerate(flat.starts[flat.states : flat.states + flat.discretes], flat.states):
         values.append(start * unit if number in clocks else start)
     for row in flat.rows():
-        if row.kind == "set" and row.form.constant and (not row.form.parts or is_step(row)):
+        if row.kind == "set" and row.form.constant and (not row.form.parts or is_step(row, clocks)):
             values.append(row.form.constant * unit if row.variable in clocks else row.form.constant)
     longest = max([abs(value) for value in values] + [flat.settings["StopTime"] * unit if clocks else 0, 1])
     most = min(most, math.floor(42 - log2(longest)))
