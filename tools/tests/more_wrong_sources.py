@@ -221,9 +221,9 @@ WRONG_TOO = [
         "refused: parse 1 9",
         "2:28",
         "unexpected '('",
-        "there are no functions ('asin')",
+        "write the number 1.57079633 in place of asin(1.0)",
         (
-            ("2*asin(1.0)", "3.14159265"),
+            ("asin(1.0)", "1.57079633"),
             ("10*cos(w*time)", "10*c"),
             ("x(start = 0)", "x(start = 0), s(start = 0), c(start = 1)"),
             ("equation\n", "equation\n  der(s) = w*c;\n  der(c) = -w*s;\n"),

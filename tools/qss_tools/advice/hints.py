@@ -1,8 +1,10 @@
 """Suggested fixes for what Modelica has and this language does not have."""
+import math
 from typing import Optional, Sequence, Tuple
 
 from ..model.source import Token
 
+OF_NUMBERS = ("sin", "cos", "tan", "asin", "acos", "atan", "sqrt", "exp", "log", "log10", "sinh", "cosh", "tanh")
 PIECES = "a curve is straight pieces that clauses choose (docs/MODELLING.md)"
 NO_IF = "'if' is not supported: write d*(..) with a discrete variable d that clauses set to 0 or 1"
 NO_ELSE = "there is no 'else': write 'elsewhen' with the opposite condition"
@@ -128,7 +130,7 @@ def at_token(tokens: Sequence[Token], place: int, wanted: str) -> Optional[str]:
     previous = before.text if before else ""
     in_clause = is_in_clause(tokens, place)
     if text == "(" and before and before.kind == "name":
-        return called(previous, in_clause)
+        return number_of_call(tokens, place) or called(previous, in_clause)
     if text == "if" and in_clause:
         return NO_IF_IN_CLAUSE
     special = by_neighbours(tokens, place, text, previous, wanted)
@@ -150,6 +152,20 @@ def called(name: str, in_clause: bool = False) -> str:
     way = IN_CLAUSES.get(name) if in_clause else None
     way = way or FUNCTIONS.get(name, BY_WORD.get(name))
     return "there are no functions ('%s'): %s" % (name, way or PIECES)
+
+
+def number_of_call(tokens: Sequence[Token], place: int) -> Optional[str]:
+    """The suggested fix for a function of a number, whose parenthesis opens at a place: the number that it returns."""
+    inner = tokens[place + 1 : place + 3]
+    function = getattr(math, tokens[place - 1].text, None) if tokens[place - 1].text in OF_NUMBERS else None
+    if function is None or len(inner) != 2 or inner[0].kind != "number" or inner[1].text != ")":
+        return None
+    try:
+        value = function(float(inner[0].text))
+    except (ValueError, OverflowError):
+        return None
+    call = "%s(%s)" % (tokens[place - 1].text, inner[0].text)
+    return "there are no functions ('%s'): write the number %.9g in place of %s" % (tokens[place - 1].text, value, call)
 
 
 def by_neighbours(tokens: Sequence[Token], place: int, text: str, previous: str, wanted: str) -> Optional[str]:
