@@ -17,6 +17,7 @@ from typing import Callable, Dict, Iterable, List, NamedTuple, Optional, Sequenc
 from qss_tools.fault import FINE, WARNED, Arguments, Fault, read_text, run_tool
 from qss_tools.program import ROOT
 
+from .equal_bodies import FEWEST_TOKENS, equal_bodies
 from .file_heads import head_of, is_stacked, late_types, own_impls
 from .file_names import ghost_uses, literal_limits, repeats_file
 from .rattle_source import Function, crates_of, files_of, functions, masked
@@ -24,6 +25,8 @@ from .rattle_source import Function, crates_of, files_of, functions, masked
 LIMITS = os.path.join(os.path.dirname(os.path.abspath(__file__)), "house_limits.tsv")
 # The crates whose functions share few clauses.
 TOP = ("qss_top", "qss_answers", "qss_guarantees")
+# How the names of the crates of the language begin.
+LANGUAGE = "mu_"
 CONTROL = re.compile(r"\b(?:if|else|match|for|while|loop)\b")
 LOOP = re.compile(r"\b(?:for\b[^;{}]*\bin|while|loop)\b")
 PUBLIC = re.compile(r"^pub mod (\w+)", re.MULTILINE)
@@ -199,6 +202,21 @@ def name_measures(sources: Sources) -> List[Measure]:
     ]
 
 
+def repeated_bodies(sources: Sources, prefix: str) -> List[Place]:
+    """How many functions of the crates with this prefix have one body, up to names."""
+    functions = (it for it in sources.functions if it[0].startswith(prefix))
+    return [(len(it), ", ".join(place(*one) for one in it)) for it in equal_bodies(functions)]
+
+
+def body_measures(sources: Sources) -> List[Measure]:
+    """The measures of bodies that are equal up to names."""
+    bodies = "with one body of over %d tokens, up to names" % FEWEST_TOKENS
+    return [
+        Measure("functions of %s* %s" % (LANGUAGE, bodies), 1, repeated_bodies(sources, LANGUAGE)),
+        Measure("functions of all crates %s" % bodies, 1, repeated_bodies(sources, "")),
+    ]
+
+
 def measures(sources: Sources) -> List[Measure]:
     """All measures of a checkout."""
     everywhere = sources.of_files([sources.code, sources.specs, sources.proofs])
@@ -226,6 +244,7 @@ def measures(sources: Sources) -> List[Measure]:
         ),
         *file_measures(sources),
         *name_measures(sources),
+        *body_measures(sources),
     ]
 
 

@@ -4,7 +4,7 @@ import unittest
 
 from support import InFolder, run
 
-from qss_dev import file_heads, file_names, house_rules
+from qss_dev import equal_bodies, file_heads, file_names, house_rules
 from qss_dev.rattle_source import functions, masked
 
 CODE = """//! A crate.
@@ -232,6 +232,40 @@ class Names(unittest.TestCase):
     def test_literal_limits(self):
         self.assertEqual(len(file_names.literal_limits("requires { IsWithin 43 x × n ≤ 4096 }")), 2)
         self.assertEqual(file_names.literal_limits("ensures { result ≡ repeated 4096 (IsWithin 44 x) }"), [])
+
+
+BODIES = """fn sum(all: &[u32]) -> u32 {
+    let mut sum = 0;
+    for one in all {
+        // The next one.
+        sum = sum + 2 * one.at(0, "%s")?;
+    }
+    Ok(sum)
+}
+"""
+
+
+class Bodies(unittest.TestCase):
+    """Bodies that are equal up to names."""
+
+    def groups(self, *texts):
+        found = [("crate_%d" % at, it) for at, text in enumerate(texts) for it in functions("src/lib.rt", text)]
+        return [[crate for crate, _ in it] for it in equal_bodies.equal_bodies(found)]
+
+    def test_names_and_comments_do_not_count(self):
+        renamed = BODIES.replace("sum", "total").replace("one", "item").replace("// The next", "// Another")
+        self.assertEqual(self.groups(BODIES, renamed), [["crate_0", "crate_1"]])
+
+    def test_one_name_is_not_two(self):
+        self.assertEqual(len(self.groups(BODIES, BODIES.replace("Ok(sum)", "Ok(all)"))), 2)
+
+    def test_numbers_texts_and_operators_count(self):
+        for old, new in (("2 *", "3 *"), ("%s", "%d"), ("sum +", "sum -")):
+            self.assertEqual(len(self.groups(BODIES, BODIES.replace(old, new))), 2)
+
+    def test_short_bodies_are_left_out(self):
+        self.assertEqual(len(equal_bodies.shape(functions("src/lib.rt", BODIES)[0].body)), 32)
+        self.assertEqual(self.groups("fn one() {\n    f(1)\n}\n", "fn two() {\n    f(1)\n}\n"), [])
 
 
 class Limits(unittest.TestCase):
