@@ -22,8 +22,8 @@ impl Conditions {
     /// Runs the handlers of a tick. These states are due, and these conditions change or became
     /// true during the handlers before. `fired` is a buffer for the due branches. It adds the
     /// reinitialized states to `moved`, and removes all of these from the event queue. It lists the
-    /// assigned discrete variables in `assigned`. It returns the variable that overflows, on
-    /// arrival or by an assignment, if any.
+    /// assigned discrete variables in `assigned`. The error is the variable that overflows, on
+    /// arrival or by an assignment.
     pub fn handle_changed_conditions(
         &mut self,
         at: &ChangedConditions,
@@ -32,41 +32,38 @@ impl Conditions {
         assigned: &mut Vec<u32>,
         work: &mut Work,
         agenda: &mut Agenda,
-    ) -> Option<u32>
+    ) -> Result<(), Over>
         requires ready { CanHandle at.now self.old moved.old.items work.old agenda.old }
         requires room { row_room at.now.machine.now.clauses ≤ work.old.room }
         requires fired_room { length (conditions at.now.machine.now) ≤ vec_capacity fired.old }
         requires moved_room { state_count at.now.machine.now ≤ vec_capacity moved.old }
         requires assigned_room { row_room at.now.machine.now.clauses ≤ vec_capacity assigned.old }
-        ensures overflow { result
+        ensures overflow { overflow_of result
             ≡ (handling_from at.now.machine.now at.now.tick (states_at at.now.lines.now at.now.tick)
             work.old.d self.old.at_arrival.items self.old.after_handlers.items).overflow }
-        ensures handled { result ≡ None
+        ensures handled { overflow_of result ≡ None
             → IsHandlerEffect at.now.machine.now at.now.tick at.now.lines.now moved.old.items
             moved.new.items assigned.new.items
             work.old work.new
             (handling_from at.now.machine.now at.now.tick
             (states_at at.now.lines.now at.now.tick)
             work.old.d self.old.at_arrival.items self.old.after_handlers.items) }
-        ensures at_arrival { result ≡ None
+        ensures at_arrival { overflow_of result ≡ None
             → self.new.at_arrival.items
             ≡ truths at.now.machine.now
             (states_at at.now.lines.now at.now.tick) work.old.d at.now.tick }
-        ensures alike { result ≡ None
+        ensures alike { overflow_of result ≡ None
             → AreAlikeBut at.now.changed.now self.new.at_arrival.items self.new.after_handlers.items }
-        ensures none_apart { result ≡ None → self.new.flipped.places ≡ [] }
+        ensures none_apart { overflow_of result ≡ None → self.new.flipped.places ≡ [] }
         ensures rest { self.new
             ≡ record self.old { at_arrival = self.new.at_arrival; flipped = self.new.flipped } }
-        ensures fits { result ≡ None → AreConditionsOf at.now.machine.now self.new }
-        ensures without { result ≡ None → IsWithout moved.new.items agenda.old agenda.new }
+        ensures fits { overflow_of result ≡ None → AreConditionsOf at.now.machine.now self.new }
+        ensures without { overflow_of result ≡ None → IsWithout moved.new.items agenda.old agenda.new }
         ensures fired_room { vec_capacity fired.new ≡ vec_capacity fired.old }
         ensures moved_room { vec_capacity moved.new ≡ vec_capacity moved.old }
         ensures assigned_room { vec_capacity assigned.new ≡ vec_capacity assigned.old }
     {
-        let passed = move_due_handler_states(at.lines, at.tick, moved.as_slice(), work);
-        if passed.is_some() {
-            return passed;
-        }
+        move_due_handler_states(at.lines, at.tick, moved.as_slice(), work)?;
         let detectors = self.detectors.as_slice();
         let after_handlers = self.after_handlers.as_slice();
         let at_arrival = self.at_arrival.as_mut_slice();
@@ -89,35 +86,33 @@ impl Conditions {
         );
         self.flipped.clear();
         let branches = self.branches.as_slice();
-        let over = handle_fired_conditions(
+        handle_fired_conditions(
             at.machine,
             branches,
             at.tick,
             at.lines,
             fired.as_slice(),
             work,
-        );
-        if over.is_some() {
-            return over;
-        }
+        )?;
         let states = at.machine.states.as_slice().len() as u32;
         let log = work.log.as_slice();
         join_handler_reinitialized(agenda, at.tick, states, log, moved);
         list_handler_assigned(log, assigned);
-        None
+        Ok(())
     }
 }
 
-// Moves the due states, in the values of handlers, to a tick along their lines. It returns the
-// least state that exceeds its limit there, if any.
+// Moves the due states, in the values of handlers, to a tick along their lines. The error is
+// the least state that exceeds its limit there.
 fn move_due_handler_states(
     lines: &[Integrator],
     tick: u64,
     moved: &[u32],
     work: &mut Work,
-) -> Option<u32>
+) -> Result<(), Over>
     requires { CanArriveWithin tick lines.now moved.now work.old.x }
-    ensures at_arrival { HaveArrivedWithin tick lines.now moved.now work.old.x work.new.x result }
+    ensures at_arrival { HaveArrivedWithin tick lines.now moved.now work.old.x work.new.x
+        (overflow_of result) }
     ensures work { work.new ≡ record work.old { x = work.new.x } }
 {
     move_requantized_within_limit(lines, tick, moved, work.x.as_mut_slice())
@@ -125,8 +120,8 @@ fn move_due_handler_states(
 
 /// Runs the handlers of a tick at which these branches are due. It moves the states that the
 /// statements read to the tick. A state that is needed after the call must be at the tick before
-/// it. Other states do not change, unless they are reinitialized. It returns the variable that
-/// overflows, if any.
+/// it. Other states do not change, unless they are reinitialized. The error is the variable that
+/// overflows.
 pub(crate) fn handle_fired_conditions(
     m: &Machine,
     branches: &[BranchPlace],
@@ -134,14 +129,14 @@ pub(crate) fn handle_fired_conditions(
     lines: &[Integrator],
     fired: &[u32],
     work: &mut Work,
-) -> Option<u32>
+) -> Result<(), Over>
     requires due { AreBranchesAt m.now branches.now fired.now }
     requires lines { AreLinesAt m.now tick lines.now }
     requires values { AreWithin m.now work.old.x work.old.d }
     requires room { row_room m.now.clauses ≤ work.old.room }
-    ensures overflow { result
+    ensures overflow { overflow_of result
         ≡ (handling_of_fired m.now tick (states_at lines.now tick) work.old.d fired.now).overflow }
-    ensures work { result ≡ None
+    ensures work { overflow_of result ≡ None
         → let h = handling_of_fired m.now tick (states_at lines.now tick) work.old.d fired.now in
         work.new
         ≡ record {
@@ -152,25 +147,25 @@ pub(crate) fn handle_fired_conditions(
           log = h.rows;
           room = work.old.room;
         } }
-    ensures fits { result ≡ None → AreValuesOf m.now work.new }
-    ensures many { result ≡ None
+    ensures fits { overflow_of result ≡ None → AreValuesOf m.now work.new }
+    ensures many { overflow_of result ≡ None
         → length
         (handling_of_fired m.now tick (states_at lines.now tick) work.old.d
         fired.now).states
         ≡ state_count m.now }
-    ensures at_arrival { result ≡ None
+    ensures at_arrival { overflow_of result ≡ None
         → (j : ℕ) → int_at work.old.x j ≡ int_at (states_at lines.now tick) j
         → int_at work.new.x j
         ≡ int_at
         (handling_of_fired m.now tick (states_at lines.now tick) work.old.d
         fired.now).states
         j }
-    ensures reinitialized { result ≡ None
+    ensures reinitialized { overflow_of result ≡ None
         → let h = handling_of_fired m.now tick (states_at lines.now tick) work.old.d fired.now in
         (j : ℕ)
         → is_reinitialized h.rows j ≡ true
         → int_at work.new.x j ≡ int_at h.states j }
-    ensures others { result ≡ None
+    ensures others { overflow_of result ≡ None
         → let h = handling_of_fired m.now tick (states_at lines.now tick) work.old.d fired.now in
         (j : ℕ)
         → fired_reads j m.now branches.now fired.now ≡ false
@@ -179,10 +174,7 @@ pub(crate) fn handle_fired_conditions(
 {
     move_handler_work_states(m, branches, fired, tick, lines, work);
     work.begin(tick);
-    match run_fired_handlers(m, branches, fired, work) {
-        Ok(()) => None,
-        Err(over) => Some(over.var),
-    }
+    run_fired_handlers(m, branches, fired, work)
 }
 
 // Moves the states that the statements of these branches read, in the values of handlers, to a

@@ -3,7 +3,7 @@
 //! gives new levels to the due states.
 
 ghost use Rattle.std.specs.Prelude.{◌≡◌, ◌+◌, ◌<◌, ◌^◌, if◌then◌else◌, ◌≢◌, ◌≤◌, ◌++◌, ◌-◌, [], ℕ, None, Some, length, All, true, false, vec_capacity, vec_len, List, Option};
-ghost use Rattle.qss_run.specs.Prelude.{list_any, firing_flags, conditions, state_count, slope_at, tabulate, due_at, states_with, line_at, states_at, MayArrive, replaced_lines_from, is_listed, state_rows, discrete_rows, snapshot_rows, last_snapshot, tick_rows, IsAllowedLevel, IsNext, tick_of, end_of, Snapshot, snapshot_unless, Rule, AreEventFree, IsVisit, variable_limit, tick_limit, AreStates, is_touched, reached, CanUpdateSlopesOf, AreAllScheduled, state_at};
+ghost use Rattle.qss_run.specs.Prelude.{overflow_of, list_any, firing_flags, conditions, state_count, slope_at, tabulate, due_at, states_with, line_at, states_at, MayArrive, replaced_lines_from, is_listed, state_rows, discrete_rows, snapshot_rows, last_snapshot, tick_rows, IsAllowedLevel, IsNext, tick_of, end_of, Snapshot, snapshot_unless, Rule, AreEventFree, IsVisit, variable_limit, tick_limit, AreStates, is_touched, reached, CanUpdateSlopesOf, AreAllScheduled, state_at};
 ghost use Rattle.qss_run.specs.Words.{IsUnderWay, snapshot_of, IsStoreAt, HasDueRemoved, IsEventRun, CanContinueAfterHandlers, snapshot_left, KnowsApart, AreConditionsOf, AreDetectorsAt, HasPlaces, AreDue, AreChanging, AreMovedOut, HasRoomFor, IsTakenAfter, view_of, MovesTouched, touches_at};
 ghost use Rattle.qss_machine.specs.declared.machine_parts.RowKind.TheVariants as kind;
 
@@ -12,7 +12,7 @@ use crate::condition_truths::{copy_settled_truths, make_risen_truths_due, schedu
 use crate::run_conditions::{ChangedConditions, Conditions};
 use crate::run_start::Store;
 use qss_events::{Outcome, Visited, add_event_discrete_rows, set_event_overflow_row};
-use qss_hand::Work;
+use qss_hand::{Over, Work};
 use qss_machine::{Machine, Row, RowKind};
 use qss_quant::{Integrator, Quantizer, Steps};
 use qss_sched::Agenda;
@@ -97,10 +97,10 @@ pub(crate) fn go_to_event<L: Ledger>(
     ensures room { vec_capacity s.new.rows ≡ vec_capacity s.old.rows }
 {
     let before = skip_to_event(m, tick, s);
-    let over = run_event(m, q, before, s, steps);
+    let ran = run_event(m, q, before, s, steps);
     Visited {
         tick: before + 1,
-        over,
+        over: overflowing_variable(&ran),
     }
 }
 
@@ -137,17 +137,28 @@ pub(crate) fn earliest_due_tick(agenda: &Agenda, last: u64) -> u64
     agenda.next_tick(last)
 }
 
-/// Runs the tick after `tick`. It returns the variable that overflows, if any. In this case the
-/// store is unspecified, except for the capacity for rows.
+// The variable that overflowed, if any.
+fn overflowing_variable(ran: &Result<(), Over>) -> Option<u32>
+    ensures { result ≡ overflow_of ran.now }
+{
+    match ran {
+        Ok(()) => None,
+        Err(over) => Some(over.var),
+    }
+}
+
+/// Runs the tick after `tick`. The error is the variable that overflows. After an error the store
+/// is unspecified, except for the capacity for rows.
 pub(crate) fn run_event<L: Ledger>(
     m: &Machine,
     q: &Quantizer,
     tick: u64,
     s: &mut Store,
     steps: &mut Steps<L>,
-) -> Option<u32>
+) -> Result<(), Over>
     requires { IsUnderWay m.now tick s.old }
-    ensures { IsEventRun m.now q.now.name tick s.old s.new result steps.old steps.new }
+    ensures { IsEventRun m.now q.now.name tick s.old s.new (overflow_of result) steps.old
+        steps.new }
 {
     let states = s.lines.len() as u32;
     let conditions = s.conditions.branches.len() as u32;
@@ -205,20 +216,21 @@ pub fn take_due_conditions(
 }
 
 /// Runs the tick after `tick`, at which no condition has to be evaluated. The due states are
-/// already removed from the event queue. It returns the variable that overflows, if any. In this
-/// case the store is unspecified, except for the capacity for rows. The line and the due tick of a
-/// state that is not affected do not change.
+/// already removed from the event queue. The error is the variable that overflows. After an error
+/// the store is unspecified, except for the capacity for rows. The line and the due tick of a state
+/// that is not affected do not change.
 pub(crate) fn run_event_of_states<L: Ledger>(
     m: &Machine,
     q: &Quantizer,
     tick: u64,
     s: &mut Store,
     steps: &mut Steps<L>,
-) -> Option<u32>
+) -> Result<(), Over>
     requires ready { HasDueRemoved m.now tick s.old }
     requires none_changes { s.old.changed.items ≡ [] }
-    ensures visited { IsEventRun m.now q.now.name tick s.old s.new result steps.old steps.new }
-    ensures kept { result ≡ None → (j : ℕ) → j < state_count m.now
+    ensures visited { IsEventRun m.now q.now.name tick s.old s.new (overflow_of result) steps.old
+        steps.new }
+    ensures kept { overflow_of result ≡ None → (j : ℕ) → j < state_count m.now
         → is_touched m.now (tick + 1) (snapshot_of tick s.old) (snapshot_of (tick + 1) s.new) j ≡ false
         → (line_at s.new.lines.items j ≡ line_at s.old.lines.items j)
         × (due_at s.new.agenda j ≡ due_at s.old.agenda j) }
@@ -232,10 +244,7 @@ pub(crate) fn run_event_of_states<L: Ledger>(
         moved: s.moved.as_slice(),
     };
     let levels = s.levels.as_mut_slice();
-    let over = requantize_moved(&arrival, q, &s.work, levels, &mut s.weights, &mut s.rows);
-    if over.is_some() {
-        return over;
-    }
+    requantize_moved(&arrival, q, &s.work, levels, &mut s.weights, &mut s.rows)?;
     let work = &s.work;
     let event_levels = EventLevels {
         event: NewLevels {
@@ -259,7 +268,7 @@ pub(crate) fn run_event_of_states<L: Ledger>(
     let after_handlers = s.conditions.after_handlers.as_slice();
     let at_arrival = s.conditions.at_arrival.as_mut_slice();
     copy_settled_truths(true, after_handlers, at_arrival, &mut s.conditions.flipped);
-    None
+    Ok(())
 }
 
 // Continues the moved states and those whose rows read one of them from a tick at their new slopes.
@@ -314,7 +323,7 @@ fn continue_moved_states<L: Ledger>(
 }
 
 /// Runs the tick after `tick`. The due states and the conditions to be evaluated are already
-/// removed from the event queue. It returns the variable that overflows, if any. In this case the
+/// removed from the event queue. The error is the variable that overflows. After an error the
 /// store is unspecified, except for the capacity for rows.
 pub(crate) fn run_event_with_conditions<L: Ledger>(
     m: &Machine,
@@ -322,9 +331,10 @@ pub(crate) fn run_event_with_conditions<L: Ledger>(
     tick: u64,
     s: &mut Store,
     steps: &mut Steps<L>,
-) -> Option<u32>
+) -> Result<(), Over>
     requires { HasDueRemoved m.now tick s.old }
-    ensures { IsEventRun m.now q.now.name tick s.old s.new result steps.old steps.new }
+    ensures { IsEventRun m.now q.now.name tick s.old s.new (overflow_of result) steps.old
+        steps.new }
 {
     let at = ChangedConditions {
         machine: m,
@@ -332,17 +342,14 @@ pub(crate) fn run_event_with_conditions<L: Ledger>(
         lines: s.lines.as_slice(),
         changed: s.changed.as_slice(),
     };
-    let over = s.conditions.handle_changed_conditions(
+    s.conditions.handle_changed_conditions(
         &at,
         &mut s.fired,
         &mut s.moved,
         &mut s.assigned,
         &mut s.work,
         &mut s.agenda,
-    );
-    if over.is_some() {
-        return over;
-    }
+    )?;
     let handled = HandlerArrival {
         machine: m,
         uses: &s.uses,
@@ -352,18 +359,15 @@ pub(crate) fn run_event_with_conditions<L: Ledger>(
         assigned: s.assigned.as_slice(),
         work: &s.work,
     };
-    let over = requantize_after_handlers(
+    requantize_after_handlers(
         &handled,
         q,
         s.levels.as_mut_slice(),
         &mut s.weights,
         &mut s.rows,
-    );
-    if over.is_some() {
-        return over;
-    }
+    )?;
     continue_after_handlers(m, tick + 1, s, steps);
-    None
+    Ok(())
 }
 
 // Continues the states and conditions of a tick after its handlers: those that changed, and those

@@ -2,15 +2,17 @@
 //! maintained only after a value exceeded the bound up to which no row exceeds its limits.
 
 ghost use Rattle.std.specs.Prelude.{◌≡◌, ◌↔◌, ◌<◌, ◌∷◌, ◌++◌, [], ℕ, All, IsTrue, None, Some, true, false, length, position, List, flat_map, slice_index_or, pos};
-ghost use Rattle.qss_states.specs.Prelude.{state_count, exceeds_row_limits, uses_of, weights_at, IsWritten};
+ghost use Rattle.qss_states.specs.Prelude.{overflow_of, state_count, exceeds_row_limits, uses_of, weights_at, IsWritten};
 ghost use Rattle.qss_states.specs.Words.{AreLevelsOf, AreDiscretes, AreWeights, StayKept, AreNewLevels, AreNewLevelsAt, IsHandlerResult, CanUpdateAfterHandlers, first_row_exceeding, WereWeights, CanFollow, WereSums, IsUpTo, AreUpToAt, IsSafeBound, comes_before, IsLeastPast, IsWeighed, CanAddUp, HasSums, AreReaderSums, AreReadersMarkedOr, AreMarkedOr};
 ghost use Rattle.qss_states.specs.declared.row_sum_changes.RowSum.TheVariants as sum;
 
 use crate::event_contexts::{HandlerResult, NewLevels};
+use crate::overflows::error_if_found;
 use crate::row_sum_changes::{RowSum, update_all_row_sums};
 use crate::safe_bounds::{are_places_within, start_row_bound};
 use crate::sum_marks::{is_sum_marked, mark_reader_sums};
 use mu_num::{WEIGHT_BITS, exceeds_power_of_two};
+use qss_hand::Over;
 use qss_machine::{Machine, Uses};
 use qss_quant::Integrator;
 
@@ -51,20 +53,20 @@ impl Weights {
     }
 
     /// Updates the sums, at these discrete values, for the new levels of the moved states. The old
-    /// levels are those of their lines. It returns the least row that exceeds its limits, if any.
-    /// In this case the sums are unspecified. The sums are maintained from the first time that a
-    /// moved level is greater than the bound.
+    /// levels are those of their lines. The error is the least row that exceeds its limits. After
+    /// an error, the sums are unspecified. The sums are maintained from the first time that a moved
+    /// level is greater than the bound.
     pub(crate) fn update_weights(
         &mut self,
         at: &NewLevels,
         d: &[i64],
         lines: &[Integrator],
-    ) -> Option<u32>
+    ) -> Result<(), Over>
         requires ready { AreNewLevelsAt at.now d.now }
         requires lines { length lines.now ≡ state_count at.now.machine.now }
         requires before { WereWeights at.now d.now self.old lines.now }
-        ensures overflow { result ≡ first_row_exceeding at.now d.now }
-        ensures weights { result ≡ None
+        ensures overflow { overflow_of result ≡ first_row_exceeding at.now d.now }
+        ensures weights { overflow_of result ≡ None
             → AreWeights at.now.machine.now at.now.levels.now d.now self.new }
         ensures stay { StayKept self.old self.new }
         ensures off { self.old.kept ≡ false
@@ -72,29 +74,31 @@ impl Weights {
             → self.new.kept ≡ false }
     {
         if self.kept {
-            return refresh_row_sums(at, d, lines, self.of_rows.as_mut_slice());
+            let of_rows = self.of_rows.as_mut_slice();
+            return error_if_found(refresh_row_sums(at, d, lines, of_rows));
         }
         if are_places_within(at.levels, at.moved, 0, self.bound) {
-            return None;
+            return Ok(());
         }
         self.kept = true;
-        weigh_kept_within_limit(at.machine, at.levels, d, self.of_rows.as_mut_slice())
+        let of_rows = self.of_rows.as_mut_slice();
+        error_if_found(weigh_kept_within_limit(at.machine, at.levels, d, of_rows))
     }
 
     /// Updates the sums for the new levels of the moved states and the new values of the assigned
-    /// discrete variables. The old levels are those of the lines. It returns the least row that
-    /// exceeds its limits, if any. In this case the sums are unspecified. The sums are maintained
-    /// from the first time that a moved level or an assigned value is greater than the bound.
+    /// discrete variables. The old levels are those of the lines. The error is the least row that
+    /// exceeds its limits. After an error, the sums are unspecified. The sums are maintained from
+    /// the first time that a moved level or an assigned value is greater than the bound.
     pub(crate) fn update_weights_after_handlers(
         &mut self,
         at: &NewLevels,
         handled: &HandlerResult,
         lines: &[Integrator],
-    ) -> Option<u32>
+    ) -> Result<(), Over>
         requires allowed { CanUpdateAfterHandlers at.now handled.now lines.now }
         requires before { WereWeights at.now handled.now.before.now self.old lines.now }
-        ensures overflow { result ≡ first_row_exceeding at.now handled.now.discretes.now }
-        ensures weights { result ≡ None
+        ensures overflow { overflow_of result ≡ first_row_exceeding at.now handled.now.discretes.now }
+        ensures weights { overflow_of result ≡ None
             → AreWeights at.now.machine.now
             at.now.levels.now handled.now.discretes.now self.new }
         ensures stay { StayKept self.old self.new }
@@ -105,14 +109,17 @@ impl Weights {
             → self.new.kept ≡ false }
     {
         if self.kept {
-            return refresh_row_sums_after_handlers(at, handled, lines, self.of_rows.as_mut_slice());
+            let of_rows = self.of_rows.as_mut_slice();
+            let found = refresh_row_sums_after_handlers(at, handled, lines, of_rows);
+            return error_if_found(found);
         }
         if are_new_values_within(at, handled, self.bound) {
-            return None;
+            return Ok(());
         }
         self.kept = true;
         let d = handled.discretes;
-        weigh_kept_within_limit(at.machine, at.levels, d, self.of_rows.as_mut_slice())
+        let of_rows = self.of_rows.as_mut_slice();
+        error_if_found(weigh_kept_within_limit(at.machine, at.levels, d, of_rows))
     }
 }
 

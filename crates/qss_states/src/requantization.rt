@@ -2,7 +2,7 @@
 //! level that changes has a row.
 
 ghost use Rattle.std.specs.Prelude.{◌≡◌, ◌+◌, ◌<◌, ◌≤◌, ◌^◌, ◌++◌, if◌then◌else◌, ℕ, List, ℤ, None, Some, length, pos, vec_len, vec_capacity, true, false, position, Option};
-ghost use Rattle.qss_states.specs.Prelude.{option_or, exceeds, first_exceeding, state_count, discrete_count, level_rows, state_at, AreRisingBelow, IsFirstOf, IsWritten, tick_limit, bits_of_level, bits_of_state, IsLevel, AreLevels, exceeds_row_limits};
+ghost use Rattle.qss_states.specs.Prelude.{option_or, overflow_of, exceeds, first_exceeding, state_count, discrete_count, level_rows, state_at, AreRisingBelow, IsFirstOf, IsWritten, tick_limit, bits_of_level, bits_of_state, IsLevel, AreLevels, exceeds_row_limits};
 ghost use Rattle.qss_states.specs.EventContexts.{AreMovedTo, CanRequantize, CanTakeOnArrival, HoldsLevels, IsHandlerArrival, CanArrive};
 ghost use Rattle.qss_states.specs.KeptWeights.{AreWeights};
 ghost use Rattle.qss_states.specs.LevelChanges.{AreRequantized, AreRequantizedOnArrival, AreRequantizedAt, AreTakenOnArrival, HasTaken, HaveOneMore};
@@ -10,23 +10,24 @@ ghost use Rattle.qss_states.specs.StateLines.{line_at, states_at, CanArriveWithi
 
 use crate::event_contexts::{Arrival, HandlerArrival, HandlerResult, NewLevels};
 use crate::kept_weights::Weights;
+use crate::overflows::error_if_found;
 use mu_num::{LEVEL_BITS, STATE_BITS, exceeds_power_of_two};
 use qss_events::requantize_level;
-use qss_hand::Work;
+use qss_hand::{Over, Work};
 use qss_machine::{Row, RowKind};
 use qss_quant::{Integrator, Quantizer};
 
 /// Sets the new levels of the moved states after handlers that assigned these discrete variables.
 /// The rows are those of the handlers and then those of the levels. It updates the absolute row
-/// sums. It returns the state whose level is more than 2^43 in absolute value, or whose row exceeds
-/// its limits, if any. In this case levels, sums and rows are unspecified.
+/// sums. The error is the state whose level is more than 2^43 in absolute value, or whose row
+/// exceeds its limits. After an error, levels, sums and rows are unspecified.
 pub fn requantize_after_handlers(
     at: &HandlerArrival,
     q: &Quantizer,
     levels: &mut [i64],
     weights: &mut Weights,
     rows: &mut Vec<Row>,
-) -> Option<u32>
+) -> Result<(), Over>
     requires ready { IsHandlerArrival at.now }
     requires held { HoldsLevels at.now.machine.now at.now.lines.now at.now.work.now.pre
         levels.old weights.old }
@@ -37,11 +38,11 @@ pub fn requantize_after_handlers(
         (option_or (first_exceeding bits_of_level new)
         (position (exceeds_row_limits at.now.machine.now new at.now.work.now.d)
         at.now.machine.now.rows))
-        result }
-    ensures size_limit { result ≡ None → AreLevels levels.new }
-    ensures weights { result ≡ None
+        (overflow_of result) }
+    ensures size_limit { overflow_of result ≡ None → AreLevels levels.new }
+    ensures weights { overflow_of result ≡ None
         → AreWeights at.now.machine.now levels.new at.now.work.now.d weights.new }
-    ensures rows { result ≡ None
+    ensures rows { overflow_of result ≡ None
         → (states : List ℤ)
         → AreMovedTo at.now.machine.now at.now.moved.now at.now.work.now.x levels.old states
         → rows.new.items ≡ at.now.work.now.log
@@ -58,10 +59,7 @@ pub fn requantize_after_handlers(
         lines: at.lines,
         moved: at.moved,
     };
-    let over = requantize_states(&arrival, q, x, levels, rows);
-    if over.is_some() {
-        return over;
-    }
+    requantize_states(&arrival, q, x, levels, rows)?;
     let pre = work.pre.as_slice();
     let d = work.d.as_slice();
     let new = NewLevels {
@@ -81,8 +79,8 @@ pub fn requantize_after_handlers(
 }
 
 /// Moves the due states and sets their new levels. The rows are only those of the levels. It
-/// updates the absolute row sums. It returns the state that exceeds 2^88 on arrival, whose level
-/// exceeds 2^43, or whose row exceeds its limits, if any. In this case levels, sums and rows are
+/// updates the absolute row sums. The error is the state that exceeds 2^88 on arrival, whose level
+/// exceeds 2^43, or whose row exceeds its limits. After an error, levels, sums and rows are
 /// unspecified.
 pub fn requantize_moved(
     at: &Arrival,
@@ -91,7 +89,7 @@ pub fn requantize_moved(
     levels: &mut [i64],
     weights: &mut Weights,
     rows: &mut Vec<Row>,
-) -> Option<u32>
+) -> Result<(), Over>
     requires ready { CanArrive at.now levels.old }
     requires discretes { length work.now.d ≡ discrete_count at.now.machine.now }
     requires small_discretes { AreLevels work.now.d }
@@ -102,17 +100,14 @@ pub fn requantize_moved(
         levels.old levels.new new
         (option_or (first_exceeding bits_of_level new)
         (position (exceeds_row_limits at.now.machine.now new work.now.d) at.now.machine.now.rows))
-        result }
-    ensures kept { result ≡ None
+        (overflow_of result) }
+    ensures kept { overflow_of result ≡ None
         → AreTakenOnArrival at.now levels.old levels.new rows.new.items }
-    ensures weights { result ≡ None
+    ensures weights { overflow_of result ≡ None
         → AreWeights at.now.machine.now levels.new work.now.d weights.new }
     ensures room { vec_capacity rows.new ≡ vec_capacity rows.old }
 {
-    let over = requantize_due(at, q, levels, rows);
-    if over.is_some() {
-        return over;
-    }
+    requantize_due(at, q, levels, rows)?;
     let new = NewLevels {
         machine: at.machine,
         uses: at.uses,
@@ -124,19 +119,19 @@ pub fn requantize_moved(
     weights.update_weights(&new, d, at.lines)
 }
 
-/// Moves the due states to a tick below 2^32 along their lines. It returns the least state that is
-/// more than 2^88 in absolute value there, in units of 2^-(f+p+k), if any. No state that is not due
+/// Moves the due states to a tick below 2^32 along their lines. The error is the least state that
+/// is more than 2^88 in absolute value there, in units of 2^-(f+p+k). No state that is not due
 /// exceeds this limit.
 pub fn move_requantized_within_limit(
     lines: &[Integrator],
     tick: u64,
     moved: &[u32],
     x: &mut [i128],
-) -> Option<u32>
+) -> Result<(), Over>
     requires { CanArriveWithin tick lines.now moved.now x.old }
-    ensures { HaveArrivedWithin tick lines.now moved.now x.old x.new result }
+    ensures { HaveArrivedWithin tick lines.now moved.now x.old x.new (overflow_of result) }
 {
-    move_requantized_states(lines, tick, moved, x)
+    error_if_found(move_requantized_states(lines, tick, moved, x))
 }
 
 // Sets the rows of a tick to those of its handlers.
@@ -151,25 +146,26 @@ fn begin_requantized_rows(rows: &mut Vec<Row>, log: &[Row])
     }
 }
 
-/// Sets the new levels of the moved states, with a row for each level that changes. It returns the
-/// state whose level overflows, if any.
+/// Sets the new levels of the moved states, with a row for each level that changes. The error is
+/// the least state whose level exceeds its limit.
 pub(crate) fn requantize_states(
     at: &Arrival,
     q: &Quantizer,
     x: &[i128],
     levels: &mut [i64],
     rows: &mut Vec<Row>,
-) -> Option<u32>
+) -> Result<(), Over>
     requires { CanRequantize at.now x.now levels.old (vec_len rows.old) (vec_capacity rows.old) }
     ensures taken { (new : List ℤ) × AreRequantizedAt at.now.machine.now q.now.name
-        at.now.moved.now x.now levels.old levels.new new (first_exceeding bits_of_level new) result }
-    ensures size_limit { result ≡ None → AreLevels levels.new }
-    ensures rows { result ≡ None
+        at.now.moved.now x.now levels.old levels.new new (first_exceeding bits_of_level new)
+        (overflow_of result) }
+    ensures size_limit { overflow_of result ≡ None → AreLevels levels.new }
+    ensures rows { overflow_of result ≡ None
         → (states : List ℤ) → AreMovedTo at.now.machine.now at.now.moved.now x.now levels.old states
         → rows.new.items ≡ rows.old.items ++ level_rows at.now.tick levels.old levels.new states }
     ensures room { vec_capacity rows.new ≡ vec_capacity rows.old }
 {
-    requantize_due_levels(at, q, x, levels, rows)
+    error_if_found(requantize_due_levels(at, q, x, levels, rows))
 }
 
 // Sets the new levels of the moved states, with a row for each level that changes. It returns the
@@ -272,24 +268,24 @@ fn first_requantized_or(first: Option<u32>, state: u32) -> Option<u32>
     first.or(Some(state))
 }
 
-/// Moves the due states and sets their new levels. It returns the state that exceeds its limit on
-/// arrival, or whose level does, if any.
+/// Moves the due states and sets their new levels. The error is the state that exceeds its limit on
+/// arrival, or whose level does.
 pub(crate) fn requantize_due(
     at: &Arrival,
     q: &Quantizer,
     levels: &mut [i64],
     rows: &mut Vec<Row>,
-) -> Option<u32>
+) -> Result<(), Over>
     requires ready { CanTakeOnArrival at.now levels.old }
     requires room { state_count at.now.machine.now ≤ vec_capacity rows.old }
     ensures taken { (new : List ℤ) × AreRequantizedOnArrival at.now q.now.name
-        levels.old levels.new new (first_exceeding bits_of_level new) result }
-    ensures kept { result ≡ None
+        levels.old levels.new new (first_exceeding bits_of_level new) (overflow_of result) }
+    ensures kept { overflow_of result ≡ None
         → AreTakenOnArrival at.now levels.old levels.new rows.new.items }
     ensures room { vec_capacity rows.new ≡ vec_capacity rows.old }
 {
     rows.clear();
-    requantize_on_arrival(at, q, levels, rows)
+    error_if_found(requantize_on_arrival(at, q, levels, rows))
 }
 
 // Moves the due states to the tick, and sets their levels to the results of the rule, with a row

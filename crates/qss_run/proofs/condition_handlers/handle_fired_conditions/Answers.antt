@@ -49,8 +49,8 @@ run_fired_handlers-requires-clause-fits c =
     } in
     subst (AreValuesOf c.args.m.now) (sym (begins start at_arrival c.begin.new.self c.args.tick c.move_handler_work_states.ensures.work c.begin.ensures)) first
 
-pub returns-in-Ok : goal.returns-in-Ok
-returns-in-Ok c =
+pub returns : goal.returns
+returns c =
     let m = c.args.m.now in
     let start : Values = c.args.work.now in
     let at_arrival : Values = c.move_handler_work_states.new.work in
@@ -70,7 +70,7 @@ returns-in-Ok c =
     let own = ap (λ (w : Values). w.x) values in
     let state = λ (j : ℕ) (same : int_at at_arrival.x j ≡ int_at states j). ap (λ xs. int_at xs j) own ∙ agree.states j same in
     record {
-      overflow = c.in-Ok.ensures.overflow ∙ ap (λ (w : Values). (done_from m flags w).overflow) begun ∙ agree.overflow;
+      overflow = c.run_fired_handlers.ensures.overflow ∙ ap (λ (w : Values). (done_from m flags w).overflow) begun ∙ agree.overflow;
       work = λ e.
           values ∙ ap (λ xs. record { x = xs; d = done.discretes; pre = start.d; tick = tick; log = done.rows; room = start.room }) (sym own)
           ∙ ap (λ ds. record { x = after.x; d = ds; pre = start.d; tick = tick; log = done.rows; room = start.room }) agree.discretes
@@ -84,17 +84,3 @@ returns-in-Ok c =
           let kept : is_reinitialized done.rows j ≡ false = ap (λ (rows : List Row). is_reinitialized rows j) agree.rows ∙ none in
           ap (λ xs. int_at xs j) own ∙ (logged m tick at_arrival.x start.d None (flags_of (length c.args.branches.now) fired)).states j kept ∙ come.others j not;
     }
-
-pub returns-in-Err-clause-overflow : goal.returns-in-Err-clause-overflow
-returns-in-Err-clause-overflow c =
-    let m = c.args.m.now in
-    let start : Values = c.args.work.now in
-    let at_arrival : Values = c.move_handler_work_states.new.work in
-    let tick = c.args.tick in
-    let fired = c.args.fired.now in
-    let states = states_at c.args.lines.now tick in
-    let many : length start.x ≡ length states = c.requires.values.states ∙ sym (length-states_at c.args.lines.now tick ∙ c.requires.lines.up_to.as_many) in
-    let come = c.move_handler_work_states.ensures.states in
-    let agree = fired_agree m c.args.branches.now fired c.requires.due.of c.requires.due.numbers tick states at_arrival.x start.d start.x (come.as_many ∙ many) come in
-    c.in-Err.ensures.overflow
-    ∙ ap (λ (w : Values). (done_from m (flags_of (length c.args.branches.now) fired) w).overflow) (begins start at_arrival c.begin.new.self tick c.move_handler_work_states.ensures.work c.begin.ensures) ∙ agree.overflow

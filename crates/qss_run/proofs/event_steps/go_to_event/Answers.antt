@@ -1,7 +1,9 @@
 -- The event-free ticks, and then the event step.
-use Rattle.std.proofs.Common.{◌+◌, ◌≤◌, sym, ◌∙◌, ap, subst}
+use Rattle.std.proofs.Common.{ℕ, ◌+◌, ◌≤◌, sym, ◌∙◌, ap, subst}
+use Rattle.std.specs.Prelude.{Option}
+use Rattle.qss_hand.specs.Works.{overflow_of}
 use Rattle.qss_machine.specs.Ticks.{snapshot_unless, IsStep}
-use Rattle.qss_machine.specs.Runs.{tick_rows}
+use Rattle.qss_machine.specs.Runs.{tick_rows, last_snapshot}
 use Rattle.qss_events.specs.AllowedLevels.{IsAllowedLevel}
 use Rattle.qss_run.specs.Stores.{snapshot_of}
 use Rattle.qss_run.specs.TouchCounts.{touches_at}
@@ -16,8 +18,13 @@ returns-clause-visited g c =
       record {
         leads = are.leads;
         is_next = ap (λ n. n + 1) are.as_many;
-        is_step = subst (λ w. IsStep (IsAllowedLevel c.args.q.now.name) c.args.m.now t w (snapshot_unless c.run_event-over.result (snapshot_of t c.run_event-over.new.s))) (sym are.reached) c.run_event-over.ensures.stepped;
+        is_step = subst (λ (over : Option ℕ). IsStep (IsAllowedLevel c.args.q.now.name) c.args.m.now t (last_snapshot (snapshot_of c.args.tick c.args.s.now) quiet.0) (snapshot_unless over (snapshot_of t c.run_event-ran.new.s))) (sym c.overflowing_variable.ensures)
+            (subst (λ w. IsStep (IsAllowedLevel c.args.q.now.name) c.args.m.now t w (snapshot_unless (overflow_of c.run_event-ran.result) (snapshot_of t c.run_event-ran.new.s))) (sym are.reached) c.run_event-ran.ensures.stepped);
       },
-      (λ none. c.run_event-over.ensures.rows none ∙ ap (λ w. tick_rows c.args.m.now t w (snapshot_of t c.run_event-over.new.s)) (sym are.reached)),
-      subst (λ w. c.run_event-over.new.steps ≤ c.args.steps.now + touches_at c.args.m.now t w (snapshot_unless c.run_event-over.result (snapshot_of t c.run_event-over.new.s))) (sym are.reached) c.run_event-over.ensures.counted,
+      (λ none. c.run_event-ran.ensures.rows (sym c.overflowing_variable.ensures ∙ none) ∙ ap (λ w. tick_rows c.args.m.now t w (snapshot_of t c.run_event-ran.new.s)) (sym are.reached)),
+      subst (λ (over : Option ℕ). c.run_event-ran.new.steps ≤ c.args.steps.now + touches_at c.args.m.now t (last_snapshot (snapshot_of c.args.tick c.args.s.now) quiet.0) (snapshot_unless over (snapshot_of t c.run_event-ran.new.s))) (sym c.overflowing_variable.ensures)
+          (subst (λ w. c.run_event-ran.new.steps ≤ c.args.steps.now + touches_at c.args.m.now t w (snapshot_unless (overflow_of c.run_event-ran.result) (snapshot_of t c.run_event-ran.new.s))) (sym are.reached) c.run_event-ran.ensures.counted),
     )
+
+pub returns-clause-stands : goal.returns-clause-stands
+returns-clause-stands g c none = c.run_event-ran.ensures.stands (sym c.overflowing_variable.ensures ∙ none)

@@ -1,11 +1,11 @@
 -- A tick at which nothing but states is due.
 use Rattle.std.proofs.Common.{◌≡◌, ℕ, ◌+◌, ◌≤◌, List, Bool, true, [], length, count_by, ℤ, pos, sym}
-use Rattle.std.proofs.Common.{◌∙◌, ap, subst, arith}
+use Rattle.std.proofs.Common.{◌∙◌, ap, subst, arith, rules}
 use Rattle.std.proofs.lemmas.List.{with_items_is}
 use Rattle.std.proofs.lemmas.List.FromFn.{length-map-range_with_len}
 use Rattle.std.specs.List.{range_with_len}
 use Rattle.std.specs.Option.{option_or}
-use Rattle.std.specs.Prelude.{Option, None, Ok, All, position}
+use Rattle.std.specs.Prelude.{Option, None, Ok, Err, All, position, is_some}
 use Rattle.std.specs.Vec.{with_items}
 use Rattle.mu_num.specs.Sizes.{IsWithin}
 use Rattle.qss_machine.specs.EventCounts.{has_changed}
@@ -18,6 +18,7 @@ use Rattle.qss_machine.specs.Runs.{level_rows}
 use Rattle.qss_quant.specs.IntegratorLines.{state_at, IsLineWithinQuantum}
 use Rattle.qss_sched.specs.Ranks.{due_at}
 use Rattle.qss_hand.specs.Values.{Values}
+use Rattle.qss_hand.specs.Works.{overflow_of}
 use Rattle.qss_states.specs.RowSums.{AreSumsBefore}
 use Rattle.qss_states.specs.declared.row_sum_changes.RowSum.TheVariants.{Slope}
 use Rattle.qss_run.specs.declared.run_conditions.Conditions.{Conditions}
@@ -27,7 +28,7 @@ use Rattle.qss_states.specs.StateLines.{line_at, IsRestartedFrom, states_at, May
 use Rattle.qss_run.specs.ConditionPlaces.{detector_at, IsDetectorAt}
 use Rattle.qss_events.specs.AllowedLevels.{IsAllowedLevel}
 use Rattle.qss_events.specs.Schedules.{IsDue}
-use Rattle.qss_events.proofs.Overs.{not_some, clash}
+use Rattle.qss_events.proofs.Overs.{clash}
 use Rattle.qss_states.specs.Advancing.{reached}
 use Rattle.qss_states.specs.KeptWeights.{AreWeights}
 use Rattle.qss_run.specs.Stores.{snapshot_of, FitsMachine}
@@ -45,8 +46,8 @@ use Rattle.qss_run.proofs.Visits.{stands_again, end_of, both_none, levels_small}
 use Rattle.mu_num.proofs.InPlace.{same_length}
 use Rattle.qss_run.proofs.event_steps.run_event_of_states.Goals as goal
 
-pub requantize_moved-over-requires-clause-ready : goal.requantize_moved-over-requires-clause-ready
-requantize_moved-over-requires-clause-ready g c =
+pub requantize_moved-requires-clause-ready : goal.requantize_moved-requires-clause-ready
+requantize_moved-requires-clause-ready g c =
     let m = c.args.m.now in
     let t = c.args.tick + 1 in
     let s : Store = c.args.s.now in
@@ -78,14 +79,14 @@ requantize_moved-over-requires-clause-ready g c =
           ∙ rest_near m c.args.tick agenda s taken c.requires.ready.in_time j h (ap (λ l. is_listed l j) (sym c.as_slice-2.ensures.value) ∙ none);
     }
 
-pub requantize_moved-over-requires-clause-discretes : goal.requantize_moved-over-requires-clause-discretes
-requantize_moved-over-requires-clause-discretes g c = c.requires.ready.taken.1.stands.fits.values.discretes
+pub requantize_moved-requires-clause-discretes : goal.requantize_moved-requires-clause-discretes
+requantize_moved-requires-clause-discretes g c = c.requires.ready.taken.1.stands.fits.values.discretes
 
-pub requantize_moved-over-requires-clause-small_discretes : goal.requantize_moved-over-requires-clause-small_discretes
-requantize_moved-over-requires-clause-small_discretes g c = c.requires.ready.taken.1.stands.fits.values.small_discretes
+pub requantize_moved-requires-clause-small_discretes : goal.requantize_moved-requires-clause-small_discretes
+requantize_moved-requires-clause-small_discretes g c = c.requires.ready.taken.1.stands.fits.values.small_discretes
 
-pub requantize_moved-over-requires-clause-held : goal.requantize_moved-over-requires-clause-held
-requantize_moved-over-requires-clause-held g c =
+pub requantize_moved-requires-clause-held : goal.requantize_moved-requires-clause-held
+requantize_moved-requires-clause-held g c =
     let m = c.args.m.now in
     let s : Store = c.args.s.now in
     let stands = c.requires.ready.taken.1.stands in
@@ -100,35 +101,41 @@ requantize_moved-over-requires-clause-held g c =
       weights = subst (λ l. AreWeights m l s.work.d s.weights) (sym c.as_mut_slice-levels.ensures.value) stands.own_weights;
     }
 
-pub returns-then-is_some-clause-visited : goal.returns-then-is_some-clause-visited
-returns-then-is_some-clause-visited g c =
+pub returns-in_err-requantize_moved-clause-visited : goal.returns-in_err-requantize_moved-clause-visited
+returns-in_err-requantize_moved-clause-visited g c =
     let m = c.args.m.now in
     let t = c.args.tick + 1 in
     let s : Store = c.args.s.now in
     let agenda : List (Option ℕ) = c.requires.ready.taken.0 in
     let x : List ℤ = states_at s.lines.items t in
-    let fresh : List ℤ = c.requantize_moved-over.ensures.taken.0 in
+    let fresh : List ℤ = c.requantize_moved.ensures.taken.0 in
     let h : HandlerState = record { states = x; discretes = s.work.d; rows = []; overflow = first_exceeding 88 x } in
     let is_h : h ≡ handlers_at m t (snapshot_of c.args.tick s) = sym (handled m c.args.tick agenda s c.requires.ready.taken.1 c.requires.ready.in_time c.requires.none_changes) in
     let allowed : first_exceeding 88 x ≡ None → AreNextLevels (IsAllowedLevel c.args.q.now.name) m x s.levels.items fresh = λ none.
     subst (λ ls. AreNextLevels (IsAllowedLevel c.args.q.now.name) m (states_at ls t) s.levels.items fresh) c.as_slice.ensures.value
     (subst (λ l. AreNextLevels (IsAllowedLevel c.args.q.now.name) m (states_at c.as_slice.result.now t) l fresh) c.as_mut_slice-levels.ensures.value
-    (c.requantize_moved-over.ensures.taken.1.allowed (ap (λ ls. first_exceeding 88 (states_at ls t)) c.as_slice.ensures.value ∙ none))) in
-    let over : c.requantize_moved-over.result ≡ option_or (first_exceeding 88 x) (option_or (first_exceeding 43 fresh) (position (exceeds_row_limits m fresh s.work.d) m.rows)) =
-    c.requantize_moved-over.ensures.taken.1.over_is
+    (c.requantize_moved.ensures.taken.1.allowed (ap (λ ls. first_exceeding 88 (states_at ls t)) c.as_slice.ensures.value ∙ none))) in
+    let over : overflow_of c.requantize_moved.result ≡ option_or (first_exceeding 88 x) (option_or (first_exceeding 43 fresh) (position (exceeds_row_limits m fresh s.work.d) m.rows)) =
+    c.requantize_moved.ensures.taken.1.over_is
     ∙ ap (λ ls. option_or (first_exceeding 88 (states_at ls t)) (option_or (first_exceeding 43 fresh) (position (exceeds_row_limits m fresh s.work.d) m.rows))) c.as_slice.ensures.value in
-    let some = sym c.is_some.ensures ∙ c.if-is_some.true in
+    let given : c.from_residual.result ≡ Err c.in_err-requantize_moved.field-0.0 = search rules in
+    let some : is_some (overflow_of c.from_residual.result) ≡ true =
+    ap is_some (ap overflow_of given) in
+    let same : overflow_of c.from_residual.result ≡ overflow_of c.requantize_moved.result =
+    ap overflow_of given ∙ ap overflow_of (sym c.in_err-requantize_moved.was) in
     record {
-      stepped = steps_or (IsAllowedLevel c.args.q.now.name) m t (snapshot_of c.args.tick s) _ h fresh c.requantize_moved-over.result is_h allowed over
-          (λ none. clash c.requantize_moved-over.result some none);
-      rows = λ none. clash c.requantize_moved-over.result some none;
-      stands = λ none. clash c.requantize_moved-over.result some none;
-      room = c.requantize_moved-over.ensures.room;
+      stepped = steps_or (IsAllowedLevel c.args.q.now.name) m t (snapshot_of c.args.tick s) _ h fresh (overflow_of c.from_residual.result) is_h allowed (same ∙ over)
+          (λ none. clash (overflow_of c.from_residual.result) some none);
+      rows = λ none. clash (overflow_of c.from_residual.result) some none;
+      stands = λ none. clash (overflow_of c.from_residual.result) some none;
+      room = c.requantize_moved.ensures.room;
       counted = omega arith;
     }
 
-pub returns-then-is_some-clause-kept : goal.returns-then-is_some-clause-kept
-returns-then-is_some-clause-kept g c none = clash c.requantize_moved-over.result (sym c.is_some.ensures ∙ c.if-is_some.true) none
+pub returns-in_err-requantize_moved-clause-kept : goal.returns-in_err-requantize_moved-clause-kept
+returns-in_err-requantize_moved-clause-kept g c none =
+    let given : c.from_residual.result ≡ Err c.in_err-requantize_moved.field-0.0 = search rules in
+    clash (overflow_of c.from_residual.result) (ap is_some (ap overflow_of given)) none
 
 pub continue_moved_states-requires-clause-ready : goal.continue_moved_states-requires-clause-ready
 continue_moved_states-requires-clause-ready g c =
@@ -137,24 +144,25 @@ continue_moved_states-requires-clause-ready g c =
     let s : Store = c.args.s.now in
     let agenda : List (Option ℕ) = c.requires.ready.taken.0 in
     let taken = c.requires.ready.taken.1 in
-    let calm : c.requantize_moved-over.result ≡ None = not_some c.requantize_moved-over.result (sym c.is_some.ensures ∙ c.if-is_some.false) in
+    let calm : overflow_of c.requantize_moved.result ≡ None =
+    ap overflow_of c.in_ok-requantize_moved.was in
     let x : List ℤ = states_at s.lines.items t in
-    let fresh : List ℤ = c.requantize_moved-over.ensures.taken.0 in
+    let fresh : List ℤ = c.requantize_moved.ensures.taken.0 in
     let h : HandlerState = record { states = x; discretes = s.work.d; rows = []; overflow = first_exceeding 88 x } in
     let is_h : h ≡ handlers_at m t (snapshot_of c.args.tick s) = sym (handled m c.args.tick agenda s taken c.requires.ready.in_time c.requires.none_changes) in
     let allowed : first_exceeding 88 x ≡ None → AreNextLevels (IsAllowedLevel c.args.q.now.name) m x s.levels.items fresh = λ none.
     subst (λ ls. AreNextLevels (IsAllowedLevel c.args.q.now.name) m (states_at ls t) s.levels.items fresh) c.as_slice.ensures.value
     (subst (λ l. AreNextLevels (IsAllowedLevel c.args.q.now.name) m (states_at c.as_slice.result.now t) l fresh) c.as_mut_slice-levels.ensures.value
-    (c.requantize_moved-over.ensures.taken.1.allowed (ap (λ ls. first_exceeding 88 (states_at ls t)) c.as_slice.ensures.value ∙ none))) in
-    let over : c.requantize_moved-over.result ≡ option_or (first_exceeding 88 x) (option_or (first_exceeding 43 fresh) (position (exceeds_row_limits m fresh s.work.d) m.rows)) =
-    c.requantize_moved-over.ensures.taken.1.over_is
+    (c.requantize_moved.ensures.taken.1.allowed (ap (λ ls. first_exceeding 88 (states_at ls t)) c.as_slice.ensures.value ∙ none))) in
+    let over : overflow_of c.requantize_moved.result ≡ option_or (first_exceeding 88 x) (option_or (first_exceeding 43 fresh) (position (exceeds_row_limits m fresh s.work.d) m.rows)) =
+    c.requantize_moved.ensures.taken.1.over_is
     ∙ ap (λ ls. option_or (first_exceeding 88 (states_at ls t)) (option_or (first_exceeding 43 fresh) (position (exceeds_row_limits m fresh s.work.d) m.rows))) c.as_slice.ensures.value in
     let none_both = both_none (first_exceeding 88 x) (option_or (first_exceeding 43 fresh) (position (exceeds_row_limits m fresh s.work.d) m.rows)) (sym calm ∙ over) in
-    let many : length c.requantize_moved-over.new.levels ≡ s.levels.len = c.requantize_moved-over.auto.levels ∙ c.as_mut_slice-levels.ensures.len in
+    let many : length c.requantize_moved.new.levels ≡ s.levels.len = c.requantize_moved.auto.levels ∙ c.as_mut_slice-levels.ensures.len in
     let levels : c.as_slice-4.result.now ≡ fresh =
-    c.as_slice-4.ensures.value ∙ with_items_is s.levels c.requantize_moved-over.new.levels many ∙ c.requantize_moved-over.ensures.taken.1.levels calm in
+    c.as_slice-4.ensures.value ∙ with_items_is s.levels c.requantize_moved.new.levels many ∙ c.requantize_moved.ensures.taken.1.levels calm in
     let off : DiffersOnlyAt s.moved.items s.levels.items fresh =
-    subst (λ l. DiffersOnlyAt l s.levels.items fresh) c.as_slice-2.ensures.value (subst (λ l. DiffersOnlyAt c.as_slice-2.result.now l fresh) c.as_mut_slice-levels.ensures.value c.requantize_moved-over.ensures.taken.1.others) in
+    subst (λ l. DiffersOnlyAt l s.levels.items fresh) c.as_slice-2.ensures.value (subst (λ l. DiffersOnlyAt c.as_slice-2.result.now l fresh) c.as_mut_slice-levels.ensures.value c.requantize_moved.ensures.taken.1.others) in
     let of_d : c.as_slice-5.result.now ≡ s.work.d = c.as_slice-5.ensures.value ∙ ap (λ (v : Values). v.d) c.work.view_is in
     let fits = taken.stands.fits in
     record {
@@ -162,8 +170,8 @@ continue_moved_states-requires-clause-ready g c =
         new = record {
           uses = fits.uses;
           moved = subst (AreRisingBelow (state_count m)) (sym c.as_slice-3.ensures.value) taken.due.numbers;
-          levels = ap length c.as_slice-4.ensures.value ∙ same_length s.levels c.requantize_moved-over.new.levels ∙ fits.levels;
-          small_levels = subst (All (IsWithin 43)) (sym (levels ∙ sym (c.requantize_moved-over.ensures.taken.1.levels calm))) (c.requantize_moved-over.ensures.kept calm).small;
+          levels = ap length c.as_slice-4.ensures.value ∙ same_length s.levels c.requantize_moved.new.levels ∙ fits.levels;
+          small_levels = subst (All (IsWithin 43)) (sym (levels ∙ sym (c.requantize_moved.ensures.taken.1.levels calm))) (c.requantize_moved.ensures.kept calm).small;
         };
         as_many = ap length of_d ∙ fits.values.discretes;
         small = subst (All (IsWithin 43)) (sym of_d) fits.values.small_discretes;
@@ -215,10 +223,11 @@ continue_moved_states-requires-clause-size_limit g c =
     let m = c.args.m.now in
     let t = c.args.tick + 1 in
     let s : Store = c.args.s.now in
-    let calm : c.requantize_moved-over.result ≡ None = not_some c.requantize_moved-over.result (sym c.is_some.ensures ∙ c.if-is_some.false) in
-    let fresh : List ℤ = c.requantize_moved-over.ensures.taken.0 in
-    let over : c.requantize_moved-over.result ≡ option_or (first_exceeding 88 (states_at s.lines.items t)) (option_or (first_exceeding 43 fresh) (position (exceeds_row_limits m fresh s.work.d) m.rows)) =
-    c.requantize_moved-over.ensures.taken.1.over_is
+    let calm : overflow_of c.requantize_moved.result ≡ None =
+    ap overflow_of c.in_ok-requantize_moved.was in
+    let fresh : List ℤ = c.requantize_moved.ensures.taken.0 in
+    let over : overflow_of c.requantize_moved.result ≡ option_or (first_exceeding 88 (states_at s.lines.items t)) (option_or (first_exceeding 43 fresh) (position (exceeds_row_limits m fresh s.work.d) m.rows)) =
+    c.requantize_moved.ensures.taken.1.over_is
     ∙ ap (λ ls. option_or (first_exceeding 88 (states_at ls t)) (option_or (first_exceeding 43 fresh) (position (exceeds_row_limits m fresh s.work.d) m.rows))) c.as_slice.ensures.value in
     let none = both_none (first_exceeding 88 (states_at s.lines.items t)) (option_or (first_exceeding 43 fresh) (position (exceeds_row_limits m fresh s.work.d) m.rows)) (sym calm ∙ over) in
     subst (λ ls. All (IsWithin 88) (states_at ls t)) (sym c.as_mut_slice-2.ensures.value) (lines_then m c.args.tick c.requires.ready.taken.0 s c.requires.ready.taken.1 c.requires.ready.in_time none.0).small
@@ -261,44 +270,45 @@ returns g c =
     let s : Store = c.args.s.now in
     let agenda : List (Option ℕ) = c.requires.ready.taken.0 in
     let taken = c.requires.ready.taken.1 in
-    let calm : c.requantize_moved-over.result ≡ None = not_some c.requantize_moved-over.result (sym c.is_some.ensures ∙ c.if-is_some.false) in
+    let calm : overflow_of c.requantize_moved.result ≡ None =
+    ap overflow_of c.in_ok-requantize_moved.was in
     let x : List ℤ = states_at s.lines.items t in
-    let fresh : List ℤ = c.requantize_moved-over.ensures.taken.0 in
+    let fresh : List ℤ = c.requantize_moved.ensures.taken.0 in
     let h : HandlerState = record { states = x; discretes = s.work.d; rows = []; overflow = first_exceeding 88 x } in
     let is_h : h ≡ handlers_at m t (snapshot_of c.args.tick s) = sym (handled m c.args.tick agenda s taken c.requires.ready.in_time c.requires.none_changes) in
     let allowed : first_exceeding 88 x ≡ None → AreNextLevels (IsAllowedLevel c.args.q.now.name) m x s.levels.items fresh = λ none.
     subst (λ ls. AreNextLevels (IsAllowedLevel c.args.q.now.name) m (states_at ls t) s.levels.items fresh) c.as_slice.ensures.value
     (subst (λ l. AreNextLevels (IsAllowedLevel c.args.q.now.name) m (states_at c.as_slice.result.now t) l fresh) c.as_mut_slice-levels.ensures.value
-    (c.requantize_moved-over.ensures.taken.1.allowed (ap (λ ls. first_exceeding 88 (states_at ls t)) c.as_slice.ensures.value ∙ none))) in
-    let over : c.requantize_moved-over.result ≡ option_or (first_exceeding 88 x) (option_or (first_exceeding 43 fresh) (position (exceeds_row_limits m fresh s.work.d) m.rows)) =
-    c.requantize_moved-over.ensures.taken.1.over_is
+    (c.requantize_moved.ensures.taken.1.allowed (ap (λ ls. first_exceeding 88 (states_at ls t)) c.as_slice.ensures.value ∙ none))) in
+    let over : overflow_of c.requantize_moved.result ≡ option_or (first_exceeding 88 x) (option_or (first_exceeding 43 fresh) (position (exceeds_row_limits m fresh s.work.d) m.rows)) =
+    c.requantize_moved.ensures.taken.1.over_is
     ∙ ap (λ ls. option_or (first_exceeding 88 (states_at ls t)) (option_or (first_exceeding 43 fresh) (position (exceeds_row_limits m fresh s.work.d) m.rows))) c.as_slice.ensures.value in
     let none_both = both_none (first_exceeding 88 x) (option_or (first_exceeding 43 fresh) (position (exceeds_row_limits m fresh s.work.d) m.rows)) (sym calm ∙ over) in
-    let many : length c.requantize_moved-over.new.levels ≡ s.levels.len = c.requantize_moved-over.auto.levels ∙ c.as_mut_slice-levels.ensures.len in
+    let many : length c.requantize_moved.new.levels ≡ s.levels.len = c.requantize_moved.auto.levels ∙ c.as_mut_slice-levels.ensures.len in
     let levels : c.as_slice-4.result.now ≡ fresh =
-    c.as_slice-4.ensures.value ∙ with_items_is s.levels c.requantize_moved-over.new.levels many ∙ c.requantize_moved-over.ensures.taken.1.levels calm in
+    c.as_slice-4.ensures.value ∙ with_items_is s.levels c.requantize_moved.new.levels many ∙ c.requantize_moved.ensures.taken.1.levels calm in
     let of_d : c.as_slice-5.result.now ≡ s.work.d = c.as_slice-5.ensures.value ∙ ap (λ (v : Values). v.d) c.work.view_is in
     let fits = taken.stands.fits in
     let own : Conditions = c.continue_moved_states.new.condition_set in
     let own_settled : own.after_handlers.items ≡ s.conditions.after_handlers.items = ap (λ (all : Conditions). all.after_handlers.items) c.continue_moved_states.ensures.rest in
     let next : Store = record s {
       conditions = record own { at_arrival = with_items own.at_arrival c.copy_settled_truths.new.at_arrival; flipped = c.copy_settled_truths.new.flipped };
-      levels = with_items s.levels c.requantize_moved-over.new.levels;
+      levels = with_items s.levels c.requantize_moved.new.levels;
       slopes = with_items s.slopes c.continue_moved_states.new.slopes;
       lines = with_items s.lines c.continue_moved_states.new.lines;
-      weights = c.requantize_moved-over.new.weights;
+      weights = c.requantize_moved.new.weights;
       agenda = c.continue_moved_states.new.agenda;
       touched = c.continue_moved_states.new.touched;
-      rows = c.requantize_moved-over.new.rows;
+      rows = c.requantize_moved.new.rows;
     } in
     let good : FitsMachine m next = record {
       own_conditions = arrived_anew m own (with_items own.at_arrival c.copy_settled_truths.new.at_arrival) c.copy_settled_truths.new.flipped c.continue_moved_states.ensures.fits
           (same_length own.at_arrival c.copy_settled_truths.new.at_arrival ∙ c.continue_moved_states.ensures.fits.at_arrival) c.copy_settled_truths.ensures.count;
       uses = fits.uses;
       lines = same_length s.lines c.continue_moved_states.new.lines ∙ fits.lines;
-      levels = same_length s.levels c.requantize_moved-over.new.levels ∙ fits.levels;
+      levels = same_length s.levels c.requantize_moved.new.levels ∙ fits.levels;
       slopes = same_length s.slopes c.continue_moved_states.new.slopes ∙ fits.slopes;
-      weights = (c.requantize_moved-over.ensures.weights calm).as_many;
+      weights = (c.requantize_moved.ensures.weights calm).as_many;
       places = c.continue_moved_states.ensures.gone_on.places ∙ taken.without.as_many ∙ fits.places;
       values = fits.values;
       before = fits.before;
@@ -309,7 +319,7 @@ returns g c =
         fired = fits.room.fired;
         assigned = fits.room.assigned;
         log = fits.room.log;
-        rows = omega (arith, c.requantize_moved-over.ensures.room, fits.room.rows);
+        rows = omega (arith, c.requantize_moved.ensures.room, fits.room.rows);
       };
     } in
     let of_slopes : next.slopes.items ≡ c.continue_moved_states.new.slopes = with_items_is s.slopes c.continue_moved_states.new.slopes (c.continue_moved_states.auto.slopes ∙ c.as_mut_slice.ensures.len) in
@@ -327,12 +337,12 @@ returns g c =
     ∙ ap (λ d. tabulate (state_count m) (λ j. slope_at m j c.as_slice-4.result.now d)) of_d
     ∙ ap (λ l. tabulate (state_count m) (λ j. slope_at m j l next.work.d)) (sym own_levels) in
     let again = stands_again m t next x many_states good
-    (λ j inside. subst (λ l. IsWithin 43 (int_at l j)) (sym (own_levels ∙ levels ∙ sym (c.requantize_moved-over.ensures.taken.1.levels calm)))
-    ((c.requantize_moved-over.ensures.kept calm).small j (pos 0) (omega (arith, inside, many, s.levels.ok.0, fits.levels))))
+    (λ j inside. subst (λ l. IsWithin 43 (int_at l j)) (sym (own_levels ∙ levels ∙ sym (c.requantize_moved.ensures.taken.1.levels calm)))
+    ((c.requantize_moved.ensures.kept calm).small j (pos 0) (omega (arith, inside, many, s.levels.ok.0, fits.levels))))
     light
     (of_slopes ∙ slopes)
-    (subst (λ l. AreWeights m l next.work.d next.weights) (sym (own_levels ∙ levels ∙ sym (c.requantize_moved-over.ensures.taken.1.levels calm)))
-    (c.requantize_moved-over.ensures.weights calm))
+    (subst (λ l. AreWeights m l next.work.d next.weights) (sym (own_levels ∙ levels ∙ sym (c.requantize_moved.ensures.taken.1.levels calm)))
+    (c.requantize_moved.ensures.weights calm))
     (λ j inside.
     subst (λ ls. IsRestartedFrom m t (int_at x j) (int_at next.levels.items j) (slope_at m j next.levels.items next.work.d) j (line_at ls j) (due_at next.agenda j)) (sym of_lines)
     (subst (λ l. IsRestartedFrom m t (int_at x j) (int_at l j) (slope_at m j l next.work.d) j (line_at c.continue_moved_states.new.lines j) (due_at next.agenda j)) (sym own_levels)
@@ -371,14 +381,14 @@ returns g c =
       visited = record {
         stepped = steps_or (IsAllowedLevel c.args.q.now.name) m t w (snapshot_of t next) h fresh None is_h allowed (sym calm ∙ over) (λ none. end);
         rows = λ none.
-            (c.requantize_moved-over.ensures.kept calm).own_rows
-            ∙ ap (λ l. level_rows t l c.requantize_moved-over.new.levels (states_at c.as_slice.result.now t)) c.as_mut_slice-levels.ensures.value
-            ∙ ap (λ l. level_rows t s.levels.items l (states_at c.as_slice.result.now t)) (c.requantize_moved-over.ensures.taken.1.levels calm ∙ sym new_levels)
+            (c.requantize_moved.ensures.kept calm).own_rows
+            ∙ ap (λ l. level_rows t l c.requantize_moved.new.levels (states_at c.as_slice.result.now t)) c.as_mut_slice-levels.ensures.value
+            ∙ ap (λ l. level_rows t s.levels.items l (states_at c.as_slice.result.now t)) (c.requantize_moved.ensures.taken.1.levels calm ∙ sym new_levels)
             ∙ ap (λ ls. level_rows t s.levels.items next.levels.items (states_at ls t)) c.as_slice.ensures.value
             ∙ ap (λ y. level_rows t s.levels.items next.levels.items y) (sym again.0)
             ∙ sym (rows_then m c.args.tick agenda s taken c.requires.ready.in_time c.requires.none_changes (snapshot_of t next));
         stands = λ none. again.1;
-        room = c.requantize_moved-over.ensures.room;
+        room = c.requantize_moved.ensures.room;
         counted = omega (arith, counted, few);
       };
       kept = λ none j inside untouched.

@@ -1,9 +1,9 @@
 -- A tick at which conditions change.
 use Rattle.std.proofs.Common.{◌≡◌, ℕ, ◌+◌, ◌≤◌, ◌++◌, List, ℤ, Bool, length, refl, sym, ◌∙◌, ap}
-use Rattle.std.proofs.Common.{subst, arith}
+use Rattle.std.proofs.Common.{subst, arith, rules, true}
 use Rattle.std.proofs.lemmas.List.{with_items_is}
 use Rattle.std.specs.Option.{option_or}
-use Rattle.std.specs.Prelude.{Option, None, Ok, All, position, vec_capacity}
+use Rattle.std.specs.Prelude.{Option, None, Ok, Err, All, position, vec_capacity, is_some}
 use Rattle.std.specs.Vec.{with_items}
 use Rattle.mu_num.specs.Sizes.{IsWithin}
 use Rattle.qss_machine.specs.Handlers.{HandlerState, conditions, truths}
@@ -16,6 +16,7 @@ use Rattle.mu_num.specs.ListedPlaces.{flag_at, is_listed, AreRisingBelow, Differ
 use Rattle.qss_quant.specs.IntegratorLines.{state_at}
 use Rattle.qss_cross.specs.Crossing.{DetectorView, IsSmall, value_at, holds_at}
 use Rattle.qss_hand.specs.Values.{Values}
+use Rattle.qss_hand.specs.Works.{overflow_of}
 use Rattle.qss_sched.specs.Ranks.{due_at}
 use Rattle.qss_states.specs.RowSums.{AreSumsBefore}
 use Rattle.qss_states.specs.declared.row_sum_changes.RowSum.TheVariants.{Slope}
@@ -30,7 +31,7 @@ use Rattle.qss_run.specs.ConditionPlaces.{detector_at, IsDetectorAt}
 use Rattle.qss_states.specs.LineReplacements.{replaced_lines_from}
 use Rattle.qss_events.specs.AllowedLevels.{IsAllowedLevel}
 use Rattle.qss_events.specs.Schedules.{condition_at}
-use Rattle.qss_events.proofs.Overs.{not_some, clash}
+use Rattle.qss_events.proofs.Overs.{clash}
 use Rattle.qss_states.specs.KeptWeights.{AreWeights}
 use Rattle.qss_run.specs.Stores.{snapshot_of}
 use Rattle.qss_run.specs.TouchCounts.{touches_at}
@@ -48,8 +49,8 @@ use Rattle.qss_run.proofs.Visits.{levels_small}
 use Rattle.mu_num.proofs.InPlace.{same_length}
 use Rattle.qss_run.proofs.event_steps.run_event_with_conditions.Goals as goal
 
-pub handle_changed_conditions-over-requires-clause-ready : goal.handle_changed_conditions-over-requires-clause-ready
-handle_changed_conditions-over-requires-clause-ready g c =
+pub handle_changed_conditions-requires-clause-ready : goal.handle_changed_conditions-requires-clause-ready
+handle_changed_conditions-requires-clause-ready g c =
     let m = c.args.m.now in
     let t = c.args.tick + 1 in
     let s : Store = c.args.s.now in
@@ -86,8 +87,8 @@ handle_changed_conditions-over-requires-clause-ready g c =
       taken = record { later = later_dues m c.args.tick agenda s taken c.requires.in_time; none = taken.without.states };
     }
 
-pub returns-then-is_some : goal.returns-then-is_some
-returns-then-is_some g c =
+pub returns-in_err-handle_changed_conditions : goal.returns-in_err-handle_changed_conditions
+returns-in_err-handle_changed_conditions g c =
     let m = c.args.m.now in
     let t = c.args.tick + 1 in
     let s : Store = c.args.s.now in
@@ -96,26 +97,32 @@ returns-then-is_some g c =
     let is_h : h ≡ handlers_at m t (snapshot_of c.args.tick s) =
     handles_from m c.args.tick (record s { agenda = agenda }) c.requires.taken.1.stands c.as_slice.result.now s.conditions.at_arrival.items s.conditions.after_handlers.items
     c.as_slice.ensures.value refl refl in
-    let some = sym c.is_some.ensures ∙ c.if-is_some.true in
+    let given : c.from_residual.result ≡ Err c.in_err-handle_changed_conditions.field-0.0 =
+    search rules in
+    let some : is_some (overflow_of c.from_residual.result) ≡ true =
+    ap is_some (ap overflow_of given) in
+    let same : overflow_of c.from_residual.result ≡ overflow_of c.handle_changed_conditions.result =
+    ap overflow_of given ∙ ap overflow_of (sym c.in_err-handle_changed_conditions.was) in
     record {
-      stepped = early (IsAllowedLevel c.args.q.now.name) m t (snapshot_of c.args.tick s) _ c.handle_changed_conditions-over.result some (c.handle_changed_conditions-over.ensures.overflow ∙ ap (λ (k : HandlerState). k.overflow) is_h);
-      rows = λ none. clash c.handle_changed_conditions-over.result some none;
-      stands = λ none. clash c.handle_changed_conditions-over.result some none;
+      stepped = early (IsAllowedLevel c.args.q.now.name) m t (snapshot_of c.args.tick s) _ (overflow_of c.from_residual.result) some (same ∙ c.handle_changed_conditions.ensures.overflow ∙ ap (λ (k : HandlerState). k.overflow) is_h);
+      rows = λ none. clash (overflow_of c.from_residual.result) some none;
+      stands = λ none. clash (overflow_of c.from_residual.result) some none;
       room = refl;
       counted = omega arith;
     }
 
-pub requantize_after_handlers-over-requires-clause-ready : goal.requantize_after_handlers-over-requires-clause-ready
-requantize_after_handlers-over-requires-clause-ready g c =
+pub requantize_after_handlers-requires-clause-ready : goal.requantize_after_handlers-requires-clause-ready
+requantize_after_handlers-requires-clause-ready g c =
     let m = c.args.m.now in
     let t = c.args.tick + 1 in
     let s : Store = c.args.s.now in
     let h : HandlerState = handling_from m t (states_at c.as_slice.result.now t) s.work.d s.conditions.at_arrival.items s.conditions.after_handlers.items in
-    let calm : c.handle_changed_conditions-over.result ≡ None = not_some c.handle_changed_conditions-over.result (sym c.is_some.ensures ∙ c.if-is_some.false) in
-    let assigned = c.handle_changed_conditions-over.new.assigned.items in
-    let new : Values = c.handle_changed_conditions-over.new.work in
-    let handled : IsHandlerEffect m t s.lines.items s.moved.items c.handle_changed_conditions-over.new.moved.items assigned s.work new h =
-    subst (λ ls. IsHandlerEffect m t ls s.moved.items c.handle_changed_conditions-over.new.moved.items assigned s.work new h) c.as_slice.ensures.value (c.handle_changed_conditions-over.ensures.handled calm) in
+    let calm : overflow_of c.handle_changed_conditions.result ≡ None =
+    ap overflow_of c.in_ok-handle_changed_conditions.was in
+    let assigned = c.handle_changed_conditions.new.assigned.items in
+    let new : Values = c.handle_changed_conditions.new.work in
+    let handled : IsHandlerEffect m t s.lines.items s.moved.items c.handle_changed_conditions.new.moved.items assigned s.work new h =
+    subst (λ ls. IsHandlerEffect m t ls s.moved.items c.handle_changed_conditions.new.moved.items assigned s.work new h) c.as_slice.ensures.value (c.handle_changed_conditions.ensures.handled calm) in
     record {
       uses = c.requires.taken.1.stands.fits.uses;
       lines = ap length c.as_slice-3.ensures.value ∙ c.requires.taken.1.stands.fits.lines;
@@ -124,18 +131,19 @@ requantize_after_handlers-over-requires-clause-ready g c =
       fits = handled.fits;
     }
 
-pub requantize_after_handlers-over-requires-clause-held : goal.requantize_after_handlers-over-requires-clause-held
-requantize_after_handlers-over-requires-clause-held g c =
+pub requantize_after_handlers-requires-clause-held : goal.requantize_after_handlers-requires-clause-held
+requantize_after_handlers-requires-clause-held g c =
     let m = c.args.m.now in
     let t = c.args.tick + 1 in
     let s : Store = c.args.s.now in
     let agenda : List (Option ℕ) = c.requires.taken.0 in
     let h : HandlerState = handling_from m t (states_at c.as_slice.result.now t) s.work.d s.conditions.at_arrival.items s.conditions.after_handlers.items in
-    let calm : c.handle_changed_conditions-over.result ≡ None = not_some c.handle_changed_conditions-over.result (sym c.is_some.ensures ∙ c.if-is_some.false) in
-    let assigned = c.handle_changed_conditions-over.new.assigned.items in
-    let new : Values = c.handle_changed_conditions-over.new.work in
-    let handled : IsHandlerEffect m t s.lines.items s.moved.items c.handle_changed_conditions-over.new.moved.items assigned s.work new h =
-    subst (λ ls. IsHandlerEffect m t ls s.moved.items c.handle_changed_conditions-over.new.moved.items assigned s.work new h) c.as_slice.ensures.value (c.handle_changed_conditions-over.ensures.handled calm) in
+    let calm : overflow_of c.handle_changed_conditions.result ≡ None =
+    ap overflow_of c.in_ok-handle_changed_conditions.was in
+    let assigned = c.handle_changed_conditions.new.assigned.items in
+    let new : Values = c.handle_changed_conditions.new.work in
+    let handled : IsHandlerEffect m t s.lines.items s.moved.items c.handle_changed_conditions.new.moved.items assigned s.work new h =
+    subst (λ ls. IsHandlerEffect m t ls s.moved.items c.handle_changed_conditions.new.moved.items assigned s.work new h) c.as_slice.ensures.value (c.handle_changed_conditions.ensures.handled calm) in
     let of_pre : new.pre ≡ s.work.d = ap (λ (v : Values). v.pre) handled.values in
     let stands = c.requires.taken.1.stands in
     record {
@@ -151,8 +159,8 @@ requantize_after_handlers-over-requires-clause-held g c =
           (subst (λ l. AreWeights m l s.work.d s.weights) (sym c.as_mut_slice.ensures.value) stands.own_weights);
     }
 
-pub requantize_after_handlers-over-requires-clause-room : goal.requantize_after_handlers-over-requires-clause-room
-requantize_after_handlers-over-requires-clause-room g c =
+pub requantize_after_handlers-requires-clause-room : goal.requantize_after_handlers-requires-clause-room
+requantize_after_handlers-requires-clause-room g c =
     let m = c.args.m.now in
     let t = c.args.tick + 1 in
     let s : Store = c.args.s.now in
@@ -161,11 +169,12 @@ requantize_after_handlers-over-requires-clause-room g c =
     let is_h : h ≡ handlers_at m t (snapshot_of c.args.tick s) =
     handles_from m c.args.tick (record s { agenda = agenda }) c.requires.taken.1.stands c.as_slice.result.now s.conditions.at_arrival.items s.conditions.after_handlers.items
     c.as_slice.ensures.value refl refl in
-    let calm : c.handle_changed_conditions-over.result ≡ None = not_some c.handle_changed_conditions-over.result (sym c.is_some.ensures ∙ c.if-is_some.false) in
-    let assigned = c.handle_changed_conditions-over.new.assigned.items in
-    let new : Values = c.handle_changed_conditions-over.new.work in
-    let handled : IsHandlerEffect m t s.lines.items s.moved.items c.handle_changed_conditions-over.new.moved.items assigned s.work new h =
-    subst (λ ls. IsHandlerEffect m t ls s.moved.items c.handle_changed_conditions-over.new.moved.items assigned s.work new h) c.as_slice.ensures.value (c.handle_changed_conditions-over.ensures.handled calm) in
+    let calm : overflow_of c.handle_changed_conditions.result ≡ None =
+    ap overflow_of c.in_ok-handle_changed_conditions.was in
+    let assigned = c.handle_changed_conditions.new.assigned.items in
+    let new : Values = c.handle_changed_conditions.new.work in
+    let handled : IsHandlerEffect m t s.lines.items s.moved.items c.handle_changed_conditions.new.moved.items assigned s.work new h =
+    subst (λ ls. IsHandlerEffect m t ls s.moved.items c.handle_changed_conditions.new.moved.items assigned s.work new h) c.as_slice.ensures.value (c.handle_changed_conditions.ensures.handled calm) in
     omega (
       arith,
       ap (λ (v : Values). length v.log) handled.values,
@@ -173,8 +182,8 @@ requantize_after_handlers-over-requires-clause-room g c =
       c.requires.taken.1.stands.fits.room.rows,
     )
 
-pub returns-then-is_some-2 : goal.returns-then-is_some-2
-returns-then-is_some-2 g c =
+pub returns-in_err-requantize_after_handlers : goal.returns-in_err-requantize_after_handlers
+returns-in_err-requantize_after_handlers g c =
     let m = c.args.m.now in
     let t = c.args.tick + 1 in
     let s : Store = c.args.s.now in
@@ -184,28 +193,34 @@ returns-then-is_some-2 g c =
     let is_h : h ≡ handlers_at m t (snapshot_of c.args.tick s) =
     handles_from m c.args.tick (record s { agenda = agenda }) taken.stands c.as_slice.result.now s.conditions.at_arrival.items s.conditions.after_handlers.items
     c.as_slice.ensures.value refl refl in
-    let calm : c.handle_changed_conditions-over.result ≡ None = not_some c.handle_changed_conditions-over.result (sym c.is_some.ensures ∙ c.if-is_some.false) in
-    let moved = c.handle_changed_conditions-over.new.moved.items in
-    let assigned = c.handle_changed_conditions-over.new.assigned.items in
-    let new : Values = c.handle_changed_conditions-over.new.work in
+    let calm : overflow_of c.handle_changed_conditions.result ≡ None =
+    ap overflow_of c.in_ok-handle_changed_conditions.was in
+    let moved = c.handle_changed_conditions.new.moved.items in
+    let assigned = c.handle_changed_conditions.new.assigned.items in
+    let new : Values = c.handle_changed_conditions.new.work in
     let handled : IsHandlerEffect m t s.lines.items s.moved.items moved assigned s.work new h =
-    subst (λ ls. IsHandlerEffect m t ls s.moved.items moved assigned s.work new h) c.as_slice.ensures.value (c.handle_changed_conditions-over.ensures.handled calm) in
-    let calm_h : h.overflow ≡ None = sym c.handle_changed_conditions-over.ensures.overflow ∙ calm in
+    subst (λ ls. IsHandlerEffect m t ls s.moved.items moved assigned s.work new h) c.as_slice.ensures.value (c.handle_changed_conditions.ensures.handled calm) in
+    let calm_h : h.overflow ≡ None = sym c.handle_changed_conditions.ensures.overflow ∙ calm in
     let of_d : new.d ≡ h.discretes = ap (λ (v : Values). v.d) handled.values in
-    let fresh : List ℤ = c.requantize_after_handlers-over.ensures.taken.0 in
+    let fresh : List ℤ = c.requantize_after_handlers.ensures.taken.0 in
     let to : AreMovedTo m c.as_slice-4.result.now new.x c.as_mut_slice.result.now h.states =
     subst (λ js. AreMovedTo m js new.x c.as_mut_slice.result.now h.states) (sym c.as_slice-4.ensures.value)
     (subst (λ l. AreMovedTo m moved new.x l h.states) (sym c.as_mut_slice.ensures.value) (moved_to m c.args.tick agenda s taken c.requires.in_time moved assigned new h handled)) in
     let allowed : AreNextLevels (IsAllowedLevel c.args.q.now.name) m h.states s.levels.items fresh =
-    subst (λ l. AreNextLevels (IsAllowedLevel c.args.q.now.name) m h.states l fresh) c.as_mut_slice.ensures.value (c.requantize_after_handlers-over.ensures.taken.1.allowed h.states to) in
-    let over : c.requantize_after_handlers-over.result ≡ option_or (first_exceeding 43 fresh) (position (exceeds_row_limits m fresh h.discretes) m.rows) =
-    c.requantize_after_handlers-over.ensures.taken.1.over_is ∙ ap (λ d. option_or (first_exceeding 43 fresh) (position (exceeds_row_limits m fresh d) m.rows)) of_d in
-    let some = sym c.is_some-2.ensures ∙ c.if-is_some-2.true in
+    subst (λ l. AreNextLevels (IsAllowedLevel c.args.q.now.name) m h.states l fresh) c.as_mut_slice.ensures.value (c.requantize_after_handlers.ensures.taken.1.allowed h.states to) in
+    let over : overflow_of c.requantize_after_handlers.result ≡ option_or (first_exceeding 43 fresh) (position (exceeds_row_limits m fresh h.discretes) m.rows) =
+    c.requantize_after_handlers.ensures.taken.1.over_is ∙ ap (λ d. option_or (first_exceeding 43 fresh) (position (exceeds_row_limits m fresh d) m.rows)) of_d in
+    let given : c.from_residual-in_err-requantize_after_handlers.result ≡ Err c.in_err-requantize_after_handlers.field-0.0 =
+    search rules in
+    let some : is_some (overflow_of c.from_residual-in_err-requantize_after_handlers.result) ≡ true =
+    ap is_some (ap overflow_of given) in
+    let same : overflow_of c.from_residual-in_err-requantize_after_handlers.result ≡ overflow_of c.requantize_after_handlers.result =
+    ap overflow_of given ∙ ap overflow_of (sym c.in_err-requantize_after_handlers.was) in
     record {
-      stepped = late (IsAllowedLevel c.args.q.now.name) m t (snapshot_of c.args.tick s) _ h fresh c.requantize_after_handlers-over.result some is_h calm_h allowed over;
-      rows = λ none. clash c.requantize_after_handlers-over.result some none;
-      stands = λ none. clash c.requantize_after_handlers-over.result some none;
-      room = c.requantize_after_handlers-over.ensures.room;
+      stepped = late (IsAllowedLevel c.args.q.now.name) m t (snapshot_of c.args.tick s) _ h fresh (overflow_of c.from_residual-in_err-requantize_after_handlers.result) some is_h calm_h allowed (same ∙ over);
+      rows = λ none. clash (overflow_of c.from_residual-in_err-requantize_after_handlers.result) some none;
+      stands = λ none. clash (overflow_of c.from_residual-in_err-requantize_after_handlers.result) some none;
+      room = c.requantize_after_handlers.ensures.room;
       counted = omega arith;
     }
 
@@ -220,46 +235,48 @@ continue_after_handlers-requires g c =
     let is_h : h ≡ handlers_at m t (snapshot_of c.args.tick s) =
     handles_from m c.args.tick (record s { agenda = agenda }) taken.stands c.as_slice.result.now s.conditions.at_arrival.items s.conditions.after_handlers.items
     c.as_slice.ensures.value refl refl in
-    let calm : c.handle_changed_conditions-over.result ≡ None = not_some c.handle_changed_conditions-over.result (sym c.is_some.ensures ∙ c.if-is_some.false) in
-    let moved = c.handle_changed_conditions-over.new.moved.items in
-    let assigned = c.handle_changed_conditions-over.new.assigned.items in
-    let new : Values = c.handle_changed_conditions-over.new.work in
+    let calm : overflow_of c.handle_changed_conditions.result ≡ None =
+    ap overflow_of c.in_ok-handle_changed_conditions.was in
+    let moved = c.handle_changed_conditions.new.moved.items in
+    let assigned = c.handle_changed_conditions.new.assigned.items in
+    let new : Values = c.handle_changed_conditions.new.work in
     let handled : IsHandlerEffect m t s.lines.items s.moved.items moved assigned s.work new h =
-    subst (λ ls. IsHandlerEffect m t ls s.moved.items moved assigned s.work new h) c.as_slice.ensures.value (c.handle_changed_conditions-over.ensures.handled calm) in
-    let calm_h : h.overflow ≡ None = sym c.handle_changed_conditions-over.ensures.overflow ∙ calm in
+    subst (λ ls. IsHandlerEffect m t ls s.moved.items moved assigned s.work new h) c.as_slice.ensures.value (c.handle_changed_conditions.ensures.handled calm) in
+    let calm_h : h.overflow ≡ None = sym c.handle_changed_conditions.ensures.overflow ∙ calm in
     let of_d : new.d ≡ h.discretes = ap (λ (v : Values). v.d) handled.values in
     let of_pre : new.pre ≡ s.work.d = ap (λ (v : Values). v.pre) handled.values in
-    let fresh : List ℤ = c.requantize_after_handlers-over.ensures.taken.0 in
+    let fresh : List ℤ = c.requantize_after_handlers.ensures.taken.0 in
     let to : AreMovedTo m c.as_slice-4.result.now new.x c.as_mut_slice.result.now h.states =
     subst (λ js. AreMovedTo m js new.x c.as_mut_slice.result.now h.states) (sym c.as_slice-4.ensures.value)
     (subst (λ l. AreMovedTo m moved new.x l h.states) (sym c.as_mut_slice.ensures.value) (moved_to m c.args.tick agenda s taken c.requires.in_time moved assigned new h handled)) in
     let allowed : AreNextLevels (IsAllowedLevel c.args.q.now.name) m h.states s.levels.items fresh =
-    subst (λ l. AreNextLevels (IsAllowedLevel c.args.q.now.name) m h.states l fresh) c.as_mut_slice.ensures.value (c.requantize_after_handlers-over.ensures.taken.1.allowed h.states to) in
-    let over : c.requantize_after_handlers-over.result ≡ option_or (first_exceeding 43 fresh) (position (exceeds_row_limits m fresh h.discretes) m.rows) =
-    c.requantize_after_handlers-over.ensures.taken.1.over_is ∙ ap (λ d. option_or (first_exceeding 43 fresh) (position (exceeds_row_limits m fresh d) m.rows)) of_d in
-    let fine : c.requantize_after_handlers-over.result ≡ None = not_some c.requantize_after_handlers-over.result (sym c.is_some-2.ensures ∙ c.if-is_some-2.false) in
+    subst (λ l. AreNextLevels (IsAllowedLevel c.args.q.now.name) m h.states l fresh) c.as_mut_slice.ensures.value (c.requantize_after_handlers.ensures.taken.1.allowed h.states to) in
+    let over : overflow_of c.requantize_after_handlers.result ≡ option_or (first_exceeding 43 fresh) (position (exceeds_row_limits m fresh h.discretes) m.rows) =
+    c.requantize_after_handlers.ensures.taken.1.over_is ∙ ap (λ d. option_or (first_exceeding 43 fresh) (position (exceeds_row_limits m fresh d) m.rows)) of_d in
+    let fine : overflow_of c.requantize_after_handlers.result ≡ None =
+    ap overflow_of c.in_ok-requantize_after_handlers.was in
     let none_both = both_none (first_exceeding 43 fresh) (position (exceeds_row_limits m fresh h.discretes) m.rows) (sym fine ∙ over) in
-    let levels : List ℤ = (with_items s.levels c.requantize_after_handlers-over.new.levels).items in
-    let of_levels : levels ≡ c.requantize_after_handlers-over.new.levels = with_items_is s.levels c.requantize_after_handlers-over.new.levels (c.requantize_after_handlers-over.auto.levels ∙ c.as_mut_slice.ensures.len) in
-    let are_fresh : levels ≡ fresh = of_levels ∙ c.requantize_after_handlers-over.ensures.taken.1.levels fine in
+    let levels : List ℤ = (with_items s.levels c.requantize_after_handlers.new.levels).items in
+    let of_levels : levels ≡ c.requantize_after_handlers.new.levels = with_items_is s.levels c.requantize_after_handlers.new.levels (c.requantize_after_handlers.auto.levels ∙ c.as_mut_slice.ensures.len) in
+    let are_fresh : levels ≡ fresh = of_levels ∙ c.requantize_after_handlers.ensures.taken.1.levels fine in
     let fits = taken.stands.fits in
     let off : DiffersOnlyAt moved s.levels.items levels =
     subst (λ l. DiffersOnlyAt moved s.levels.items l) (sym are_fresh)
-    (subst (λ l. DiffersOnlyAt moved l fresh) c.as_mut_slice.ensures.value (subst (λ js. DiffersOnlyAt js c.as_mut_slice.result.now fresh) c.as_slice-4.ensures.value c.requantize_after_handlers-over.ensures.taken.1.others)) in
+    (subst (λ l. DiffersOnlyAt moved l fresh) c.as_mut_slice.ensures.value (subst (λ js. DiffersOnlyAt js c.as_mut_slice.result.now fresh) c.as_slice-4.ensures.value c.requantize_after_handlers.ensures.taken.1.others)) in
     let allowed_now : AreNextLevels (IsAllowedLevel c.args.q.now.name) m h.states s.levels.items levels =
     subst (λ l. AreNextLevels (IsAllowedLevel c.args.q.now.name) m h.states s.levels.items l) (sym are_fresh) allowed in
-    let after = c.handle_changed_conditions-over.new.agenda in
-    let without = c.handle_changed_conditions-over.ensures.without calm in
+    let after = c.handle_changed_conditions.new.agenda in
+    let without = c.handle_changed_conditions.ensures.without calm in
     let w : Snapshot = snapshot_of c.args.tick s in
     let of_log = ap (λ (v : Values). v.log) handled.values in
     record {
       fits = record {
-        own_conditions = c.handle_changed_conditions-over.ensures.fits calm;
+        own_conditions = c.handle_changed_conditions.ensures.fits calm;
         uses = fits.uses;
         lines = fits.lines;
-        levels = same_length s.levels c.requantize_after_handlers-over.new.levels ∙ fits.levels;
+        levels = same_length s.levels c.requantize_after_handlers.new.levels ∙ fits.levels;
         slopes = fits.slopes;
-        weights = (c.requantize_after_handlers-over.ensures.weights fine).as_many;
+        weights = (c.requantize_after_handlers.ensures.weights fine).as_many;
         places = without.as_many ∙ taken.without.as_many ∙ fits.places;
         values = record {
           states = handled.fits.states;
@@ -269,13 +286,13 @@ continue_after_handlers-requires g c =
         };
         before = handled.fits.before;
         room = record {
-          moved = omega (arith, c.handle_changed_conditions-over.ensures.moved_room, fits.room.moved);
+          moved = omega (arith, c.handle_changed_conditions.ensures.moved_room, fits.room.moved);
           touched = fits.room.touched;
           changed = fits.room.changed;
-          fired = omega (arith, c.handle_changed_conditions-over.ensures.fired_room, fits.room.fired);
-          assigned = omega (arith, c.handle_changed_conditions-over.ensures.assigned_room, fits.room.assigned);
+          fired = omega (arith, c.handle_changed_conditions.ensures.fired_room, fits.room.fired);
+          assigned = omega (arith, c.handle_changed_conditions.ensures.assigned_room, fits.room.assigned);
           log = omega (arith, ap (λ (v : Values). v.room) handled.values, fits.room.log);
-          rows = omega (arith, c.requantize_after_handlers-over.ensures.room, fits.room.rows);
+          rows = omega (arith, c.requantize_after_handlers.ensures.room, fits.room.rows);
         };
       };
       in_time = omega (arith, c.requires.in_time, m.has_units.last_tick);
@@ -293,24 +310,24 @@ continue_after_handlers-requires g c =
       };
       after_handlers = record {
         numbers = taken.changing.numbers;
-        alike = subst (λ (cs : List ℕ). AreAlikeBut cs c.handle_changed_conditions-over.new.self.at_arrival.items c.handle_changed_conditions-over.new.self.after_handlers.items) c.as_slice-2.ensures.value (c.handle_changed_conditions-over.ensures.alike calm);
+        alike = subst (λ (cs : List ℕ). AreAlikeBut cs c.handle_changed_conditions.new.self.at_arrival.items c.handle_changed_conditions.new.self.after_handlers.items) c.as_slice-2.ensures.value (c.handle_changed_conditions.ensures.alike calm);
         others = λ place inside none. record {
-          watched = subst (λ (all : Conditions). IsDetectorAt m t (states_at s.lines.items t) new.pre s.slopes.items place (detector_at all.detectors.items place) (due_at after (state_count m + place))) (sym c.handle_changed_conditions-over.ensures.rest)
+          watched = subst (λ (all : Conditions). IsDetectorAt m t (states_at s.lines.items t) new.pre s.slopes.items place (detector_at all.detectors.items place) (due_at after (state_count m + place))) (sym c.handle_changed_conditions.ensures.rest)
               (subst (λ p. IsDetectorAt m t (states_at s.lines.items t) p s.slopes.items place (detector_at s.conditions.detectors.items place) (due_at after (state_count m + place))) (sym of_pre)
               (subst (λ found. IsDetectorAt m t (states_at s.lines.items t) s.work.d s.slopes.items place (detector_at s.conditions.detectors.items place) found)
               (sym (conditions_stay m c.args.tick agenda s taken c.requires.in_time moved assigned new h handled after without place))
               (watched_still m c.args.tick agenda s taken c.requires.in_time place inside none)));
-          own_truth = ap (λ (all : Conditions). flag_at all.after_handlers.items place) c.handle_changed_conditions-over.ensures.rest
+          own_truth = ap (λ (all : Conditions). flag_at all.after_handlers.items place) c.handle_changed_conditions.ensures.rest
               ∙ sym (flag_same m c.args.tick agenda s taken c.requires.in_time place inside none)
               ∙ ap (λ p. truth m (condition_at m place) (states_at s.lines.items t) p t) (sym of_pre);
         };
       };
-      small_levels = subst (All (IsWithin 43)) (sym of_levels) (c.requantize_after_handlers-over.ensures.size_limit fine);
+      small_levels = subst (All (IsWithin 43)) (sym of_levels) (c.requantize_after_handlers.ensures.size_limit fine);
       levels = record {
         near = near_after m c.args.tick agenda s taken c.requires.in_time moved assigned new h handled c.args.q.now.name levels allowed_now;
         light = ap (λ l. position (exceeds_row_limits m l new.d) m.rows) are_fresh ∙ ap (λ d. position (exceeds_row_limits m fresh d) m.rows) of_d ∙ none_both.1;
       };
-      weights = subst (λ l. AreWeights m l new.d c.requantize_after_handlers-over.new.weights) (sym of_levels) (c.requantize_after_handlers-over.ensures.weights fine);
+      weights = subst (λ l. AreWeights m l new.d c.requantize_after_handlers.new.weights) (sym of_levels) (c.requantize_after_handlers.ensures.weights fine);
       held = record {
         may_move = may_move (lines_then m c.args.tick agenda s taken c.requires.in_time
             (ap (λ ls. first_exceeding 88 (states_at ls t)) (sym c.as_slice.ensures.value)
@@ -336,36 +353,38 @@ returns g c =
     let is_h : h ≡ handlers_at m t (snapshot_of c.args.tick s) =
     handles_from m c.args.tick (record s { agenda = agenda }) taken.stands c.as_slice.result.now s.conditions.at_arrival.items s.conditions.after_handlers.items
     c.as_slice.ensures.value refl refl in
-    let calm : c.handle_changed_conditions-over.result ≡ None = not_some c.handle_changed_conditions-over.result (sym c.is_some.ensures ∙ c.if-is_some.false) in
-    let moved = c.handle_changed_conditions-over.new.moved.items in
-    let assigned = c.handle_changed_conditions-over.new.assigned.items in
-    let new : Values = c.handle_changed_conditions-over.new.work in
+    let calm : overflow_of c.handle_changed_conditions.result ≡ None =
+    ap overflow_of c.in_ok-handle_changed_conditions.was in
+    let moved = c.handle_changed_conditions.new.moved.items in
+    let assigned = c.handle_changed_conditions.new.assigned.items in
+    let new : Values = c.handle_changed_conditions.new.work in
     let handled : IsHandlerEffect m t s.lines.items s.moved.items moved assigned s.work new h =
-    subst (λ ls. IsHandlerEffect m t ls s.moved.items moved assigned s.work new h) c.as_slice.ensures.value (c.handle_changed_conditions-over.ensures.handled calm) in
-    let calm_h : h.overflow ≡ None = sym c.handle_changed_conditions-over.ensures.overflow ∙ calm in
+    subst (λ ls. IsHandlerEffect m t ls s.moved.items moved assigned s.work new h) c.as_slice.ensures.value (c.handle_changed_conditions.ensures.handled calm) in
+    let calm_h : h.overflow ≡ None = sym c.handle_changed_conditions.ensures.overflow ∙ calm in
     let of_d : new.d ≡ h.discretes = ap (λ (v : Values). v.d) handled.values in
-    let fresh : List ℤ = c.requantize_after_handlers-over.ensures.taken.0 in
+    let fresh : List ℤ = c.requantize_after_handlers.ensures.taken.0 in
     let to : AreMovedTo m c.as_slice-4.result.now new.x c.as_mut_slice.result.now h.states =
     subst (λ js. AreMovedTo m js new.x c.as_mut_slice.result.now h.states) (sym c.as_slice-4.ensures.value)
     (subst (λ l. AreMovedTo m moved new.x l h.states) (sym c.as_mut_slice.ensures.value) (moved_to m c.args.tick agenda s taken c.requires.in_time moved assigned new h handled)) in
     let allowed : AreNextLevels (IsAllowedLevel c.args.q.now.name) m h.states s.levels.items fresh =
-    subst (λ l. AreNextLevels (IsAllowedLevel c.args.q.now.name) m h.states l fresh) c.as_mut_slice.ensures.value (c.requantize_after_handlers-over.ensures.taken.1.allowed h.states to) in
-    let over : c.requantize_after_handlers-over.result ≡ option_or (first_exceeding 43 fresh) (position (exceeds_row_limits m fresh h.discretes) m.rows) =
-    c.requantize_after_handlers-over.ensures.taken.1.over_is ∙ ap (λ d. option_or (first_exceeding 43 fresh) (position (exceeds_row_limits m fresh d) m.rows)) of_d in
-    let fine : c.requantize_after_handlers-over.result ≡ None = not_some c.requantize_after_handlers-over.result (sym c.is_some-2.ensures ∙ c.if-is_some-2.false) in
+    subst (λ l. AreNextLevels (IsAllowedLevel c.args.q.now.name) m h.states l fresh) c.as_mut_slice.ensures.value (c.requantize_after_handlers.ensures.taken.1.allowed h.states to) in
+    let over : overflow_of c.requantize_after_handlers.result ≡ option_or (first_exceeding 43 fresh) (position (exceeds_row_limits m fresh h.discretes) m.rows) =
+    c.requantize_after_handlers.ensures.taken.1.over_is ∙ ap (λ d. option_or (first_exceeding 43 fresh) (position (exceeds_row_limits m fresh d) m.rows)) of_d in
+    let fine : overflow_of c.requantize_after_handlers.result ≡ None =
+    ap overflow_of c.in_ok-requantize_after_handlers.was in
     let none_both = both_none (first_exceeding 43 fresh) (position (exceeds_row_limits m fresh h.discretes) m.rows) (sym fine ∙ over) in
-    let levels : List ℤ = (with_items s.levels c.requantize_after_handlers-over.new.levels).items in
-    let of_levels : levels ≡ c.requantize_after_handlers-over.new.levels = with_items_is s.levels c.requantize_after_handlers-over.new.levels (c.requantize_after_handlers-over.auto.levels ∙ c.as_mut_slice.ensures.len) in
-    let are_fresh : levels ≡ fresh = of_levels ∙ c.requantize_after_handlers-over.ensures.taken.1.levels fine in
+    let levels : List ℤ = (with_items s.levels c.requantize_after_handlers.new.levels).items in
+    let of_levels : levels ≡ c.requantize_after_handlers.new.levels = with_items_is s.levels c.requantize_after_handlers.new.levels (c.requantize_after_handlers.auto.levels ∙ c.as_mut_slice.ensures.len) in
+    let are_fresh : levels ≡ fresh = of_levels ∙ c.requantize_after_handlers.ensures.taken.1.levels fine in
     let fits = taken.stands.fits in
     let w : Snapshot = snapshot_of c.args.tick s in
     let next : Snapshot = snapshot_of t c.continue_after_handlers.new.s in
     let x : List ℤ = states_with s.lines.items t moved new.x in
     let of_x : x ≡ h.states = sym handled.own_states in
-    let at_arrival : List Bool = c.handle_changed_conditions-over.new.self.at_arrival.items in
+    let at_arrival : List Bool = c.handle_changed_conditions.new.self.at_arrival.items in
     let files_read : states_at s.lines.items t ≡ moved_states m w = arrives m c.args.tick (record s { agenda = agenda }) taken.stands in
     let of_arrived : at_arrival ≡ truths m (moved_states m w) s.work.d t =
-    c.handle_changed_conditions-over.ensures.at_arrival calm
+    c.handle_changed_conditions.ensures.at_arrival calm
     ∙ ap (λ ls. truths m (states_at ls t) s.work.d t) c.as_slice.ensures.value
     ∙ ap (λ y. truths m y s.work.d t) files_read in
     let snapshot : next ≡ record { states = x; levels = levels; discretes = new.d; at_arrival = at_arrival; after_handlers = truths m x new.d t } = c.continue_after_handlers.ensures.snapshot in
@@ -378,7 +397,7 @@ returns g c =
     let next_states : next.states ≡ h.states = ap (λ (v : Snapshot). v.states) end in
     let slopes : List ℤ = tabulate (state_count m) (λ j. slope_at m j levels new.d) in
     let touched : replaced_lines_from (state_count m) t x next.levels slopes s.lines.items ≤ touches_at m t w (Ok next) =
-    renewals_from_touched m t w next taken.stands.stands_for.left.one_each (ap length next_levels ∙ same_length s.levels c.requantize_after_handlers-over.new.levels ∙ fits.levels)
+    renewals_from_touched m t w next taken.stands.stands_for.left.one_each (ap length next_levels ∙ same_length s.levels c.requantize_after_handlers.new.levels ∙ fits.levels)
     fits.values.discretes (ap length next_discretes ∙ handled.fits.discretes) s.lines.items slopes
     (λ j inside. (taken.stands.stands_for.lines j inside).own_level) (λ j inside. (taken.stands.stands_for.lines j inside).own_slope)
     (ap (λ l. tabulate (state_count m) (λ j. slope_at m j l new.d)) (sym next_levels) ∙ ap (λ d. tabulate (state_count m) (λ j. slope_at m j next.levels d)) (sym next_discretes))
@@ -392,12 +411,12 @@ returns g c =
       stepped = steps_to (IsAllowedLevel c.args.q.now.name) m t w next h fresh is_h calm_h allowed (sym fine ∙ over) end;
       rows = λ none.
           ap (λ v. v.items) c.continue_after_handlers.ensures.rows
-          ∙ c.requantize_after_handlers-over.ensures.rows fine h.states to
-          ∙ ap (λ r. r ++ level_rows t c.as_mut_slice.result.now c.requantize_after_handlers-over.new.levels h.states) (ap (λ (v : Values). v.log) handled.values ∙ ap (λ (k : HandlerState). k.rows) is_h)
-          ∙ ap (λ l. (handlers_at m t w).rows ++ level_rows t l c.requantize_after_handlers-over.new.levels h.states) c.as_mut_slice.ensures.value
+          ∙ c.requantize_after_handlers.ensures.rows fine h.states to
+          ∙ ap (λ r. r ++ level_rows t c.as_mut_slice.result.now c.requantize_after_handlers.new.levels h.states) (ap (λ (v : Values). v.log) handled.values ∙ ap (λ (k : HandlerState). k.rows) is_h)
+          ∙ ap (λ l. (handlers_at m t w).rows ++ level_rows t l c.requantize_after_handlers.new.levels h.states) c.as_mut_slice.ensures.value
           ∙ ap (λ l. (handlers_at m t w).rows ++ level_rows t s.levels.items l h.states) (sym (next_levels ∙ of_levels))
           ∙ ap (λ y. (handlers_at m t w).rows ++ level_rows t s.levels.items next.levels y) (sym next_states);
       stands = λ none. c.continue_after_handlers.ensures.stands;
-      room = ap (λ v. vec_capacity v) c.continue_after_handlers.ensures.rows ∙ c.requantize_after_handlers-over.ensures.room;
+      room = ap (λ v. vec_capacity v) c.continue_after_handlers.ensures.rows ∙ c.requantize_after_handlers.ensures.room;
       counted = omega (arith, counted, touched);
     }

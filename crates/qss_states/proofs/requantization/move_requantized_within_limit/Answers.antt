@@ -13,8 +13,8 @@ returns c =
     let over : c.move_requantized_states.result ≡ first_exceeding 88 (states_at c.args.lines.now c.args.tick) =
     past_on_arrival c.args.tick c.args.lines.now c.args.moved.now c.requires.numbers c.move_requantized_states.result c.requires.others_small c.move_requantized_states.ensures.first in
     record {
-      over_is = over;
+      over_is = c.error_if_found.ensures ∙ over;
       at_arrival = c.move_requantized_states.ensures.arrived;
       small = λ none.
-          arrived_within c.args.tick c.args.lines.now c.args.moved.now c.requires.numbers c.args.x.now c.move_requantized_states.new.x c.move_requantized_states.ensures.arrived c.requires.small (sym over ∙ none);
+          arrived_within c.args.tick c.args.lines.now c.args.moved.now c.requires.numbers c.args.x.now c.move_requantized_states.new.x c.move_requantized_states.ensures.arrived c.requires.small (sym over ∙ sym c.error_if_found.ensures ∙ none);
     }

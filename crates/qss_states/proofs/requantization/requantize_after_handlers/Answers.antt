@@ -1,23 +1,25 @@
 -- The absolute row sums are those at the levels before.
-use Rattle.std.proofs.Common.{◌≡◌, ℕ, List, length, ℤ, pos, sym, ◌∙◌, ap, subst, arith, rules}
+use Rattle.std.proofs.Common.{◌≡◌, true, ℕ, List, length, ℤ, pos, sym, ◌∙◌, ap, subst, arith, rules}
 use Rattle.std.specs.List.{position}
-use Rattle.std.specs.Prelude.{None, All}
+use Rattle.std.specs.Prelude.{None, All, Err, is_some}
 use Rattle.mu_num.specs.Sizes.{IsWithin}
+use Rattle.qss_hand.specs.declared.handler_statements.Over.{Over}
 use Rattle.qss_hand.specs.Values.{Values}
+use Rattle.qss_hand.specs.Works.{overflow_of}
 use Rattle.qss_machine.specs.Machines.{state_count}
 use Rattle.mu_num.specs.IndexedSums.{int_at, first_exceeding}
 use Rattle.qss_machine.specs.Ticks.{exceeds_row_limits}
 use Rattle.qss_states.specs.Variables.{AreAssignedFrom}
 use Rattle.qss_states.specs.EventContexts.{AreMovedTo}
 use Rattle.mu_num.specs.ListedPlaces.{DiffersOnlyAt}
-use Rattle.qss_events.proofs.Overs.{not_some, clash}
+use Rattle.qss_events.proofs.Overs.{clash}
 use Rattle.qss_states.specs.KeptWeights.{AreWeights}
 use Rattle.qss_states.proofs.DueLevels.{moved_inside}
 use Rattle.qss_states.proofs.FirstOvers.{over_first, over_second}
 use Rattle.qss_states.proofs.requantization.requantize_after_handlers.Goals as goal
 
-pub requantize_states-over-requires : goal.requantize_states-over-requires
-requantize_states-over-requires g c =
+pub requantize_states-requires : goal.requantize_states-requires
+requantize_states-requires g c =
     let fits = c.requires.ready.fits in
     let n : ℕ = state_count c.args.at.now.machine.now in
     let moved : List ℕ = c.args.at.now.moved.now in
@@ -43,8 +45,8 @@ update_weights_after_handlers-requires-clause-allowed g c =
       new = record {
         uses = c.requires.ready.uses;
         moved = c.requires.ready.moved;
-        levels = c.requantize_states-over.auto.levels ∙ c.requires.held.levels;
-        small_levels = c.requantize_states-over.ensures.size_limit (not_some c.requantize_states-over.result (sym c.is_some.ensures ∙ c.if-is_some.false));
+        levels = c.requantize_states.auto.levels ∙ c.requires.held.levels;
+        small_levels = c.requantize_states.ensures.size_limit (ap overflow_of c.in_ok-requantize_states.was);
       };
       handled = record {
         assigned = subst (AreAssignedFrom c.args.at.now.machine.now c.args.at.now.assigned.now c.as_slice-pre.result.now) (sym of_d)
@@ -64,12 +66,12 @@ pub update_weights_after_handlers-requires-clause-before : goal.update_weights_a
 update_weights_after_handlers-requires-clause-before g c =
     let m = c.args.at.now.machine.now in
     let old : List ℤ = c.args.levels.now in
-    let none : c.requantize_states-over.result ≡ None = not_some c.requantize_states-over.result (sym c.is_some.ensures ∙ c.if-is_some.false) in
+    let none : overflow_of c.requantize_states.result ≡ None = ap overflow_of c.in_ok-requantize_states.was in
     let pre : c.as_slice-pre.result.now ≡ c.args.at.now.work.now.pre = c.as_slice-pre.ensures.value ∙ ap (λ (v : Values). v.pre) c.work.view_is in (
       old,
       record {
         levels = record {
-          off = subst (DiffersOnlyAt c.args.at.now.moved.now old) (sym (c.requantize_states-over.ensures.taken.1.levels none)) c.requantize_states-over.ensures.taken.1.others;
+          off = subst (DiffersOnlyAt c.args.at.now.moved.now old) (sym (c.requantize_states.ensures.taken.1.levels none)) c.requantize_states.ensures.taken.1.others;
           of_lines = record {
             small = c.requires.held.of_lines.small;
             light = subst (λ (d : List ℤ). position (exceeds_row_limits m old d) m.rows ≡ None) (sym pre) c.requires.held.of_lines.light;
@@ -80,36 +82,57 @@ update_weights_after_handlers-requires-clause-before g c =
       },
     )
 
-pub returns-then-is_some-clause-taken : goal.returns-then-is_some-clause-taken
-returns-then-is_some-clause-taken g c =
+pub returns-in_err-requantize_states-clause-taken : goal.returns-in_err-requantize_states-clause-taken
+returns-in_err-requantize_states-clause-taken g c =
     let m = c.args.at.now.machine.now in
     let x : c.as_slice-x.result.now ≡ c.args.at.now.work.now.x = c.as_slice-x.ensures.value ∙ ap (λ (v : Values). v.x) c.work.view_is in
-    let some = sym c.is_some.ensures ∙ c.if-is_some.true in
-    let taken = c.requantize_states-over.ensures.taken in (
+    let over : Over = c.in_err-requantize_states.field-0.0 in
+    let given : c.from_residual.result ≡ Err over = search rules in
+    let some : is_some (overflow_of c.from_residual.result) ≡ true = ap is_some (ap overflow_of given) in
+    let taken = c.requantize_states.ensures.taken in (
       taken.0,
       record {
-        over_is = over_first c.requantize_states-over.result (first_exceeding 43 taken.0) (position (exceeds_row_limits m taken.0 c.args.at.now.work.now.d) m.rows) some taken.1.over_is;
+        over_is = over_first (overflow_of c.from_residual.result) (first_exceeding 43 taken.0) (position (exceeds_row_limits m taken.0 c.args.at.now.work.now.d) m.rows) some
+            (ap overflow_of given ∙ ap overflow_of (sym c.in_err-requantize_states.was) ∙ taken.1.over_is);
         allowed = λ states are. taken.1.allowed states (subst (λ (xs : List ℤ). AreMovedTo m c.args.at.now.moved.now xs c.args.levels.now states) (sym x) are);
         others = taken.1.others;
-        levels = λ none. clash c.requantize_states-over.result some none;
+        levels = λ none. clash (overflow_of c.from_residual.result) some none;
       },
     )
+
+pub returns-in_err-requantize_states-clause-size_limit : goal.returns-in_err-requantize_states-clause-size_limit
+returns-in_err-requantize_states-clause-size_limit g c none =
+    let given : c.from_residual.result ≡ Err c.in_err-requantize_states.field-0.0 = search rules in
+    clash (overflow_of c.from_residual.result) (ap is_some (ap overflow_of given)) none
+
+pub returns-in_err-requantize_states-clause-weights : goal.returns-in_err-requantize_states-clause-weights
+returns-in_err-requantize_states-clause-weights g c none =
+    let given : c.from_residual.result ≡ Err c.in_err-requantize_states.field-0.0 = search rules in
+    clash (overflow_of c.from_residual.result) (ap is_some (ap overflow_of given)) none
+
+pub returns-in_err-requantize_states-clause-rows : goal.returns-in_err-requantize_states-clause-rows
+returns-in_err-requantize_states-clause-rows g c none =
+    let given : c.from_residual.result ≡ Err c.in_err-requantize_states.field-0.0 = search rules in
+    clash (overflow_of c.from_residual.result) (ap is_some (ap overflow_of given)) none
+
+pub returns-clause-size_limit : goal.returns-clause-size_limit
+returns-clause-size_limit g c none = c.requantize_states.ensures.size_limit (ap overflow_of c.in_ok-requantize_states.was)
 
 pub returns-clause-taken : goal.returns-clause-taken
 returns-clause-taken g c =
     let m = c.args.at.now.machine.now in
     let x : c.as_slice-x.result.now ≡ c.args.at.now.work.now.x = c.as_slice-x.ensures.value ∙ ap (λ (v : Values). v.x) c.work.view_is in
     let of_d : c.as_slice-d.result.now ≡ c.args.at.now.work.now.d = c.as_slice-d.ensures.value ∙ ap (λ (v : Values). v.d) c.work.view_is in
-    let none : c.requantize_states-over.result ≡ None = not_some c.requantize_states-over.result (sym c.is_some.ensures ∙ c.if-is_some.false) in
-    let taken = c.requantize_states-over.ensures.taken in
+    let none : overflow_of c.requantize_states.result ≡ None = ap overflow_of c.in_ok-requantize_states.was in
+    let taken = c.requantize_states.ensures.taken in
     let new : List ℤ = taken.0 in
-    let weighed : c.update_weights_after_handlers.result ≡ position (exceeds_row_limits m new c.args.at.now.work.now.d) m.rows =
+    let weighed : overflow_of c.update_weights_after_handlers.result ≡ position (exceeds_row_limits m new c.args.at.now.work.now.d) m.rows =
     c.update_weights_after_handlers.ensures.overflow
     ∙ ap (λ (l : List ℤ). position (exceeds_row_limits m l c.as_slice-d.result.now) m.rows) (taken.1.levels none)
     ∙ ap (λ (d : List ℤ). position (exceeds_row_limits m new d) m.rows) of_d in (
       new,
       record {
-        over_is = over_second c.update_weights_after_handlers.result (first_exceeding 43 new) (position (exceeds_row_limits m new c.args.at.now.work.now.d) m.rows) (sym taken.1.over_is ∙ none) weighed;
+        over_is = over_second (overflow_of c.update_weights_after_handlers.result) (first_exceeding 43 new) (position (exceeds_row_limits m new c.args.at.now.work.now.d) m.rows) (sym taken.1.over_is ∙ none) weighed;
         allowed = λ states are. taken.1.allowed states (subst (λ (xs : List ℤ). AreMovedTo m c.args.at.now.moved.now xs c.args.levels.now states) (sym x) are);
         others = taken.1.others;
         levels = λ calm. taken.1.levels none;

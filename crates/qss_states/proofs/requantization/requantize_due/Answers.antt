@@ -1,19 +1,25 @@
 -- A state that exceeded its limit on arrival, or one whose level does.
-use Rattle.std.proofs.Common.{◌++◌, List, ◌∙◌, ap}
+use Rattle.std.proofs.Common.{ℕ, ℤ, ◌++◌, List, sym, ◌∙◌, ap, subst}
+use Rattle.std.specs.Prelude.{Option}
+use Rattle.mu_num.specs.IndexedSums.{first_exceeding}
 use Rattle.qss_machine.specs.declared.machine_parts.Row.{Row}
 use Rattle.qss_machine.specs.Runs.{level_rows}
+use Rattle.qss_states.specs.LevelChanges.{AreRequantizedOnArrival}
 use Rattle.qss_states.specs.StateLines.{states_at}
 use Rattle.qss_states.proofs.Taken.{on_arrival, small_then, rows_then}
 use Rattle.qss_states.proofs.requantization.requantize_due.Goals as goal
 
 pub returns-clause-taken : goal.returns-clause-taken
 returns-clause-taken g c =
-    on_arrival c.args.at.now c.args.q.now.name c.args.levels.now c.requantize_on_arrival.new.levels _ c.requantize_on_arrival.new.rows.items c.requantize_on_arrival.result c.requires.ready c.requantize_on_arrival.ensures.passed
-    c.requantize_on_arrival.ensures.taken
+    subst (λ (found : Option ℕ). (new : List ℤ) × AreRequantizedOnArrival c.args.at.now c.args.q.now.name c.args.levels.now c.requantize_on_arrival.new.levels new (first_exceeding 43 new) found)
+    (sym c.error_if_found.ensures)
+    (on_arrival c.args.at.now c.args.q.now.name c.args.levels.now c.requantize_on_arrival.new.levels _ c.requantize_on_arrival.new.rows.items c.requantize_on_arrival.result c.requires.ready c.requantize_on_arrival.ensures.passed
+    c.requantize_on_arrival.ensures.taken)
 
 pub returns-clause-kept : goal.returns-clause-kept
-returns-clause-kept g c none =
+returns-clause-kept g c calm =
     let at = c.args.at.now in
+    let none = sym c.error_if_found.ensures ∙ calm in
     record {
       small = small_then at c.args.q.now.name c.args.levels.now c.requantize_on_arrival.new.levels _ c.requantize_on_arrival.new.rows.items c.requantize_on_arrival.result c.requires.ready c.requantize_on_arrival.ensures.passed
           c.requantize_on_arrival.ensures.taken none;

@@ -1,7 +1,8 @@
 -- What the moved states do is what all states do.
 use Rattle.std.proofs.Common.{◌≡◌, ◌++◌, List, ℤ, refl, sym, ◌∙◌, ap, subst}
-use Rattle.std.specs.Prelude.{All}
+use Rattle.std.specs.Prelude.{None, All}
 use Rattle.mu_num.specs.Sizes.{IsWithin}
+use Rattle.qss_hand.specs.Works.{overflow_of}
 use Rattle.qss_machine.specs.declared.machine_parts.Row.{Row}
 use Rattle.mu_num.specs.IndexedSums.{first_exceeding}
 use Rattle.qss_machine.specs.Runs.{level_rows}
@@ -22,20 +23,21 @@ returns g c =
     let done = c.requantize_due_levels.ensures.taken.1 in
     let off : DiffersOnlyAt moved old new = written_off moved _ old old new refl done.allowed in
     let over : c.requantize_due_levels.result ≡ first_exceeding 43 new = levels_over m moved x old new c.requires.moved c.requires.levels off c.requantize_due_levels.result c.requires.small_levels done.found in
+    let found = λ (none : overflow_of c.error_if_found.result ≡ None). sym c.error_if_found.ensures ∙ none in
     record {
       taken = (
         new,
         record {
-          over_is = over;
+          over_is = c.error_if_found.ensures ∙ over;
           allowed = λ states are. levels_allowed m moved x old new c.requires.moved c.requires.levels off states are (IsAllowedLevel c.args.q.now.name) done.allowed.each;
           others = off;
-          levels = done.levels;
+          levels = λ none. done.levels (found none);
         },
       );
-      size_limit = λ none. subst (All (IsWithin 43)) (sym (done.levels none)) (all_within 43 new (sym over ∙ none));
+      size_limit = λ none. subst (All (IsWithin 43)) (sym (done.levels (found none))) (all_within 43 new (sym over ∙ found none));
       rows = λ none states are.
-          done.own_rows none
+          done.own_rows (found none)
           ∙ ap (λ (more : List Row). c.args.rows.now.items ++ more)
-          (rows_of_moved m moved x old new c.requires.moved c.requires.levels off states are tick ∙ ap (λ (l : List ℤ). level_rows tick old l states) (sym (done.levels none)));
+          (rows_of_moved m moved x old new c.requires.moved c.requires.levels off states are tick ∙ ap (λ (l : List ℤ). level_rows tick old l states) (sym (done.levels (found none))));
       room = c.requantize_due_levels.ensures.room;
     }

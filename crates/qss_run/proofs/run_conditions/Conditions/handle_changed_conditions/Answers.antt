@@ -1,8 +1,8 @@
 -- The branches of the conditions that hold on arrival, and did not both before, are those that are due.
 use Rattle.std.proofs.Common.{◌≡◌, ◌<◌, ◌||◌, true, ℕ, List, length, ℤ, pos, sym, ap, ◌∙◌, subst}
-use Rattle.std.proofs.Common.{arith}
+use Rattle.std.proofs.Common.{arith, rules}
 use Rattle.std.proofs.lemmas.List.{with_items_is}
-use Rattle.std.specs.Prelude.{None, All}
+use Rattle.std.specs.Prelude.{None, All, Result, Err, is_some}
 use Rattle.std.specs.Vec.{with_items}
 use Rattle.mu_num.specs.Sizes.{IsWithin}
 use Rattle.qss_machine.specs.declared.machine_parts.Row.{Row}
@@ -13,6 +13,8 @@ use Rattle.mu_num.specs.IndexedSums.{first_exceeding}
 use Rattle.qss_quant.specs.IntegratorLines.{state_at}
 use Rattle.qss_cross.specs.Crossing.{holds_at}
 use Rattle.qss_hand.specs.Values.{Values}
+use Rattle.qss_hand.specs.declared.handler_statements.Over.{Over}
+use Rattle.qss_hand.specs.Works.{overflow_of}
 use Rattle.qss_run.specs.declared.run_conditions.Conditions.{Conditions}
 use Rattle.qss_run.specs.HandlerResults.{handling_of_fired, is_reinitialized, IsHandlerEffect}
 use Rattle.qss_run.specs.HandlerResults.{handling_from}
@@ -21,7 +23,7 @@ use Rattle.qss_run.specs.ConditionPlaces.{AreBranches, detector_at}
 use Rattle.qss_states.specs.StateLines.{line_at, states_at}
 use Rattle.qss_sched.specs.PlaceSets.{PlaceList}
 use Rattle.mu_num.specs.Writes.{IsWritten}
-use Rattle.qss_events.proofs.Overs.{all_within, not_some}
+use Rattle.qss_events.proofs.Overs.{all_within, clash}
 use Rattle.qss_run.proofs.Arrivals.{may_be_read, fired_numbers, read_on_arrival, read_handling}
 use Rattle.qss_run.proofs.Arrivals.{rows_fired, known_states, is_handled}
 use Rattle.qss_run.proofs.Handled.{over_early}
@@ -29,8 +31,12 @@ use Rattle.qss_run.proofs.OwnConditions.{arrived_anew}
 use Rattle.mu_num.proofs.InPlace.{same_length}
 use Rattle.qss_run.proofs.run_conditions.Conditions.handle_changed_conditions.Goals as goal
 
-pub move_due_handler_states-passed-requires : goal.move_due_handler_states-passed-requires
-move_due_handler_states-passed-requires c =
+-- After an error, nothing has to be shown for the case without an overflow.
+unless_over : {A T : Type 0} (result : Result T Over) (over : Over) → result ≡ Err over → overflow_of result ≡ None → A
+unless_over result over given none = clash (overflow_of result) (ap is_some (ap overflow_of given)) none
+
+pub move_due_handler_states-requires : goal.move_due_handler_states-requires
+move_due_handler_states-requires c =
     let lines = c.requires.ready.lines in
     let values = c.requires.ready.values in
     record {
@@ -43,16 +49,43 @@ move_due_handler_states-passed-requires c =
       small = values.small_states;
     }
 
-pub returns-then-is_some-clause-overflow : goal.returns-then-is_some-clause-overflow
-returns-then-is_some-clause-overflow c =
+pub returns-in_err-move_due_handler_states-clause-overflow : goal.returns-in_err-move_due_handler_states-clause-overflow
+returns-in_err-move_due_handler_states-clause-overflow c =
     let all : Conditions = c.args.self.now in
+    let given : c.from_residual.result ≡ Err c.in_err-move_due_handler_states.field-0.0 =
+    search rules in
+    let over : overflow_of c.from_residual.result ≡ overflow_of c.move_due_handler_states.result = ap overflow_of given ∙ ap overflow_of (sym c.in_err-move_due_handler_states.was) in
     over_early c.args.at.now.machine.now c.args.at.now.tick (states_at c.args.at.now.lines.now c.args.at.now.tick) c.args.work.now.d all.at_arrival.items all.after_handlers.items
-    c.move_due_handler_states-passed.result (sym c.is_some.ensures ∙ c.if-is_some.true) c.move_due_handler_states-passed.ensures.at_arrival.over_is
+    (overflow_of c.from_residual.result) (ap is_some (ap overflow_of given)) (over ∙ c.move_due_handler_states.ensures.at_arrival.over_is)
+
+pub returns-in_err-move_due_handler_states-clause-handled : goal.returns-in_err-move_due_handler_states-clause-handled
+returns-in_err-move_due_handler_states-clause-handled c none =
+    unless_over c.from_residual.result c.in_err-move_due_handler_states.field-0.0 (search rules) none
+
+pub returns-in_err-move_due_handler_states-clause-at_arrival : goal.returns-in_err-move_due_handler_states-clause-at_arrival
+returns-in_err-move_due_handler_states-clause-at_arrival c none =
+    unless_over c.from_residual.result c.in_err-move_due_handler_states.field-0.0 (search rules) none
+
+pub returns-in_err-move_due_handler_states-clause-alike : goal.returns-in_err-move_due_handler_states-clause-alike
+returns-in_err-move_due_handler_states-clause-alike c none =
+    unless_over c.from_residual.result c.in_err-move_due_handler_states.field-0.0 (search rules) none
+
+pub returns-in_err-move_due_handler_states-clause-none_apart : goal.returns-in_err-move_due_handler_states-clause-none_apart
+returns-in_err-move_due_handler_states-clause-none_apart c none =
+    unless_over c.from_residual.result c.in_err-move_due_handler_states.field-0.0 (search rules) none
+
+pub returns-in_err-move_due_handler_states-clause-fits : goal.returns-in_err-move_due_handler_states-clause-fits
+returns-in_err-move_due_handler_states-clause-fits c none =
+    unless_over c.from_residual.result c.in_err-move_due_handler_states.field-0.0 (search rules) none
+
+pub returns-in_err-move_due_handler_states-clause-without : goal.returns-in_err-move_due_handler_states-clause-without
+returns-in_err-move_due_handler_states-clause-without c none =
+    unless_over c.from_residual.result c.in_err-move_due_handler_states.field-0.0 (search rules) none
 
 pub list_fired_by_truths-requires-clause-read : goal.list_fired_by_truths-requires-clause-read
 list_fired_by_truths-requires-clause-read c =
     let calm : first_exceeding 88 (states_at c.args.at.now.lines.now c.args.at.now.tick) ≡ None =
-    sym c.move_due_handler_states-passed.ensures.at_arrival.over_is ∙ not_some c.move_due_handler_states-passed.result (sym c.is_some.ensures ∙ c.if-is_some.false) in
+    sym c.move_due_handler_states.ensures.at_arrival.over_is ∙ ap overflow_of c.in_ok-move_due_handler_states.was in
     may_be_read c.args.at.now c.args.self.now c.args.work.now.d c.as_slice-detectors.result.now c.as_slice-after_handlers.result.now c.requires.ready.known c.as_slice-detectors.ensures.value
     c.as_slice-after_handlers.ensures.value calm c.requires.ready.lines.up_to.in_time
 
@@ -67,7 +100,7 @@ list_fired_by_truths-requires-clause-room c =
 pub read_changed_truths-requires-clause-read : goal.read_changed_truths-requires-clause-read
 read_changed_truths-requires-clause-read c =
     let calm : first_exceeding 88 (states_at c.args.at.now.lines.now c.args.at.now.tick) ≡ None =
-    sym c.move_due_handler_states-passed.ensures.at_arrival.over_is ∙ not_some c.move_due_handler_states-passed.result (sym c.is_some.ensures ∙ c.if-is_some.false) in
+    sym c.move_due_handler_states.ensures.at_arrival.over_is ∙ ap overflow_of c.in_ok-move_due_handler_states.was in
     may_be_read c.args.at.now c.args.self.now c.args.work.now.d c.as_slice-detectors.result.now c.as_slice-after_handlers.result.now c.requires.ready.known c.as_slice-detectors.ensures.value
     c.as_slice-after_handlers.ensures.value calm c.requires.ready.lines.up_to.in_time
 
@@ -83,8 +116,8 @@ read_changed_truths-requires-clause-flipped c =
           ∙ sym (ap (λ flags. flag_at flags place) c.as_slice-after_handlers.ensures.value);
     }
 
-pub handle_fired_conditions-over-requires-clause-due : goal.handle_fired_conditions-over-requires-clause-due
-handle_fired_conditions-over-requires-clause-due c =
+pub handle_fired_conditions-requires-clause-due : goal.handle_fired_conditions-requires-clause-due
+handle_fired_conditions-requires-clause-due c =
     let count : ℕ = length c.as_slice-branches.result.now in
     let places : count ≡ length (conditions c.args.at.now.machine.now) = ap length c.as_slice-branches.ensures.value ∙ c.requires.ready.known.fits.branches.as_many in
     record {
@@ -94,37 +127,65 @@ handle_fired_conditions-over-requires-clause-due c =
           (subst (λ n. AreRisingBelow n c.args.at.now.changed.now) (sym places) c.requires.ready.known.changed));
     }
 
-pub handle_fired_conditions-over-requires-clause-lines : goal.handle_fired_conditions-over-requires-clause-lines
-handle_fired_conditions-over-requires-clause-lines c =
+pub handle_fired_conditions-requires-clause-lines : goal.handle_fired_conditions-requires-clause-lines
+handle_fired_conditions-requires-clause-lines c =
     let ready = c.requires.ready in
     let x : List ℤ = states_at c.args.at.now.lines.now c.args.at.now.tick in
-    let calm : first_exceeding 88 x ≡ None = sym c.move_due_handler_states-passed.ensures.at_arrival.over_is ∙ not_some c.move_due_handler_states-passed.result (sym c.is_some.ensures ∙ c.if-is_some.false) in
+    let calm : first_exceeding 88 x ≡ None =
+    sym c.move_due_handler_states.ensures.at_arrival.over_is ∙ ap overflow_of c.in_ok-move_due_handler_states.was in
     record { up_to = ready.lines.up_to; small = all_within 88 x calm }
 
-pub handle_fired_conditions-over-requires-clause-values : goal.handle_fired_conditions-over-requires-clause-values
-handle_fired_conditions-over-requires-clause-values c =
+pub handle_fired_conditions-requires-clause-values : goal.handle_fired_conditions-requires-clause-values
+handle_fired_conditions-requires-clause-values c =
     let values = c.requires.ready.values in
-    let of_d = ap (λ (v : Values). v.d) c.move_due_handler_states-passed.ensures.work in
+    let of_d = ap (λ (v : Values). v.d) c.move_due_handler_states.ensures.work in
     record {
-      states = c.move_due_handler_states-passed.ensures.at_arrival.at_arrival.as_many ∙ values.states;
+      states = c.move_due_handler_states.ensures.at_arrival.at_arrival.as_many ∙ values.states;
       discretes = ap length of_d ∙ values.discretes;
-      small_states = c.move_due_handler_states-passed.ensures.at_arrival.small (not_some c.move_due_handler_states-passed.result (sym c.is_some.ensures ∙ c.if-is_some.false));
+      small_states = c.move_due_handler_states.ensures.at_arrival.small (ap overflow_of c.in_ok-move_due_handler_states.was);
       small_discretes = subst (All (IsWithin 43)) (sym of_d) values.small_discretes;
     }
 
-pub returns-then-is_some-2-clause-overflow : goal.returns-then-is_some-2-clause-overflow
-returns-then-is_some-2-clause-overflow c =
+pub returns-in_err-handle_fired_conditions-clause-overflow : goal.returns-in_err-handle_fired_conditions-clause-overflow
+returns-in_err-handle_fired_conditions-clause-overflow c =
     let all : Conditions = c.args.self.now in
     let ready = c.requires.ready in
     let m = c.args.at.now.machine.now in
     let tick = c.args.at.now.tick in
     let x : List ℤ = states_at c.args.at.now.lines.now tick in
-    let calm : first_exceeding 88 x ≡ None = sym c.move_due_handler_states-passed.ensures.at_arrival.over_is ∙ not_some c.move_due_handler_states-passed.result (sym c.is_some.ensures ∙ c.if-is_some.false) in
-    let same : handling_of_fired m tick x c.move_due_handler_states-passed.new.work.d c.as_slice-2.result.now ≡ handling_from m tick x c.args.work.now.d all.at_arrival.items all.after_handlers.items =
+    let calm : first_exceeding 88 x ≡ None =
+    sym c.move_due_handler_states.ensures.at_arrival.over_is ∙ ap overflow_of c.in_ok-move_due_handler_states.was in
+    let same : handling_of_fired m tick x c.move_due_handler_states.new.work.d c.as_slice-2.result.now ≡ handling_from m tick x c.args.work.now.d all.at_arrival.items all.after_handlers.items =
     read_handling c.args.at.now all c.args.work.now.d ready.known c.as_slice-detectors.result.now c.as_slice-after_handlers.result.now c.as_mut_slice-at_arrival.result.now c.read_changed_truths.new.at_arrival
     c.as_slice-detectors.ensures.value c.as_slice-after_handlers.ensures.value c.as_mut_slice-at_arrival.ensures.value c.read_changed_truths.ensures
-    c.move_due_handler_states-passed.new.work.d c.as_slice-2.result.now calm (ap (λ (v : Values). v.d) c.move_due_handler_states-passed.ensures.work) (c.as_slice-2.ensures.value ∙ c.list_fired_by_truths.ensures.fired) in
-    c.handle_fired_conditions-over.ensures.overflow ∙ ap (λ (h : HandlerState). h.overflow) same
+    c.move_due_handler_states.new.work.d c.as_slice-2.result.now calm (ap (λ (v : Values). v.d) c.move_due_handler_states.ensures.work) (c.as_slice-2.ensures.value ∙ c.list_fired_by_truths.ensures.fired) in
+    let given : c.from_residual-in_err-handle_fired_conditions.result ≡ Err c.in_err-handle_fired_conditions.field-0.0 =
+    search rules in
+    ap overflow_of given ∙ ap overflow_of (sym c.in_err-handle_fired_conditions.was) ∙ c.handle_fired_conditions.ensures.overflow ∙ ap (λ (h : HandlerState). h.overflow) same
+
+pub returns-in_err-handle_fired_conditions-clause-handled : goal.returns-in_err-handle_fired_conditions-clause-handled
+returns-in_err-handle_fired_conditions-clause-handled c none =
+    unless_over c.from_residual-in_err-handle_fired_conditions.result c.in_err-handle_fired_conditions.field-0.0 (search rules) none
+
+pub returns-in_err-handle_fired_conditions-clause-at_arrival : goal.returns-in_err-handle_fired_conditions-clause-at_arrival
+returns-in_err-handle_fired_conditions-clause-at_arrival c none =
+    unless_over c.from_residual-in_err-handle_fired_conditions.result c.in_err-handle_fired_conditions.field-0.0 (search rules) none
+
+pub returns-in_err-handle_fired_conditions-clause-alike : goal.returns-in_err-handle_fired_conditions-clause-alike
+returns-in_err-handle_fired_conditions-clause-alike c none =
+    unless_over c.from_residual-in_err-handle_fired_conditions.result c.in_err-handle_fired_conditions.field-0.0 (search rules) none
+
+pub returns-in_err-handle_fired_conditions-clause-none_apart : goal.returns-in_err-handle_fired_conditions-clause-none_apart
+returns-in_err-handle_fired_conditions-clause-none_apart c none =
+    unless_over c.from_residual-in_err-handle_fired_conditions.result c.in_err-handle_fired_conditions.field-0.0 (search rules) none
+
+pub returns-in_err-handle_fired_conditions-clause-fits : goal.returns-in_err-handle_fired_conditions-clause-fits
+returns-in_err-handle_fired_conditions-clause-fits c none =
+    unless_over c.from_residual-in_err-handle_fired_conditions.result c.in_err-handle_fired_conditions.field-0.0 (search rules) none
+
+pub returns-in_err-handle_fired_conditions-clause-without : goal.returns-in_err-handle_fired_conditions-clause-without
+returns-in_err-handle_fired_conditions-clause-without c none =
+    unless_over c.from_residual-in_err-handle_fired_conditions.result c.in_err-handle_fired_conditions.field-0.0 (search rules) none
 
 pub join_handler_reinitialized-requires-clause-moved : goal.join_handler_reinitialized-requires-clause-moved
 join_handler_reinitialized-requires-clause-moved c = subst (λ n. AreRisingBelow n c.args.moved.now.items) (sym (ap length c.as_slice-3.ensures)) c.requires.ready.lines.numbers
@@ -136,26 +197,29 @@ join_handler_reinitialized-requires-clause-known c =
     let tick = c.args.at.now.tick in
     let lines = c.args.at.now.lines.now in
     let x : List ℤ = states_at lines tick in
-    let calm : first_exceeding 88 x ≡ None = sym c.move_due_handler_states-passed.ensures.at_arrival.over_is ∙ not_some c.move_due_handler_states-passed.result (sym c.is_some.ensures ∙ c.if-is_some.false) in
-    let begun : Values = c.move_due_handler_states-passed.new.work in
+    let calm : first_exceeding 88 x ≡ None =
+    sym c.move_due_handler_states.ensures.at_arrival.over_is ∙ ap overflow_of c.in_ok-move_due_handler_states.was in
+    let begun : Values = c.move_due_handler_states.new.work in
     let came : IsWritten (pos 0) (λ j z. z ≡ state_at (line_at lines j) tick) c.args.moved.now.items c.args.work.now.x begun.x =
-    subst (λ these. IsWritten (pos 0) (λ j z. z ≡ state_at (line_at lines j) tick) these c.args.work.now.x begun.x) c.as_slice.ensures.value c.move_due_handler_states-passed.ensures.at_arrival.at_arrival in
-    let none : c.handle_fired_conditions-over.result ≡ None = not_some c.handle_fired_conditions-over.result (sym c.is_some-2.ensures ∙ c.if-is_some-2.false) in
-    let done : HandlerState = handling_of_fired m tick x c.move_due_handler_states-passed.new.work.d c.as_slice-2.result.now in
+    subst (λ these. IsWritten (pos 0) (λ j z. z ≡ state_at (line_at lines j) tick) these c.args.work.now.x begun.x) c.as_slice.ensures.value c.move_due_handler_states.ensures.at_arrival.at_arrival in
+    let none : overflow_of c.handle_fired_conditions.result ≡ None =
+    ap overflow_of c.in_ok-handle_fired_conditions.was in
+    let done : HandlerState = handling_of_fired m tick x c.move_due_handler_states.new.work.d c.as_slice-2.result.now in
     let log : c.as_slice-log.result.now ≡ done.rows =
-    c.as_slice-log.ensures.value ∙ ap (λ (v : Values). v.log) c.work.view_is ∙ ap (λ (v : Values). v.log) (c.handle_fired_conditions-over.ensures.work none) in
+    c.as_slice-log.ensures.value ∙ ap (λ (v : Values). v.log) c.work.view_is ∙ ap (λ (v : Values). v.log) (c.handle_fired_conditions.ensures.work none) in
     λ j e. subst (λ n. j < n) (sym (ap length c.as_slice-3.ensures))
-    (known_states m tick lines c.args.moved.now.items c.as_slice-2.result.now c.args.work.now begun c.handle_fired_conditions-over.new.work ready.lines.up_to.as_many calm came j (subst (λ rows. is_reinitialized rows j ≡ true) log e))
+    (known_states m tick lines c.args.moved.now.items c.as_slice-2.result.now c.args.work.now begun c.handle_fired_conditions.new.work ready.lines.up_to.as_many calm came j (subst (λ rows. is_reinitialized rows j ≡ true) log e))
 
 pub list_handler_assigned-requires : goal.list_handler_assigned-requires
 list_handler_assigned-requires c =
     let tick = c.args.at.now.tick in
     let x : List ℤ = states_at c.args.at.now.lines.now tick in
-    let none : c.handle_fired_conditions-over.result ≡ None = not_some c.handle_fired_conditions-over.result (sym c.is_some-2.ensures ∙ c.if-is_some-2.false) in
-    let done : HandlerState = handling_of_fired c.args.at.now.machine.now tick x c.move_due_handler_states-passed.new.work.d c.as_slice-2.result.now in
+    let none : overflow_of c.handle_fired_conditions.result ≡ None =
+    ap overflow_of c.in_ok-handle_fired_conditions.was in
+    let done : HandlerState = handling_of_fired c.args.at.now.machine.now tick x c.move_due_handler_states.new.work.d c.as_slice-2.result.now in
     let log : c.as_slice-log.result.now ≡ done.rows =
-    c.as_slice-log.ensures.value ∙ ap (λ (v : Values). v.log) c.work.view_is ∙ ap (λ (v : Values). v.log) (c.handle_fired_conditions-over.ensures.work none) in
-    omega (arith, ap length log, rows_fired c.args.at.now.machine.now tick x c.move_due_handler_states-passed.new.work.d c.as_slice-2.result.now, c.requires.assigned_room)
+    c.as_slice-log.ensures.value ∙ ap (λ (v : Values). v.log) c.work.view_is ∙ ap (λ (v : Values). v.log) (c.handle_fired_conditions.ensures.work none) in
+    omega (arith, ap length log, rows_fired c.args.at.now.machine.now tick x c.move_due_handler_states.new.work.d c.as_slice-2.result.now, c.requires.assigned_room)
 
 pub returns-clause-overflow : goal.returns-clause-overflow
 returns-clause-overflow c =
@@ -164,13 +228,15 @@ returns-clause-overflow c =
     let m = c.args.at.now.machine.now in
     let tick = c.args.at.now.tick in
     let x : List ℤ = states_at c.args.at.now.lines.now tick in
-    let calm : first_exceeding 88 x ≡ None = sym c.move_due_handler_states-passed.ensures.at_arrival.over_is ∙ not_some c.move_due_handler_states-passed.result (sym c.is_some.ensures ∙ c.if-is_some.false) in
-    let same : handling_of_fired m tick x c.move_due_handler_states-passed.new.work.d c.as_slice-2.result.now ≡ handling_from m tick x c.args.work.now.d all.at_arrival.items all.after_handlers.items =
+    let calm : first_exceeding 88 x ≡ None =
+    sym c.move_due_handler_states.ensures.at_arrival.over_is ∙ ap overflow_of c.in_ok-move_due_handler_states.was in
+    let same : handling_of_fired m tick x c.move_due_handler_states.new.work.d c.as_slice-2.result.now ≡ handling_from m tick x c.args.work.now.d all.at_arrival.items all.after_handlers.items =
     read_handling c.args.at.now all c.args.work.now.d ready.known c.as_slice-detectors.result.now c.as_slice-after_handlers.result.now c.as_mut_slice-at_arrival.result.now c.read_changed_truths.new.at_arrival
     c.as_slice-detectors.ensures.value c.as_slice-after_handlers.ensures.value c.as_mut_slice-at_arrival.ensures.value c.read_changed_truths.ensures
-    c.move_due_handler_states-passed.new.work.d c.as_slice-2.result.now calm (ap (λ (v : Values). v.d) c.move_due_handler_states-passed.ensures.work) (c.as_slice-2.ensures.value ∙ c.list_fired_by_truths.ensures.fired) in
-    let none : c.handle_fired_conditions-over.result ≡ None = not_some c.handle_fired_conditions-over.result (sym c.is_some-2.ensures ∙ c.if-is_some-2.false) in
-    sym none ∙ c.handle_fired_conditions-over.ensures.overflow ∙ ap (λ (h : HandlerState). h.overflow) same
+    c.move_due_handler_states.new.work.d c.as_slice-2.result.now calm (ap (λ (v : Values). v.d) c.move_due_handler_states.ensures.work) (c.as_slice-2.ensures.value ∙ c.list_fired_by_truths.ensures.fired) in
+    let none : overflow_of c.handle_fired_conditions.result ≡ None =
+    ap overflow_of c.in_ok-handle_fired_conditions.was in
+    sym none ∙ c.handle_fired_conditions.ensures.overflow ∙ ap (λ (h : HandlerState). h.overflow) same
 
 pub returns-clause-handled : goal.returns-clause-handled
 returns-clause-handled c =
@@ -180,23 +246,25 @@ returns-clause-handled c =
     let tick = c.args.at.now.tick in
     let lines = c.args.at.now.lines.now in
     let x : List ℤ = states_at lines tick in
-    let calm : first_exceeding 88 x ≡ None = sym c.move_due_handler_states-passed.ensures.at_arrival.over_is ∙ not_some c.move_due_handler_states-passed.result (sym c.is_some.ensures ∙ c.if-is_some.false) in
-    let same : handling_of_fired m tick x c.move_due_handler_states-passed.new.work.d c.as_slice-2.result.now ≡ handling_from m tick x c.args.work.now.d all.at_arrival.items all.after_handlers.items =
+    let calm : first_exceeding 88 x ≡ None =
+    sym c.move_due_handler_states.ensures.at_arrival.over_is ∙ ap overflow_of c.in_ok-move_due_handler_states.was in
+    let same : handling_of_fired m tick x c.move_due_handler_states.new.work.d c.as_slice-2.result.now ≡ handling_from m tick x c.args.work.now.d all.at_arrival.items all.after_handlers.items =
     read_handling c.args.at.now all c.args.work.now.d ready.known c.as_slice-detectors.result.now c.as_slice-after_handlers.result.now c.as_mut_slice-at_arrival.result.now c.read_changed_truths.new.at_arrival
     c.as_slice-detectors.ensures.value c.as_slice-after_handlers.ensures.value c.as_mut_slice-at_arrival.ensures.value c.read_changed_truths.ensures
-    c.move_due_handler_states-passed.new.work.d c.as_slice-2.result.now calm (ap (λ (v : Values). v.d) c.move_due_handler_states-passed.ensures.work) (c.as_slice-2.ensures.value ∙ c.list_fired_by_truths.ensures.fired) in
-    let begun : Values = c.move_due_handler_states-passed.new.work in
+    c.move_due_handler_states.new.work.d c.as_slice-2.result.now calm (ap (λ (v : Values). v.d) c.move_due_handler_states.ensures.work) (c.as_slice-2.ensures.value ∙ c.list_fired_by_truths.ensures.fired) in
+    let begun : Values = c.move_due_handler_states.new.work in
     let came : IsWritten (pos 0) (λ j z. z ≡ state_at (line_at lines j) tick) c.args.moved.now.items c.args.work.now.x begun.x =
-    subst (λ these. IsWritten (pos 0) (λ j z. z ≡ state_at (line_at lines j) tick) these c.args.work.now.x begun.x) c.as_slice.ensures.value c.move_due_handler_states-passed.ensures.at_arrival.at_arrival in
-    let none : c.handle_fired_conditions-over.result ≡ None = not_some c.handle_fired_conditions-over.result (sym c.is_some-2.ensures ∙ c.if-is_some-2.false) in
-    let done : HandlerState = handling_of_fired m tick x c.move_due_handler_states-passed.new.work.d c.as_slice-2.result.now in
+    subst (λ these. IsWritten (pos 0) (λ j z. z ≡ state_at (line_at lines j) tick) these c.args.work.now.x begun.x) c.as_slice.ensures.value c.move_due_handler_states.ensures.at_arrival.at_arrival in
+    let none : overflow_of c.handle_fired_conditions.result ≡ None =
+    ap overflow_of c.in_ok-handle_fired_conditions.was in
+    let done : HandlerState = handling_of_fired m tick x c.move_due_handler_states.new.work.d c.as_slice-2.result.now in
     let log : c.as_slice-log.result.now ≡ done.rows =
-    c.as_slice-log.ensures.value ∙ ap (λ (v : Values). v.log) c.work.view_is ∙ ap (λ (v : Values). v.log) (c.handle_fired_conditions-over.ensures.work none) in
-    let did = c.handle_fired_conditions-over.ensures in
+    c.as_slice-log.ensures.value ∙ ap (λ (v : Values). v.log) c.work.view_is ∙ ap (λ (v : Values). v.log) (c.handle_fired_conditions.ensures.work none) in
+    let did = c.handle_fired_conditions.ensures in
     let listed : c.list_handler_assigned.new.assigned.items ≡ assigned_of done.rows = c.list_handler_assigned.ensures.assigned ∙ ap assigned_of log in
-    λ e. subst (IsHandlerEffect m tick lines c.args.moved.now.items c.join_handler_reinitialized.new.moved.items c.list_handler_assigned.new.assigned.items c.args.work.now c.handle_fired_conditions-over.new.work) same
-    (subst (λ assigned. IsHandlerEffect m tick lines c.args.moved.now.items c.join_handler_reinitialized.new.moved.items assigned c.args.work.now c.handle_fired_conditions-over.new.work done) (sym listed) (is_handled m tick lines c.args.moved.now.items c.as_slice-2.result.now c.args.work.now begun c.handle_fired_conditions-over.new.work ready.lines.up_to.as_many calm came
-    c.move_due_handler_states-passed.ensures.work (did.work none) (did.many none) (did.at_arrival none) (did.reinitialized none) c.join_handler_reinitialized.new.moved.items
+    λ e. subst (IsHandlerEffect m tick lines c.args.moved.now.items c.join_handler_reinitialized.new.moved.items c.list_handler_assigned.new.assigned.items c.args.work.now c.handle_fired_conditions.new.work) same
+    (subst (λ assigned. IsHandlerEffect m tick lines c.args.moved.now.items c.join_handler_reinitialized.new.moved.items assigned c.args.work.now c.handle_fired_conditions.new.work done) (sym listed) (is_handled m tick lines c.args.moved.now.items c.as_slice-2.result.now c.args.work.now begun c.handle_fired_conditions.new.work ready.lines.up_to.as_many calm came
+    c.move_due_handler_states.ensures.work (did.work none) (did.many none) (did.at_arrival none) (did.reinitialized none) c.join_handler_reinitialized.new.moved.items
     (λ j. c.join_handler_reinitialized.ensures.each j ∙ ap (λ (rows : List Row). is_listed c.args.moved.now.items j || is_reinitialized rows j) log)
     (did.fits none) (subst (λ n. AreRisingBelow n c.join_handler_reinitialized.new.moved.items) (ap length c.as_slice-3.ensures) c.join_handler_reinitialized.ensures.numbers)))
 
