@@ -200,14 +200,7 @@ fn is_inside_quantum(x: i128, level: i64, quantum: i64, unit: i128) -> bool
 {
     let place = levels_in_units(level, unit);
     let limit = levels_in_units(quantum, unit);
-    is_distance_less(distance_from_level(x, place), limit)
-}
-
-// Whether a number is less than another.
-fn is_distance_less(a: i128, b: i128) -> bool
-    ensures { result ≡ int_lt a b }
-{
-    a < b
+    distance_from_level(x, place) < limit
 }
 
 // The distance of a state from its level, in units of a state.

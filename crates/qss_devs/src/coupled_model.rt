@@ -45,8 +45,8 @@ impl Coupled {
             }) }
         ensures rule { IfOk result (λ c. c.quantizer.value ≡ q) }
     {
-        let machine = hold_shared(alloc, m)?;
-        let quantizer = hold_shared(alloc, q)?;
+        let machine = Rc::new(alloc, m)?;
+        let quantizer = Rc::new(alloc, q)?;
         let store = start_coupled_store(alloc, &machine, &machine, &quantizer)?;
         Ok(Coupled {
             machine,
@@ -95,15 +95,5 @@ impl Coupled {
         ensures { result.now ≡ self.now.machine.value }
     {
         &self.machine
-    }
-}
-
-// A reference-counted value.
-fn hold_shared<T: Drop>(alloc: Global, value: T) -> Result<Rc<T>, AllocError>
-    ensures { IfOk result (λ held. held.value ≡ value) }
-{
-    match Rc::new(alloc, value) {
-        Ok(held) => Ok(held),
-        Err(_) => Err(AllocError),
     }
 }

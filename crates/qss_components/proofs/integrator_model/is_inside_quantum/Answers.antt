@@ -17,7 +17,6 @@ returns c =
     let place : c.levels_in_units-place.result ≡ c.args.unit *ℤ c.args.level = simp to_z-of_z at c.levels_in_units-place.ensures.value in
     let limit : c.levels_in_units-limit.result ≡ c.args.unit *ℤ c.args.quantum = simp to_z-of_z at c.levels_in_units-limit.ensures.value in
     let distance : c.distance_from_level.result ≡ pos (unsigned_abs (c.args.x -ℤ c.levels_in_units-place.result)) = simp to_z-of_z at c.distance_from_level.ensures in
-    let less : c.is_distance_less.result ≡ int_lt c.distance_from_level.result c.levels_in_units-limit.result = simp to_z-of_z at c.is_distance_less.ensures in
-    less
-    ∙ ap (λ (d : ℤ). int_lt d c.levels_in_units-limit.result) (distance ∙ ap (λ (p : ℤ). pos (unsigned_abs (c.args.x -ℤ p))) place)
-    ∙ ap (λ (l : ℤ). int_lt (pos (unsigned_abs (c.args.x -ℤ c.args.unit *ℤ c.args.level))) l) limit
+    simp to_z-of_z
+    (ap (λ (d : ℤ). int_lt d c.levels_in_units-limit.result) (distance ∙ ap (λ (p : ℤ). pos (unsigned_abs (c.args.x -ℤ p))) place)
+    ∙ ap (λ (l : ℤ). int_lt (pos (unsigned_abs (c.args.x -ℤ c.args.unit *ℤ c.args.level))) l) limit)
