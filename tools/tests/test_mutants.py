@@ -11,7 +11,7 @@ from support import ROOT, InFolder, run
 from qss_tools.fault import Fault
 from qss_dev import edits, mutants
 
-MOST = 40  # mutants of a crate
+MOST = 30  # mutants of a crate
 
 CODE = """// One.
 fn one(a: u32) -> u32
@@ -116,7 +116,7 @@ class Files(unittest.TestCase):
             text = file.read()
         self.assertEqual(text, mutants.page_of(text, found), "tools/try-mutants --page writes the counts")
         self.assertIn("at most %d for each crate" % MOST, " ".join(text.split()))
-        self.assertLessEqual(text.count("\n"), 90)
+        self.assertLessEqual(text.count("\n"), 80)
 
     def test_the_page_defines_each_verdict(self):
         with open(os.path.join(ROOT, "docs", "MUTANTS.md"), encoding="utf-8") as file:
