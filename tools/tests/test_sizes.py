@@ -36,6 +36,12 @@ DRAWN = {
     "IsLegitimate": THEOREMS["runs_are_accepted"],
 }
 
+SUMS = {
+    "run_prints_rows_of_machine": ["qss_guarantees.Theorems.RunPrintsRowsOfMachine"],
+    "sessions_have_properties": THEOREMS["sessions_have_properties"],
+    "printed_runs_are_near_solution": THEOREMS["printed_runs_are_near_solution"],
+}
+
 
 def lines_of(name):
     with open(os.path.join(ROOT, name), encoding="utf-8") as file:
@@ -56,6 +62,16 @@ class Sizes(unittest.TestCase):
                 found = [row for row in rows if re.match(r"\| `%s`.*\| [\d,]+, [\d,]+ \|" % name, row)]
                 self.assertEqual(len(found), 1)
                 self.assertEqual(found[0].split(" | ")[1], self.size(definitions))
+
+    def test_sum_of_theorems(self):
+        """The numbers of lines in the item 'What must be read to believe it'."""
+        (item,) = re.findall(
+            r"What must be read to believe it\.\*\*(.*?)\n\n", "\n".join(lines_of("docs/THEOREMS.md")), re.S
+        )
+        for name, definitions in SUMS.items():
+            with self.subTest(name):
+                self.assertIn(self.size(definitions).rpartition(" ")[2], item)
+                self.assertIn("`%s`" % name, item)
 
     def test_drawing_of_theorems(self):
         rows = [row for row in lines_of("docs/THEOREMS.md") if re.search(r"  [\d,]+, [\d,]+$", row)]

@@ -1,4 +1,5 @@
 """docs/THEOREMS.md quotes the main theorems of qss_top and qss_guarantees, and lists each of them with its size."""
+import glob
 import os
 import re
 import unittest
@@ -12,6 +13,7 @@ CALLS, END = "qss_top.Calls", "-- ---- What `qss_main` guarantees of each call."
 PROPERTIES = "qss_guarantees.Theorems"
 INSTANCE = "qss_instance.DecayInstance"
 LAWS = "crates/qss_guarantees/src/command_laws.rt"
+TESTS = {"program_tests", "qss_tests", "transcript"}
 SOURCE = "qss_top.MachineAnswers.IsSourceMachine"  # what a source denotes
 MOST_LINES = 80  # of both quotations, without `use` lines and blank lines
 MOST_FOR_RUN = 2600  # of the theorem on `run`
@@ -83,6 +85,44 @@ class Theorems(unittest.TestCase):
             with self.subTest(law):
                 if law != "qss_main":
                     self.assertRegex(laws, rf"pub fn {law}\(\)\s+ensures \{{[^}}]*\b{name}\b")
+
+
+FUNCTION = re.compile(r"^([ \t]*)(?:pub(?:\(\w+\))? )?(?:const )?fn (\w+)", re.MULTILINE)
+
+
+def functions_without_ensures(name):
+    """The functions of a file that have no `ensures`, without methods of traits and of their implementations."""
+    text = re.sub(r"//[^\n]*", "", text_of(name))
+    for one in FUNCTION.finditer(text):
+        later = FUNCTION.search(text, one.end())
+        while later and later[1] != one[1]:
+            later = FUNCTION.search(text, later.end())
+        head = text[one.end() : later.start() if later else len(text)].partition(f"\n{one[1]}{{")[0]
+        blocks = re.findall(r"^(?:pub )?(?:impl|trait)\b.*", text[: one.start()], re.MULTILINE) if one[1] else []
+        in_trait = blocks and (" for " in blocks[-1] or "trait " in blocks[-1])
+        if "ensures" not in head and not in_trait:
+            yield one[2]
+
+
+class Contracts(unittest.TestCase):
+    """The page lists the functions without `ensures`."""
+
+    def test_functions_without_ensures(self):
+        page = text_of("docs/THEOREMS.md")
+        listed = page.partition("The functions are:\n")[2].partition("Most functions of the crates of tests")[0]
+        file = "crates/mu_unroll/src/long_constants.rt"
+        self.assertIn(f"all functions of\n  [long_constants.rt](../{file})", listed)
+        found = set()
+        for crate in sorted(set(os.listdir(os.path.join(ROOT, "crates"))) - TESTS):
+            for path in glob.glob(os.path.join(ROOT, "crates", crate, "src", "**", "*.rt"), recursive=True):
+                name = os.path.relpath(path, ROOT)
+                if name == file:
+                    self.assertNotIn("ensures", text_of(name))
+                else:
+                    found |= {(crate, function) for function in functions_without_ensures(name)}
+        names = {name for _, name in found}
+        crates = {crate for crate, _ in found}
+        self.assertEqual(set(re.findall(r"`(\w+)`", listed)), names | crates)
 
 
 class Instance(unittest.TestCase):
