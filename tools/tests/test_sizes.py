@@ -41,6 +41,14 @@ SUMS = {
     "sessions_have_properties": THEOREMS["sessions_have_properties"],
     "printed_runs_are_near_solution": THEOREMS["printed_runs_are_near_solution"],
 }
+PARTS = {
+    "what a source denotes": ["qss_top.MachineAnswers.IsSourceMachine"],
+    "command line": DRAWN["command_of"],
+    "trajectory and its text": DRAWN["run_by"],
+    "the bounds between runs": ["cert_check.Bounds.BoundsAreGuaranteed", "cert_check.Bounds.CoversOwnRuns"],
+    "`Holds`": ["cert_check.Inequalities.Holds"],
+    "`IsLegitimate`": ["qss_machine.Legitimate.IsLegitimate"],
+}
 
 
 def lines_of(name):
@@ -72,6 +80,14 @@ class Sizes(unittest.TestCase):
             with self.subTest(name):
                 self.assertIn(self.size(definitions).rpartition(" ")[2], item)
                 self.assertIn("`%s`" % name, item)
+
+    def test_parts_of_reading(self):
+        """The last column of the table of theorems: the number of lines of each part."""
+        rows = "\n".join(row for row in lines_of("docs/READING.md") if re.match(r"\| `\w+`.*\| [\d,]+, [\d,]+ \|", row))
+        for part, definitions in PARTS.items():
+            with self.subTest(part):
+                found = set(re.findall(r"%s ([\d,]*\d)" % re.escape(part), rows))
+                self.assertEqual(found, {self.size(definitions).rpartition(" ")[2]})
 
     def test_drawing_of_theorems(self):
         rows = [row for row in lines_of("docs/THEOREMS.md") if re.search(r"  [\d,]+, [\d,]+$", row)]
