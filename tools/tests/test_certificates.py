@@ -6,6 +6,7 @@ from the answers of the transcript, which were worked out by hand.
 import io
 import math
 import os
+import re
 import subprocess
 import time
 import unittest
@@ -477,6 +478,17 @@ class WithTheProgram(InFolder):
         done = subprocess.run([BUILT, "certify", LADDER, path], stdout=subprocess.PIPE)
         self.assertEqual(done.returncode, 0)
         self.assertEqual(run("qss-certificate", LADDER, "--read", path), (0, out, ""))
+
+    def test_a_certificate_with_other_starts_is_reported(self):
+        path = os.path.join(self.folder, "ladder.cert")
+        self.assertEqual(run("qss-certificate", LADDER, "-o", path)[0], 0)
+        with open(path, encoding="utf-8") as file:
+            text = file.read()
+        starts = "".join(re.findall(r"^start[12],.*\n", text, re.MULTILINE))
+        other = self.file("other.cert", text.replace(starts, starts.replace(",0", ",1")))
+        status, out, err = run("qss-certificate", LADDER, "--read", other)
+        self.assertEqual((status, err), (0, ""))
+        self.assertTrue(out.endswith("E states nothing about the run that `qss run` prints\n"), out)
 
     def test_what_has_no_certificate_is_one_line(self):
         for name, why in (("bouncing", "it has 'when' clauses"), ("massspring", "")):

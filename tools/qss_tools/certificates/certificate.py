@@ -115,6 +115,8 @@ def read(args: argparse.Namespace, run: Run, search: Search) -> int:
         line = "%s is not accepted: %s (tools/qss-explain %s --certificate %s)"
         return rejected(args, line % (args.read, answer.line, args.model, args.read))
     report(args, run, search, certificate)
+    if search.system.starts not in (certificate["start1"], certificate["start2"]):
+        print("no start of the certificate is the model's: E states nothing about the run that `qss run` prints")
     return FINE
 
 
