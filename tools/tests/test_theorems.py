@@ -1,11 +1,11 @@
 """docs/THEOREMS.md quotes the main theorems of qss_top and qss_guarantees, and lists each of them with its size."""
-import glob
 import os
 import re
 import unittest
 
 from support import ROOT
 
+from qss_dev.rattle_source import crates_of, files_of, functions
 from qss_dev.reading_index import Library, roots_of
 
 # What the page quotes of two files of definitions: all but the first line, `use` lines, and in CALLS all from END on.
@@ -87,42 +87,29 @@ class Theorems(unittest.TestCase):
                     self.assertRegex(laws, rf"pub fn {law}\(\)\s+ensures \{{[^}}]*\b{name}\b")
 
 
-FUNCTION = re.compile(r"^([ \t]*)(?:pub(?:\(\w+\))? )?(?:const )?fn (\w+)", re.MULTILINE)
-
-
-def functions_without_ensures(name):
-    """The functions of a file that have no `ensures`, without methods of traits and of their implementations."""
-    text = re.sub(r"//[^\n]*", "", text_of(name))
-    for one in FUNCTION.finditer(text):
-        later = FUNCTION.search(text, one.end())
-        while later and later[1] != one[1]:
-            later = FUNCTION.search(text, later.end())
-        head = text[one.end() : later.start() if later else len(text)].partition(f"\n{one[1]}{{")[0]
-        blocks = re.findall(r"^(?:pub )?(?:impl|trait)\b.*", text[: one.start()], re.MULTILINE) if one[1] else []
-        in_trait = blocks and (" for " in blocks[-1] or "trait " in blocks[-1])
-        if "ensures" not in head and not in_trait:
-            yield one[2]
-
-
 class Contracts(unittest.TestCase):
     """The page lists the functions without `ensures`."""
+
+    def has_ensures(self, one):
+        return any(clause.kind == "ensures" for clause in one.clauses)
 
     def test_functions_without_ensures(self):
         page = text_of("docs/THEOREMS.md")
         listed = page.partition("The functions are:\n")[2].partition("Most functions of the crates of tests")[0]
-        file = "crates/mu_unroll/src/long_constants.rt"
-        self.assertIn(f"all functions of\n  [long_constants.rt](../{file})", listed)
+        whole = "src/long_constants.rt"  # all functions of this file have no `ensures`
+        self.assertIn(f"all functions of\n  [long_constants.rt](../crates/mu_unroll/{whole})", listed)
+        files = [
+            (crate, *it)
+            for crate in sorted(set(crates_of(ROOT)) - TESTS)
+            for it in files_of(ROOT, crate, "src", ".rt").items()
+        ]
         found = set()
-        for crate in sorted(set(os.listdir(os.path.join(ROOT, "crates"))) - TESTS):
-            for path in glob.glob(os.path.join(ROOT, "crates", crate, "src", "**", "*.rt"), recursive=True):
-                name = os.path.relpath(path, ROOT)
-                if name == file:
-                    self.assertNotIn("ensures", text_of(name))
-                else:
-                    found |= {(crate, function) for function in functions_without_ensures(name)}
-        names = {name for _, name in found}
-        crates = {crate for crate, _ in found}
-        self.assertEqual(set(re.findall(r"`(\w+)`", listed)), names | crates)
+        for crate, one in [(crate, it) for crate, file, text in files if file != whole for it in functions(file, text)]:
+            if one.body is not None and not one.trait and not self.has_ensures(one):
+                found |= {crate, one.name}
+        of_whole = [it for _, file, text in files if file == whole for it in functions(file, text)]
+        self.assertFalse(any(self.has_ensures(it) for it in of_whole))
+        self.assertEqual(set(re.findall(r"`(\w+)`", listed)), found)
 
 
 class Instance(unittest.TestCase):
