@@ -14,7 +14,7 @@ from models import BALL, GROWING, LINE
 from support import BUILT, PROGRAM, ROOT, TOOLS, InFolder, python_with, run
 
 from qss_tools.fault import Fault
-from qss_tools.live.live import parser_of
+from qss_tools.live.live import opening_page, parser_of
 from qss_tools.live.runs import Limits, Runs, Text
 from qss_tools.live.server import HOST, MOST_REQUEST, started
 from qss_tools.live.session import Options, Session, Stale
@@ -479,7 +479,9 @@ class Tool(InFolder):
     @NEEDS_PROGRAM
     def test_a_wrong_source_is_explained_beside_the_last_curve(self):
         model = self.file("charged.mo", CHARGED)
-        page = self.open(self.start(model))
+        path = opening_page(self.folder, self.start(model))
+        self.assertEqual(os.stat(path).st_mode & 0o777, 0o600)
+        page = self.open("file://" + path)
         drawn = "document.querySelectorAll('.scatterlayer path.js-line').length"
         count = page.value(drawn)
         self.assertGreater(count, 0)

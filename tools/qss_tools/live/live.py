@@ -1,4 +1,5 @@
 """The tool qss-live: a page that follows a model while it is written."""
+import os
 import signal
 import sys
 import tempfile
@@ -61,12 +62,22 @@ def tool(arguments: Sequence[str]) -> int:
         server = started(session, args.port)
         print(server.address, flush=True)
         if not args.no_browser:
-            webbrowser.open(server.address)
+            webbrowser.open("file://" + opening_page(folder, server.address))
         threading.Thread(target=plotly_script, daemon=True).start()  # (so that the first page need not wait for it)
         while not ended.wait(1.0):
             pass
         server.end()
     return FINE
+
+
+def opening_page(folder: str, address: str) -> str:
+    """Writes a page that leads to an address. A browser is started with its path, because the words of a command are
+    known to all users of a computer, and the address has a secret part.
+    """
+    path = os.path.join(folder, "open.html")
+    with open(os.open(path, os.O_WRONLY | os.O_CREAT | os.O_TRUNC, 0o600), "w", encoding="utf-8") as file:
+        file.write(f'<!DOCTYPE html><meta charset="utf-8"><meta http-equiv="refresh" content="0; url={address}">\n')
+    return path
 
 
 def ending() -> threading.Event:

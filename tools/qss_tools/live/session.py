@@ -182,7 +182,7 @@ class Session:
                 found["notices"].append(self.named(fault))
         return found
 
-    def named(self, fault: Fault) -> str:
+    def named(self, fault: Exception) -> str:
         """The text of a fault with the names of files in place of the paths of their copies."""
         return re.sub(re.escape(self.folder) + r"/\w+/", "", str(fault))
 
