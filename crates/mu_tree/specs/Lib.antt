@@ -4,3 +4,4 @@ pub mod Expression
 pub mod ModelTree
 pub mod FlatExpression
 pub mod FlatModels
+pub mod Nests
