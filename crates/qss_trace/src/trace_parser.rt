@@ -108,30 +108,21 @@ pub(crate) fn take_trace_record(draft: &mut Draft, found: &ByteRecord) -> Result
         ⊎ (record_fault draft.old.n draft.old.taken (fields_of found.now) ≡ Some why)) }
 {
     match draft.taken {
-        0 => add_trace_form(draft, found),
-        1 => add_trace_scale(draft, found),
-        2 => add_trace_refine(draft, found),
-        3 => add_trace_quanta(draft, found),
-        _ => add_trace_place(draft, found),
+        0 => take_trace_form(found)?,
+        1 => draft.scale = take_trace_scale(found)?,
+        2 => draft.refine = take_trace_refine(found)?,
+        3 => take_trace_quanta(draft.n, found, &mut draft.q)?,
+        taken => {
+            take_trace_place(
+                draft.n,
+                taken + 1,
+                found,
+                &mut draft.states,
+                &mut draft.levels,
+            )?
+        }
     }
-}
-
-// Reads record 1, the number of the form.
-fn add_trace_form(draft: &mut Draft, found: &ByteRecord) -> Result<(), TextErr>
-    requires size { IsSize draft.old.n }
-    requires place { draft.old.taken ≡ 0 }
-    requires count_limit { draft.old.taken < 2 ^ 31 }
-    requires fields { length (fields_of found.now) ≤ 2 ^ 30 }
-    ensures size { OnOk result (draft.new.n ≡ draft.old.n) }
-    ensures takes { OnOk result
-        ((seen : List (List (List ℕ))) → IsDraftOf seen draft.old
-        → IsDraftOf (seen ++ fields_of found.now ∷ []) draft.new) }
-    ensures refused { IfErr result
-        (λ why. (why ≡ TextErr.Memory)
-        ⊎ (record_fault draft.old.n draft.old.taken (fields_of found.now) ≡ Some why)) }
-{
-    take_trace_form(found)?;
-    draft.taken = 1;
+    draft.taken += 1;
     Ok(())
 }
 
@@ -246,25 +237,6 @@ fn is_within_trace_limit(limit: Limit, number: &i128) -> bool
     }
 }
 
-// Reads record 2, the scale.
-fn add_trace_scale(draft: &mut Draft, found: &ByteRecord) -> Result<(), TextErr>
-    requires size { IsSize draft.old.n }
-    requires place { draft.old.taken ≡ 1 }
-    requires count_limit { draft.old.taken < 2 ^ 31 }
-    requires fields { length (fields_of found.now) ≤ 2 ^ 30 }
-    ensures size { OnOk result (draft.new.n ≡ draft.old.n) }
-    ensures takes { OnOk result
-        ((seen : List (List (List ℕ))) → IsDraftOf seen draft.old
-        → IsDraftOf (seen ++ fields_of found.now ∷ []) draft.new) }
-    ensures refused { IfErr result
-        (λ why. (why ≡ TextErr.Memory)
-        ⊎ (record_fault draft.old.n draft.old.taken (fields_of found.now) ≡ Some why)) }
-{
-    draft.scale = take_trace_scale(found)?;
-    draft.taken = 2;
-    Ok(())
-}
-
 /// Reads record 2, the scale.
 pub(crate) fn take_trace_scale(found: &ByteRecord) -> Result<u32, TextErr>
     requires { length (fields_of found.now) ≤ 2 ^ 30 }
@@ -279,25 +251,6 @@ pub(crate) fn take_trace_scale(found: &ByteRecord) -> Result<u32, TextErr>
     Ok(scale as u32)
 }
 
-// Reads record 3, the refinement.
-fn add_trace_refine(draft: &mut Draft, found: &ByteRecord) -> Result<(), TextErr>
-    requires size { IsSize draft.old.n }
-    requires place { draft.old.taken ≡ 2 }
-    requires count_limit { draft.old.taken < 2 ^ 31 }
-    requires fields { length (fields_of found.now) ≤ 2 ^ 30 }
-    ensures size { OnOk result (draft.new.n ≡ draft.old.n) }
-    ensures takes { OnOk result
-        ((seen : List (List (List ℕ))) → IsDraftOf seen draft.old
-        → IsDraftOf (seen ++ fields_of found.now ∷ []) draft.new) }
-    ensures refused { IfErr result
-        (λ why. (why ≡ TextErr.Memory)
-        ⊎ (record_fault draft.old.n draft.old.taken (fields_of found.now) ≡ Some why)) }
-{
-    draft.refine = take_trace_refine(found)?;
-    draft.taken = 3;
-    Ok(())
-}
-
 /// Reads record 3, the refinement.
 pub(crate) fn take_trace_refine(found: &ByteRecord) -> Result<u32, TextErr>
     requires { length (fields_of found.now) ≤ 2 ^ 30 }
@@ -310,25 +263,6 @@ pub(crate) fn take_trace_refine(found: &ByteRecord) -> Result<u32, TextErr>
 {
     let refine = parse_trace_number(3, found, b"refine", Limit::Factor)?;
     Ok(refine as u32)
-}
-
-// Reads record 4, the quanta.
-fn add_trace_quanta(draft: &mut Draft, found: &ByteRecord) -> Result<(), TextErr>
-    requires size { IsSize draft.old.n }
-    requires place { (draft.old.taken ≡ 3) × (draft.old.q.items ≡ []) }
-    requires count_limit { draft.old.taken < 2 ^ 31 }
-    requires fields { length (fields_of found.now) ≤ 2 ^ 30 }
-    ensures size { OnOk result (draft.new.n ≡ draft.old.n) }
-    ensures takes { OnOk result
-        ((seen : List (List (List ℕ))) → IsDraftOf seen draft.old
-        → IsDraftOf (seen ++ fields_of found.now ∷ []) draft.new) }
-    ensures refused { IfErr result
-        (λ why. (why ≡ TextErr.Memory)
-        ⊎ (record_fault draft.old.n draft.old.taken (fields_of found.now) ≡ Some why)) }
-{
-    take_trace_quanta(draft.n, found, &mut draft.q)?;
-    draft.taken = 4;
-    Ok(())
 }
 
 /// Reads record 4, the quanta.
@@ -382,26 +316,6 @@ pub(crate) fn parse_trace_numbers(
             }
         }
     }
-    Ok(())
-}
-
-// Reads a record of a place.
-fn add_trace_place(draft: &mut Draft, found: &ByteRecord) -> Result<(), TextErr>
-    requires size { IsSize draft.old.n }
-    requires place { 4 ≤ draft.old.taken }
-    requires count_limit { draft.old.taken < 2 ^ 31 }
-    requires fields { length (fields_of found.now) ≤ 2 ^ 30 }
-    ensures size { OnOk result (draft.new.n ≡ draft.old.n) }
-    ensures takes { OnOk result
-        ((seen : List (List (List ℕ))) → IsDraftOf seen draft.old
-        → IsDraftOf (seen ++ fields_of found.now ∷ []) draft.new) }
-    ensures refused { IfErr result
-        (λ why. (why ≡ TextErr.Memory)
-        ⊎ (record_fault draft.old.n draft.old.taken (fields_of found.now) ≡ Some why)) }
-{
-    let line = draft.taken + 1;
-    take_trace_place(draft.n, line, found, &mut draft.states, &mut draft.levels)?;
-    draft.taken = line;
     Ok(())
 }
 
