@@ -1,28 +1,133 @@
 //! Copies flat models and their parts. The only error is allocation failure.
 
-ghost use Rattle.std.specs.Prelude.{◌≡◌, IfOk, map};
-ghost use Rattle.mu_tree.specs.FlatExpression.{flat_action, flat_branch, flat_clause, flat_equation, flat_expression, flat_model, flat_scaled, flat_signed, flat_variable};
+ghost use Rattle.std.specs.Prelude.{◌≡◌, IfOk, List, map};
+ghost use Rattle.mu_tree.specs.FlatExpression.{FlatAction, FlatBranchTree, FlatEquationTree, FlatExpression, FlatModelTree, FlatVariable, flat_action, flat_branch, flat_clause, flat_equation, flat_expression, flat_model, flat_scaled, flat_signed, flat_variable};
 
-use crate::copied::Copied;
+use crate::copied::{Copied, copy_list};
 use mu_tree::{
     FlatBranch, FlatClause, FlatEquation, FlatExpr, FlatFactor, FlatModel, FlatStatement, FlatTerm,
     FlatVar,
 };
 use std::alloc::{AllocError, Global};
 
+impl Copied for FlatModel {
+    ghost Value = { FlatModelTree };
+
+    ghost value = { flat_model };
+
+    fn copy(&self, alloc: Global) -> Result<FlatModel, AllocError>
+        ensures { IfOk result (λ copy. flat_model copy ≡ flat_model self.now) }
+    {
+        let vars = copy_list(alloc, &self.vars)?;
+        let equations = copy_list(alloc, &self.equations)?;
+        let clauses = copy_list(alloc, &self.clauses)?;
+        Ok(FlatModel {
+            vars,
+            equations,
+            clauses,
+        })
+    }
+}
+
+impl Copied for FlatVar {
+    ghost Value = { FlatVariable };
+
+    ghost value = { flat_variable };
+
+    fn copy(&self, alloc: Global) -> Result<FlatVar, AllocError>
+        ensures { IfOk result (λ copy. flat_variable copy ≡ flat_variable self.now) }
+    {
+        let name = self.name.copy(alloc)?;
+        Ok(FlatVar {
+            name,
+            role: self.role,
+            start: self.start,
+            quantum: self.quantum,
+        })
+    }
+}
+
+impl Copied for FlatEquation {
+    ghost Value = { FlatEquationTree };
+
+    ghost value = { flat_equation };
+
+    fn copy(&self, alloc: Global) -> Result<FlatEquation, AllocError>
+        ensures { IfOk result (λ copy. flat_equation copy ≡ flat_equation self.now) }
+    {
+        let value = duplicate_expression(alloc, &self.value)?;
+        Ok(FlatEquation {
+            der: self.der,
+            target: self.target,
+            value,
+        })
+    }
+}
+
+impl Copied for FlatClause {
+    ghost Value = { List FlatBranchTree };
+
+    ghost value = { flat_clause };
+
+    fn copy(&self, alloc: Global) -> Result<FlatClause, AllocError>
+        ensures { IfOk result (λ copy. flat_clause copy ≡ flat_clause self.now) }
+    {
+        let branches = copy_list(alloc, &self.branches)?;
+        Ok(FlatClause { branches })
+    }
+}
+
+impl Copied for FlatBranch {
+    ghost Value = { FlatBranchTree };
+
+    ghost value = { flat_branch };
+
+    fn copy(&self, alloc: Global) -> Result<FlatBranch, AllocError>
+        ensures { IfOk result (λ copy. flat_branch copy ≡ flat_branch self.now) }
+    {
+        let left = duplicate_expression(alloc, &self.left)?;
+        let right = duplicate_expression(alloc, &self.right)?;
+        let body = copy_list(alloc, &self.body)?;
+        Ok(FlatBranch {
+            left,
+            rel: self.rel,
+            right,
+            at: self.at,
+            body,
+        })
+    }
+}
+
+impl Copied for FlatStatement {
+    ghost Value = { FlatAction };
+
+    ghost value = { flat_action };
+
+    fn copy(&self, alloc: Global) -> Result<FlatStatement, AllocError>
+        ensures { IfOk result (λ copy. flat_action copy ≡ flat_action self.now) }
+    {
+        match self {
+            FlatStatement::FlatSet { var, value } => {
+                let value = duplicate_expression(alloc, value)?;
+                Ok(FlatStatement::FlatSet { var: *var, value })
+            }
+            FlatStatement::FlatReinit { var, value } => {
+                let value = duplicate_expression(alloc, value)?;
+                Ok(FlatStatement::FlatReinit { var: *var, value })
+            }
+        }
+    }
+}
+
 impl Copied for FlatExpr {
+    ghost Value = { FlatExpression };
+
+    ghost value = { flat_expression };
+
     fn copy(&self, alloc: Global) -> Result<FlatExpr, AllocError>
         ensures { IfOk result (λ copy. flat_expression copy ≡ flat_expression self.now) }
     {
         duplicate_expression(alloc, self)
-    }
-}
-
-impl Copied for FlatModel {
-    fn copy(&self, alloc: Global) -> Result<FlatModel, AllocError>
-        ensures { IfOk result (λ copy. flat_model copy ≡ flat_model self.now) }
-    {
-        duplicate_model(alloc, self)
     }
 }
 
@@ -91,141 +196,4 @@ fn duplicate_factors(alloc: Global, factors: &[FlatFactor]) -> Result<Vec<FlatFa
         })?;
     }
     Ok(all)
-}
-
-// Returns a copy of a flat model.
-fn duplicate_model(alloc: Global, m: &FlatModel) -> Result<FlatModel, AllocError>
-    ensures { IfOk result (λ copy. flat_model copy ≡ flat_model m.now) }
-{
-    let vars = duplicate_variables(alloc, &m.vars)?;
-    let equations = duplicate_equations(alloc, &m.equations)?;
-    let clauses = duplicate_clauses(alloc, &m.clauses)?;
-    Ok(FlatModel {
-        vars,
-        equations,
-        clauses,
-    })
-}
-
-// Returns a copy of the variables.
-fn duplicate_variables(alloc: Global, vars: &[FlatVar]) -> Result<Vec<FlatVar>, AllocError>
-    ensures { IfOk result (λ copy. map flat_variable copy.items ≡ map flat_variable vars.now) }
-{
-    let mut all = Vec::new(alloc);
-    for one in vars {
-        let copy = duplicate_variable(alloc, one)?;
-        all.push(copy)?;
-    }
-    Ok(all)
-}
-
-/// Returns a copy of a variable.
-pub fn duplicate_variable(alloc: Global, one: &FlatVar) -> Result<FlatVar, AllocError>
-    ensures { IfOk result (λ copy. flat_variable copy ≡ flat_variable one.now) }
-{
-    let name = one.name.copy(alloc)?;
-    Ok(FlatVar {
-        name,
-        role: one.role,
-        start: one.start,
-        quantum: one.quantum,
-    })
-}
-
-// Returns a copy of the equations.
-fn duplicate_equations(
-    alloc: Global,
-    equations: &[FlatEquation],
-) -> Result<Vec<FlatEquation>, AllocError>
-    ensures { IfOk result (λ copy. map flat_equation copy.items ≡ map flat_equation equations.now) }
-{
-    let mut all = Vec::new(alloc);
-    for one in equations {
-        let copy = duplicate_equation(alloc, one)?;
-        all.push(copy)?;
-    }
-    Ok(all)
-}
-
-/// Returns a copy of an equation.
-pub fn duplicate_equation(alloc: Global, one: &FlatEquation) -> Result<FlatEquation, AllocError>
-    ensures { IfOk result (λ copy. flat_equation copy ≡ flat_equation one.now) }
-{
-    let value = duplicate_expression(alloc, &one.value)?;
-    Ok(FlatEquation {
-        der: one.der,
-        target: one.target,
-        value,
-    })
-}
-
-// Returns a copy of the clauses.
-fn duplicate_clauses(alloc: Global, clauses: &[FlatClause]) -> Result<Vec<FlatClause>, AllocError>
-    ensures { IfOk result (λ copy. map flat_clause copy.items ≡ map flat_clause clauses.now) }
-{
-    let mut all = Vec::new(alloc);
-    for one in clauses {
-        let copy = duplicate_clause(alloc, one)?;
-        all.push(copy)?;
-    }
-    Ok(all)
-}
-
-/// Returns a copy of a clause.
-pub fn duplicate_clause(alloc: Global, clause: &FlatClause) -> Result<FlatClause, AllocError>
-    ensures { IfOk result (λ copy. flat_clause copy ≡ flat_clause clause.now) }
-{
-    let mut branches = Vec::new(alloc);
-    for one in &clause.branches {
-        let copy = duplicate_branch(alloc, one)?;
-        branches.push(copy)?;
-    }
-    Ok(FlatClause { branches })
-}
-
-/// Returns a copy of a branch.
-pub fn duplicate_branch(alloc: Global, one: &FlatBranch) -> Result<FlatBranch, AllocError>
-    ensures { IfOk result (λ copy. flat_branch copy ≡ flat_branch one.now) }
-{
-    let left = duplicate_expression(alloc, &one.left)?;
-    let right = duplicate_expression(alloc, &one.right)?;
-    let body = duplicate_statements(alloc, &one.body)?;
-    Ok(FlatBranch {
-        left,
-        rel: one.rel,
-        right,
-        at: one.at,
-        body,
-    })
-}
-
-// Returns a copy of the statements.
-fn duplicate_statements(
-    alloc: Global,
-    statements: &[FlatStatement],
-) -> Result<Vec<FlatStatement>, AllocError>
-    ensures { IfOk result (λ copy. map flat_action copy.items ≡ map flat_action statements.now) }
-{
-    let mut all = Vec::new(alloc);
-    for one in statements {
-        let copy = duplicate_statement(alloc, one)?;
-        all.push(copy)?;
-    }
-    Ok(all)
-}
-
-/// Returns a copy of a statement.
-pub fn duplicate_statement(alloc: Global, one: &FlatStatement) -> Result<FlatStatement, AllocError>
-    ensures { IfOk result (λ copy. flat_action copy ≡ flat_action one.now) }
-{
-    match one {
-        FlatStatement::FlatSet { var, value } => {
-            let value = duplicate_expression(alloc, value)?;
-            Ok(FlatStatement::FlatSet { var: *var, value })
-        }
-        FlatStatement::FlatReinit { var, value } => {
-            let value = duplicate_expression(alloc, value)?;
-            Ok(FlatStatement::FlatReinit { var: *var, value })
-        }
-    }
 }

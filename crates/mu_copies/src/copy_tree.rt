@@ -2,56 +2,199 @@
 
 ghost use Rattle.std.specs.Prelude.{◌≡◌, IfOk, map};
 ghost use Rattle.std.specs.Option.{option_map};
-ghost use Rattle.mu_tree.specs.Expression.{expression, reference, signed, scaled};
-ghost use Rattle.mu_tree.specs.ModelTree.{branch, clause, condition, declaration, equation, model, setting, statement};
+ghost use Rattle.mu_tree.specs.Expression.{Expression, expression, reference, signed, scaled};
+ghost use Rattle.mu_tree.specs.ModelTree.{BranchTree, ClauseTree, Declaration, EquationTree, ModelTree, Setting, StatementTree, branch, clause, condition, declaration, equation, model, setting, statement};
+ghost use Rattle.mu_tree.specs.Nests.{One, owned_range, range_of};
 
-use crate::copied::Copied;
+use crate::copied::{Copied, copy_list};
 use mu_tree::{
-    Branch, Clause, Cond, Decl, Equation, Expr, Factor, Model, Ref, SettingItem, Statement, Term,
+    Branch, Clause, Cond, Decl, Equation, Expr, Factor, Model, Nest, Nested, Range, RangeRef, Ref,
+    SettingItem, Statement, Term,
 };
 use std::alloc::{AllocError, Global};
 
+/// Items that occur in loops and can be copied.
+trait CopiedItem: Nest {
+    /// Returns a copy of an item that is no loop. Errors: allocation failure.
+    fn copy_one(&self, alloc: Global) -> Result<Self, AllocError>
+        requires { (l : Self.Leaf) × (Self.item (Self.tree self.now) ≡ One l) }
+        ensures { IfOk result (λ copy. Self.tree copy ≡ Self.tree self.now) };
+}
+
+impl CopiedItem for Equation {
+    fn copy_one(&self, alloc: Global) -> Result<Equation, AllocError> {
+        match self {
+            Equation::Der { target, value } => {
+                let target = copy_reference(alloc, target)?;
+                let value = copy_expression(alloc, value)?;
+                Ok(Equation::Der { target, value })
+            }
+            Equation::Plain { target, value } => {
+                let target = copy_reference(alloc, target)?;
+                let value = copy_expression(alloc, value)?;
+                Ok(Equation::Plain { target, value })
+            }
+            Equation::For { .. } => unreachable!(),
+        }
+    }
+}
+
+impl CopiedItem for Statement {
+    fn copy_one(&self, alloc: Global) -> Result<Statement, AllocError> {
+        match self {
+            Statement::Set { target, value } => {
+                let target = copy_reference(alloc, target)?;
+                let value = copy_expression(alloc, value)?;
+                Ok(Statement::Set { target, value })
+            }
+            Statement::Reinit { target, value } => {
+                let target = copy_reference(alloc, target)?;
+                let value = copy_expression(alloc, value)?;
+                Ok(Statement::Reinit { target, value })
+            }
+            Statement::For { .. } => unreachable!(),
+        }
+    }
+}
+
+impl CopiedItem for Clause {
+    fn copy_one(&self, alloc: Global) -> Result<Clause, AllocError> {
+        match self {
+            Clause::When { branches } => {
+                let branches = copy_list(alloc, branches)?;
+                Ok(Clause::When { branches })
+            }
+            Clause::For { .. } => unreachable!(),
+        }
+    }
+}
+
 impl Copied for Equation {
+    ghost Value = { EquationTree };
+
+    ghost value = { equation };
+
     fn copy(&self, alloc: Global) -> Result<Equation, AllocError>
         ensures { IfOk result (λ copy. equation copy ≡ equation self.now) }
     {
-        copy_equation(alloc, self)
+        copy_item(alloc, self)
     }
 }
 
 impl Copied for Statement {
+    ghost Value = { StatementTree };
+
+    ghost value = { statement };
+
     fn copy(&self, alloc: Global) -> Result<Statement, AllocError>
         ensures { IfOk result (λ copy. statement copy ≡ statement self.now) }
     {
-        copy_statement(alloc, self)
+        copy_item(alloc, self)
     }
 }
 
 impl Copied for Clause {
+    ghost Value = { ClauseTree };
+
+    ghost value = { clause };
+
     fn copy(&self, alloc: Global) -> Result<Clause, AllocError>
         ensures { IfOk result (λ copy. clause copy ≡ clause self.now) }
     {
-        copy_clause(alloc, self)
+        copy_item(alloc, self)
+    }
+}
+
+impl Copied for Branch {
+    ghost Value = { BranchTree };
+
+    ghost value = { branch };
+
+    fn copy(&self, alloc: Global) -> Result<Branch, AllocError>
+        ensures { IfOk result (λ copy. branch copy ≡ branch self.now) }
+    {
+        let cond = copy_condition(alloc, &self.cond)?;
+        let body = copy_items(alloc, &self.body)?;
+        Ok(Branch { cond, body })
     }
 }
 
 impl Copied for Decl {
+    ghost Value = { Declaration };
+
+    ghost value = { declaration };
+
     fn copy(&self, alloc: Global) -> Result<Decl, AllocError>
         ensures { IfOk result (λ copy. declaration copy ≡ declaration self.now) }
     {
-        copy_decl(alloc, self)
+        let name = self.name.copy(alloc)?;
+        let size = copy_optional_expression(alloc, &self.size)?;
+        let start = copy_optional_expression(alloc, &self.start)?;
+        let value = copy_optional_expression(alloc, &self.value)?;
+        let quantum = copy_optional_expression(alloc, &self.quantum)?;
+        Ok(Decl {
+            prefix: self.prefix,
+            whole: self.whole,
+            name,
+            size,
+            start,
+            value,
+            quantum,
+            at: self.at,
+        })
+    }
+}
+
+impl Copied for SettingItem {
+    ghost Value = { Setting };
+
+    ghost value = { setting };
+
+    fn copy(&self, alloc: Global) -> Result<SettingItem, AllocError>
+        ensures { IfOk result (λ copy. setting copy ≡ setting self.now) }
+    {
+        let value = copy_expression(alloc, &self.value)?;
+        Ok(SettingItem {
+            which: self.which,
+            value,
+            at: self.at,
+        })
     }
 }
 
 impl Copied for Model {
+    ghost Value = { ModelTree };
+
+    ghost value = { model };
+
     fn copy(&self, alloc: Global) -> Result<Model, AllocError>
         ensures { IfOk result (λ copy. model copy ≡ model self.now) }
     {
-        copy_model(alloc, self)
+        let name = self.name.copy(alloc)?;
+        let end_name = self.end_name.copy(alloc)?;
+        let decls = copy_list(alloc, &self.decls)?;
+        let starts = copy_items(alloc, &self.starts)?;
+        let equations = copy_items(alloc, &self.equations)?;
+        let clauses = copy_items(alloc, &self.clauses)?;
+        let settings = copy_list(alloc, &self.settings)?;
+        Ok(Model {
+            name,
+            end_name,
+            end_at: self.end_at,
+            decls,
+            starts,
+            equations,
+            clauses,
+            settings,
+        })
     }
 }
 
 impl Copied for Expr {
+    ghost Value = { Expression };
+
+    ghost value = { expression };
+
     fn copy(&self, alloc: Global) -> Result<Expr, AllocError>
         ensures { IfOk result (λ copy. expression copy ≡ expression self.now) }
     {
@@ -59,40 +202,79 @@ impl Copied for Expr {
     }
 }
 
-// Returns a copy of an equation.
-#[cycle(copying_equations)]
-fn copy_equation(alloc: Global, one: &Equation) -> Result<Equation, AllocError>
-    ensures { IfOk result (λ copy. equation copy ≡ equation one.now) }
+// Returns a copy of an item that occurs in loops.
+fn copy_item<T: CopiedItem>(alloc: Global, one: &T) -> Result<T, AllocError>
+    ensures { IfOk result (λ copy. T.tree copy ≡ T.tree one.now) }
 {
-    match one {
-        Equation::Der { target, value } => {
-            let target = copy_reference(alloc, target)?;
-            let value = copy_expression(alloc, value)?;
-            Ok(Equation::Der { target, value })
+    match one.nested() {
+        Nested::One(one) => one.copy_one(alloc),
+        Nested::Each { range, body } => {
+            let range = copy_range(alloc, range)?;
+            let body = copy_items(alloc, body)?;
+            Ok(T::from_loop(range, body))
         }
-        Equation::Plain { target, value } => {
-            let target = copy_reference(alloc, target)?;
-            let value = copy_expression(alloc, value)?;
-            Ok(Equation::Plain { target, value })
+    }
+}
+
+// Returns a copy of items and of the loops over items.
+fn copy_items<T: CopiedItem>(alloc: Global, items: &[T]) -> Result<Vec<T>, AllocError>
+    ensures { IfOk result (λ copy. map T.tree copy.items ≡ map T.tree items.now) }
+{
+    let mut all = Vec::new(alloc);
+    for one in items {
+        match one.nested() {
+            Nested::One(one) => {
+                let copy = one.copy_one(alloc)?;
+                all.push(copy)?;
+            }
+            Nested::Each { range, body } => {
+                let range = copy_range(alloc, range)?;
+                let body = copy_items(alloc, body)?;
+                all.push(T::from_loop(range, body))?;
+            }
         }
-        Equation::For {
-            var,
-            at,
-            from,
-            to,
-            body,
-        } => {
-            let var = var.copy(alloc)?;
-            let from = copy_expression(alloc, from)?;
-            let to = copy_expression(alloc, to)?;
-            let body = copy_equations(alloc, body)?;
-            Ok(Equation::For {
-                var,
-                at: *at,
-                from,
-                to,
-                body,
-            })
+    }
+    Ok(all)
+}
+
+// Returns a copy of the head of a loop.
+fn copy_range(alloc: Global, range: RangeRef) -> Result<Range, AllocError>
+    ensures { IfOk result (λ copy. owned_range copy ≡ range_of range.entry) }
+{
+    let var = range.var.copy(alloc)?;
+    let from = copy_expression(alloc, range.from)?;
+    let to = copy_expression(alloc, range.to)?;
+    Ok(Range {
+        var,
+        at: range.at,
+        from,
+        to,
+    })
+}
+
+// Returns a copy of a condition.
+fn copy_condition(alloc: Global, cond: &Cond) -> Result<Cond, AllocError>
+    ensures { IfOk result (λ copy. condition copy ≡ condition cond.now) }
+{
+    let left = copy_expression(alloc, &cond.left)?;
+    let right = copy_expression(alloc, &cond.right)?;
+    Ok(Cond {
+        left,
+        rel: cond.rel,
+        right,
+        at: cond.at,
+    })
+}
+
+// Returns a copy of an optional expression.
+fn copy_optional_expression(alloc: Global, value: &Option<Expr>) -> Result<Option<Expr>, AllocError>
+    ensures { IfOk result (λ copy. option_map expression copy ≡ option_map expression value.now) }
+{
+    match value {
+        None => Ok(None),
+        Some(value) => {
+            let copy = copy_expression(alloc, value)?;
+            Ok(Some(copy))
         }
     }
 }
@@ -192,247 +374,4 @@ fn copy_factors(alloc: Global, factors: &[Factor]) -> Result<Vec<Factor>, AllocE
         })?;
     }
     Ok(all)
-}
-
-/// Returns a copy of the equations.
-#[cycle(copying_equations)]
-pub fn copy_equations(alloc: Global, equations: &[Equation]) -> Result<Vec<Equation>, AllocError>
-    ensures { IfOk result (λ copy. map equation copy.items ≡ map equation equations.now) }
-{
-    let mut all = Vec::new(alloc);
-    for one in equations {
-        let copy = copy_equation(alloc, one)?;
-        all.push(copy)?;
-    }
-    Ok(all)
-}
-
-// Returns a copy of a statement.
-#[cycle(copying_statements)]
-fn copy_statement(alloc: Global, one: &Statement) -> Result<Statement, AllocError>
-    ensures { IfOk result (λ copy. statement copy ≡ statement one.now) }
-{
-    match one {
-        Statement::Set { target, value } => {
-            let target = copy_reference(alloc, target)?;
-            let value = copy_expression(alloc, value)?;
-            Ok(Statement::Set { target, value })
-        }
-        Statement::Reinit { target, value } => {
-            let target = copy_reference(alloc, target)?;
-            let value = copy_expression(alloc, value)?;
-            Ok(Statement::Reinit { target, value })
-        }
-        Statement::For {
-            var,
-            at,
-            from,
-            to,
-            body,
-        } => {
-            let var = var.copy(alloc)?;
-            let from = copy_expression(alloc, from)?;
-            let to = copy_expression(alloc, to)?;
-            let body = copy_statements(alloc, body)?;
-            Ok(Statement::For {
-                var,
-                at: *at,
-                from,
-                to,
-                body,
-            })
-        }
-    }
-}
-
-/// Returns a copy of the statements.
-#[cycle(copying_statements)]
-pub fn copy_statements(
-    alloc: Global,
-    statements: &[Statement],
-) -> Result<Vec<Statement>, AllocError>
-    ensures { IfOk result (λ copy. map statement copy.items ≡ map statement statements.now) }
-{
-    let mut all = Vec::new(alloc);
-    for one in statements {
-        let copy = copy_statement(alloc, one)?;
-        all.push(copy)?;
-    }
-    Ok(all)
-}
-
-// Returns a copy of a clause.
-#[cycle(copying_clauses)]
-fn copy_clause(alloc: Global, one: &Clause) -> Result<Clause, AllocError>
-    ensures { IfOk result (λ copy. clause copy ≡ clause one.now) }
-{
-    match one {
-        Clause::When { branches } => {
-            let branches = copy_branches(alloc, branches)?;
-            Ok(Clause::When { branches })
-        }
-        Clause::For {
-            var,
-            at,
-            from,
-            to,
-            body,
-        } => {
-            let var = var.copy(alloc)?;
-            let from = copy_expression(alloc, from)?;
-            let to = copy_expression(alloc, to)?;
-            let body = copy_clauses(alloc, body)?;
-            Ok(Clause::For {
-                var,
-                at: *at,
-                from,
-                to,
-                body,
-            })
-        }
-    }
-}
-
-/// Returns a copy of the branches.
-pub fn copy_branches(alloc: Global, branches: &[Branch]) -> Result<Vec<Branch>, AllocError>
-    ensures { IfOk result (λ copy. map branch copy.items ≡ map branch branches.now) }
-{
-    let mut all = Vec::new(alloc);
-    for one in branches {
-        let copy = copy_branch(alloc, one)?;
-        all.push(copy)?;
-    }
-    Ok(all)
-}
-
-/// Returns a copy of a branch.
-pub fn copy_branch(alloc: Global, one: &Branch) -> Result<Branch, AllocError>
-    ensures { IfOk result (λ copy. branch copy ≡ branch one.now) }
-{
-    let cond = copy_condition(alloc, &one.cond)?;
-    let body = copy_statements(alloc, &one.body)?;
-    Ok(Branch { cond, body })
-}
-
-/// Returns a copy of a condition.
-pub fn copy_condition(alloc: Global, cond: &Cond) -> Result<Cond, AllocError>
-    ensures { IfOk result (λ copy. condition copy ≡ condition cond.now) }
-{
-    let left = copy_expression(alloc, &cond.left)?;
-    let right = copy_expression(alloc, &cond.right)?;
-    Ok(Cond {
-        left,
-        rel: cond.rel,
-        right,
-        at: cond.at,
-    })
-}
-
-/// Returns a copy of the clauses.
-#[cycle(copying_clauses)]
-pub fn copy_clauses(alloc: Global, clauses: &[Clause]) -> Result<Vec<Clause>, AllocError>
-    ensures { IfOk result (λ copy. map clause copy.items ≡ map clause clauses.now) }
-{
-    let mut all = Vec::new(alloc);
-    for one in clauses {
-        let copy = copy_clause(alloc, one)?;
-        all.push(copy)?;
-    }
-    Ok(all)
-}
-
-// Returns a copy of a declaration.
-fn copy_decl(alloc: Global, decl: &Decl) -> Result<Decl, AllocError>
-    ensures { IfOk result (λ copy. declaration copy ≡ declaration decl.now) }
-{
-    let name = decl.name.copy(alloc)?;
-    let size = copy_optional_expression(alloc, &decl.size)?;
-    let start = copy_optional_expression(alloc, &decl.start)?;
-    let value = copy_optional_expression(alloc, &decl.value)?;
-    let quantum = copy_optional_expression(alloc, &decl.quantum)?;
-    Ok(Decl {
-        prefix: decl.prefix,
-        whole: decl.whole,
-        name,
-        size,
-        start,
-        value,
-        quantum,
-        at: decl.at,
-    })
-}
-
-// Returns a copy of an optional expression.
-fn copy_optional_expression(alloc: Global, value: &Option<Expr>) -> Result<Option<Expr>, AllocError>
-    ensures { IfOk result (λ copy. option_map expression copy ≡ option_map expression value.now) }
-{
-    match value {
-        None => Ok(None),
-        Some(value) => {
-            let copy = copy_expression(alloc, value)?;
-            Ok(Some(copy))
-        }
-    }
-}
-
-// Returns a copy of a model.
-fn copy_model(alloc: Global, m: &Model) -> Result<Model, AllocError>
-    ensures { IfOk result (λ copy. model copy ≡ model m.now) }
-{
-    let name = m.name.copy(alloc)?;
-    let end_name = m.end_name.copy(alloc)?;
-    let decls = copy_decls(alloc, &m.decls)?;
-    let starts = copy_statements(alloc, &m.starts)?;
-    let equations = copy_equations(alloc, &m.equations)?;
-    let clauses = copy_clauses(alloc, &m.clauses)?;
-    let settings = copy_settings(alloc, &m.settings)?;
-    Ok(Model {
-        name,
-        end_name,
-        end_at: m.end_at,
-        decls,
-        starts,
-        equations,
-        clauses,
-        settings,
-    })
-}
-
-/// Returns a copy of the declarations.
-pub fn copy_decls(alloc: Global, decls: &[Decl]) -> Result<Vec<Decl>, AllocError>
-    ensures { IfOk result (λ copy. map declaration copy.items ≡ map declaration decls.now) }
-{
-    let mut all = Vec::new(alloc);
-    for one in decls {
-        let copy = copy_decl(alloc, one)?;
-        all.push(copy)?;
-    }
-    Ok(all)
-}
-
-/// Returns a copy of the settings.
-pub fn copy_settings(
-    alloc: Global,
-    settings: &[SettingItem],
-) -> Result<Vec<SettingItem>, AllocError>
-    ensures { IfOk result (λ copy. map setting copy.items ≡ map setting settings.now) }
-{
-    let mut all = Vec::new(alloc);
-    for one in settings {
-        let copy = copy_setting(alloc, one)?;
-        all.push(copy)?;
-    }
-    Ok(all)
-}
-
-/// Returns a copy of a setting.
-pub fn copy_setting(alloc: Global, one: &SettingItem) -> Result<SettingItem, AllocError>
-    ensures { IfOk result (λ copy. setting copy ≡ setting one.now) }
-{
-    let value = copy_expression(alloc, &one.value)?;
-    Ok(SettingItem {
-        which: one.which,
-        value,
-        at: one.at,
-    })
 }
