@@ -4,6 +4,7 @@
 #![tactic(auto)]
 
 mod expression_text;
+mod item_text;
 mod model_text;
 
 pub use model_text::write_model;

@@ -1,7 +1,7 @@
 use Rattle.std.proofs.Common.{◌≡◌, ◌++◌, true, map, drop}
 use Rattle.mu_tree.specs.ModelTree.{branch}
 use Rattle.mu_tree.specs.Canonical.{joined, written_branches}
-use Rattle.mu_canonical.proofs.model_text.write_branches.Given as goal
+use Rattle.mu_canonical.proofs.item_text.write_branches.Given as goal
 
 -- what is left to write completes the text
 abbrev pub invariant-loop-one : goal.invariant-loop-one
