@@ -2,3 +2,4 @@ mod LeastLemmas
 pub mod Shapes
 pub mod LeastLaws
 mod TableLemmas
+mod NestedFaults

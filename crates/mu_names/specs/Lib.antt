@@ -6,3 +6,4 @@ pub mod DeclaredRoles
 pub mod Naming
 pub mod DeclarationFaults
 pub mod Roles
+pub mod Words

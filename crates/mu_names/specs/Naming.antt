@@ -1,7 +1,11 @@
 -- The faults of names in equations, clauses and start assignments, each at its offset.
 use Rattle.std.specs.Prelude.{ℕ, Bool, true, false, not, ◌&&◌, if◌then◌else◌, List, [], ◌∷◌, ◌++◌}
+use Rattle.std.specs.List.{flat_map}
+use Rattle.std.proofs.Common.{◌≡◌, ◌∙◌, map, refl, sym, ap}
+use Rattle.std.proofs.lemmas.List.Concat.{flat_map-cons}
 use Rattle.mu_tree.specs.Expression.{Expression, Number, Variable, Now, Previous, Sum, Product, Power, Reference, Whole, Element, Terms, no_terms, term, Factors, no_factors, factor}
-use Rattle.mu_tree.specs.ModelTree.{Range, EquationTree, Derivative, Algebraic as PlainEquation, EachEquation, EquationTrees, no_equations, equation_then, StatementTree, Assign, Restart, EachStatement, StatementTrees, no_statements, statement_then, BranchTree, ClauseTree, Branches, EachClause, ClauseTrees, no_clauses, clause_then, statements_of}
+use Rattle.mu_tree.specs.ModelTree.{Range, EquationTree, EquationTrees, StatementTree, StatementTrees, BranchTree, ClauseTree, ClauseTrees, statements_of}
+use Rattle.mu_tree.specs.Nests.{Each, NestTree, NestTrees, One, OneEquation, OneStatement, clause_item, clause_items, equation_item, equation_items, item_then, items_of, no_items, statement_item, statement_items}
 use Rattle.mu_names.specs.declared.name_fault.NameErr.{NameErr}
 use Rattle.mu_names.specs.declared.name_fault.NameErr.TheVariants.{Duplicate, Unknown, Misused}
 use Rattle.mu_names.specs.declared.name_kind.Role.{Role}
@@ -116,38 +120,91 @@ range_faults known r = taken_faults r.at (known r.var) ++ (expression_faults rea
 abbrev pub sides_faults : NameRequirement → NameContext → (List ℕ → NameKind) → Reference → Expression → List NameErr
 sides_faults want place known target e = reference_faults want known target ++ expression_faults place known e
 
-abbrev mutual
-  -- the faults of an equation inside these loops
-  pub equation_faults : (List ℕ → NameKind) → List (List ℕ) → EquationTree → List NameErr
-  equation_faults declared loops (Derivative target e) = sides_faults wanted.State reading.Equation (name_kind_in loops declared) target e
-  equation_faults declared loops (PlainEquation target e) = sides_faults wanted.Algebraic reading.Equation (name_kind_in loops declared) target e
-  equation_faults declared loops (EachEquation range body) = range_faults (name_kind_in loops declared) range ++ equations_faults declared (loops ++ range.var ∷ []) body
+-- the faults of an equation that is no loop
+abbrev pub one_equation_faults : (List ℕ → NameKind) → List (List ℕ) → OneEquation → List NameErr
+one_equation_faults declared loops e =
+    sides_faults (if e.der then wanted.State else wanted.Algebraic) reading.Equation
+    (name_kind_in loops declared) e.target e.value
 
-  pub equations_faults : (List ℕ → NameKind) → List (List ℕ) → EquationTrees → List NameErr
-  equations_faults declared loops no_equations = []
-  equations_faults declared loops (equation_then e es) = equation_faults declared loops e ++ equations_faults declared loops es
+-- the faults of a statement of a clause that is no loop
+abbrev pub one_statement_faults : (List ℕ → NameKind) → List (List ℕ) → OneStatement → List NameErr
+one_statement_faults declared loops s =
+    sides_faults (if s.restart then wanted.State else wanted.Discrete) reading.Clause
+    (name_kind_in loops declared) s.target s.value
 
-abbrev mutual
-  -- the faults of a statement of a clause
-  pub statement_faults : (List ℕ → NameKind) → List (List ℕ) → StatementTree → List NameErr
-  statement_faults declared loops (Assign target e) = sides_faults wanted.Discrete reading.Clause (name_kind_in loops declared) target e
-  statement_faults declared loops (Restart target e) = sides_faults wanted.State reading.Clause (name_kind_in loops declared) target e
-  statement_faults declared loops (EachStatement range body) = range_faults (name_kind_in loops declared) range ++ statements_faults declared (loops ++ range.var ∷ []) body
-
-  pub statements_faults : (List ℕ → NameKind) → List (List ℕ) → StatementTrees → List NameErr
-  statements_faults declared loops no_statements = []
-  statements_faults declared loops (statement_then s ss) = statement_faults declared loops s ++ statements_faults declared loops ss
+-- the faults of a start assignment, whose right side is a constant expression
+abbrev pub one_start_faults : (List ℕ → NameKind) → List (List ℕ) → OneStatement → List NameErr
+one_start_faults declared loops s =
+    if s.restart then []
+    else sides_faults wanted.Started reading.Constant (name_kind_in loops declared) s.target s.value
 
 abbrev mutual
-  -- the faults of a start assignment, whose right side is a constant expression
-  pub start_faults : (List ℕ → NameKind) → List (List ℕ) → StatementTree → List NameErr
-  start_faults declared loops (Assign target e) = sides_faults wanted.Started reading.Constant (name_kind_in loops declared) target e
-  start_faults declared loops (Restart target e) = []
-  start_faults declared loops (EachStatement range body) = range_faults (name_kind_in loops declared) range ++ starts_faults declared (loops ++ range.var ∷ []) body
+  -- the faults of an item inside these loops, where `one` states those of an item that is no loop
+  pub item_faults : {L : Type 0} → ((List ℕ → NameKind) → List (List ℕ) → L → List NameErr)
+      → (List ℕ → NameKind) → List (List ℕ) → NestTree L → List NameErr
+  item_faults one declared loops (One l) = one declared loops l
+  item_faults one declared loops (Each range body) =
+      range_faults (name_kind_in loops declared) range
+      ++ items_faults one declared (loops ++ range.var ∷ []) body
 
-  pub starts_faults : (List ℕ → NameKind) → List (List ℕ) → StatementTrees → List NameErr
-  starts_faults declared loops no_statements = []
-  starts_faults declared loops (statement_then s ss) = start_faults declared loops s ++ starts_faults declared loops ss
+  pub items_faults : {L : Type 0} → ((List ℕ → NameKind) → List (List ℕ) → L → List NameErr)
+      → (List ℕ → NameKind) → List (List ℕ) → NestTrees L → List NameErr
+  items_faults one declared loops no_items = []
+  items_faults one declared loops (item_then x xs) =
+      item_faults one declared loops x ++ items_faults one declared loops xs
+
+-- the faults, unless the item is a loop
+abbrev pub unless_loop : {L : Type 0} → NestTree L → List NameErr → List NameErr
+unless_loop (One l) faults = faults
+unless_loop (Each range body) faults = []
+
+-- the faults of a list of items are those of each item
+pub list_faults : {T Tree L : Type 0} (one : (List ℕ → NameKind) → List (List ℕ) → L → List NameErr)
+    (tree : T → Tree) (item : Tree → NestTree L) (declared : List ℕ → NameKind)
+    (loops : List (List ℕ)) (xs : List T)
+    → items_faults one declared loops (items_of (map item (map tree xs)))
+    ≡ flat_map (λ x. item_faults one declared loops (item (tree x))) xs
+list_faults {T} {Tree} {L} one tree item declared loops [] = refl
+list_faults {T} {Tree} {L} one tree item declared loops (x ∷ xs) =
+    ap (λ fs. item_faults one declared loops (item (tree x)) ++ fs)
+    (list_faults one tree item declared loops xs)
+    ∙ sym (flat_map-cons (λ y. item_faults one declared loops (item (tree y))) x xs)
+
+-- the faults of a loop are those of its range and of its body
+pub loop_faults : {T Tree L : Type 0} (one : (List ℕ → NameKind) → List (List ℕ) → L → List NameErr)
+    (tree : T → Tree) (each : Range → List Tree → Tree) (item : Tree → NestTree L)
+    (each_item : (r : Range) (ts : List Tree) → item (each r ts) ≡ Each r (items_of (map item ts)))
+    (declared : List ℕ → NameKind) (loops : List (List ℕ)) (x : T) (r : Range) (body : List T)
+    → tree x ≡ each r (map tree body)
+    → item_faults one declared loops (item (tree x))
+    ≡ range_faults (name_kind_in loops declared) r
+    ++ flat_map (λ y. item_faults one declared (loops ++ r.var ∷ []) (item (tree y))) body
+loop_faults {T} {Tree} {L} one tree each item each_item declared loops x r body is =
+    ap (item_faults one declared loops) (ap item is ∙ each_item r (map tree body))
+    ∙ ap (λ fs. range_faults (name_kind_in loops declared) r ++ fs)
+    (list_faults one tree item declared (loops ++ r.var ∷ []) body)
+
+-- the faults of equations, of statements of a clause, and of start assignments
+abbrev pub equation_faults : (List ℕ → NameKind) → List (List ℕ) → EquationTree → List NameErr
+equation_faults declared loops e = item_faults one_equation_faults declared loops (equation_item e)
+
+abbrev pub equations_faults : (List ℕ → NameKind) → List (List ℕ) → EquationTrees → List NameErr
+equations_faults declared loops es =
+    items_faults one_equation_faults declared loops (equation_items es)
+
+abbrev pub statement_faults : (List ℕ → NameKind) → List (List ℕ) → StatementTree → List NameErr
+statement_faults declared loops s =
+    item_faults one_statement_faults declared loops (statement_item s)
+
+abbrev pub statements_faults : (List ℕ → NameKind) → List (List ℕ) → StatementTrees → List NameErr
+statements_faults declared loops ss =
+    items_faults one_statement_faults declared loops (statement_items ss)
+
+abbrev pub start_faults : (List ℕ → NameKind) → List (List ℕ) → StatementTree → List NameErr
+start_faults declared loops s = item_faults one_start_faults declared loops (statement_item s)
+
+abbrev pub starts_faults : (List ℕ → NameKind) → List (List ℕ) → StatementTrees → List NameErr
+starts_faults declared loops ss = items_faults one_start_faults declared loops (statement_items ss)
 
 -- the faults of a branch
 abbrev pub branch_faults : (List ℕ → NameKind) → List (List ℕ) → BranchTree → List NameErr
@@ -161,12 +218,9 @@ abbrev pub branches_faults : (List ℕ → NameKind) → List (List ℕ) → Lis
 branches_faults declared loops [] = []
 branches_faults declared loops (b ∷ bs) = branch_faults declared loops b ++ branches_faults declared loops bs
 
-abbrev mutual
-  -- the faults of a clause
-  pub clause_faults : (List ℕ → NameKind) → List (List ℕ) → ClauseTree → List NameErr
-  clause_faults declared loops (Branches bs) = branches_faults declared loops bs
-  clause_faults declared loops (EachClause range body) = range_faults (name_kind_in loops declared) range ++ clauses_faults declared (loops ++ range.var ∷ []) body
+-- the faults of clauses
+abbrev pub clause_faults : (List ℕ → NameKind) → List (List ℕ) → ClauseTree → List NameErr
+clause_faults declared loops c = item_faults branches_faults declared loops (clause_item c)
 
-  pub clauses_faults : (List ℕ → NameKind) → List (List ℕ) → ClauseTrees → List NameErr
-  clauses_faults declared loops no_clauses = []
-  clauses_faults declared loops (clause_then c cs) = clause_faults declared loops c ++ clauses_faults declared loops cs
+abbrev pub clauses_faults : (List ℕ → NameKind) → List (List ℕ) → ClauseTrees → List NameErr
+clauses_faults declared loops cs = items_faults branches_faults declared loops (clause_items cs)

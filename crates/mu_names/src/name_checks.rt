@@ -1,14 +1,13 @@
 //! Checks the use of names in equations, clauses and start assignments. The result is the scope of
 //! the model, or the fault with the least offset in the source.
 
-ghost use Rattle.std.specs.Prelude.{◌≡◌, [], ◌∷◌, ◌++◌, if◌then◌else◌, ℕ, List, map, OnOk, IfOk, bytes_eq, IfErr};
-ghost use Rattle.mu_names.specs.Prelude.{expression, reference, signed, scaled, terms_of, factors_of, branch, clause, clauses_of, condition, equation, equations_of, range, statement, statements_of, model};
-ghost use Rattle.mu_names.specs.DeclaredRoles.{name_kind_in, is_among};
-ghost use Rattle.mu_names.specs.LeastFaults.{least_of};
-ghost use Rattle.mu_names.specs.NameTables.{name_kind_at};
-ghost use Rattle.mu_names.specs.Naming.{named_faults, time_faults, taken_faults, expression_faults, reference_faults, terms_faults, factors_faults, range_faults, sides_faults, equation_faults, equations_faults, statement_faults, statements_faults, start_faults, starts_faults, branch_faults, branches_faults, clause_faults, clauses_faults};
-ghost use Rattle.mu_names.specs.Roles.{model_faults, scope_of, IsRefusal};
+ghost use Rattle.std.specs.Prelude.{◌≡◌, [], ◌∷◌, ◌++◌, if◌then◌else◌, ◌-◌, ℕ, List, length, map, take, OnOk, IfOk, bytes_eq, IfErr};
+ghost use Rattle.std.proofs.Common.{ap};
+ghost use Rattle.mu_names.specs.Prelude.{branch, clause, clauses_of, equation, equations_of, expression, factors_of, flat_map, model, range_of, reference, scaled, signed, statement, statements_of, terms_of, EachClause, EachEquation, EachStatement, Range, Each, clause_item, clause_items_of, equation_item, equation_items_of, statement_item, statement_items_of};
+ghost use Rattle.mu_names.specs.Words.{name_kind_in, is_among, least_of, name_kind_at, branch_faults, branches_faults, clause_faults, equation_faults, expression_faults, factors_faults, loop_faults, named_faults, one_equation_faults, one_start_faults, one_statement_faults, range_faults, reference_faults, sides_faults, start_faults, statement_faults, taken_faults, terms_faults, time_faults, unless_loop, model_faults, scope_of, IsRefusal};
+ghost use Rattle.mu_names.specs.declared.name_fault.NameErr.{NameErr};
 ghost use Rattle.mu_names.specs.declared.name_fault.NameErr.TheVariants.{EndName};
+ghost use Rattle.mu_names.specs.declared.name_kind.NameKind.{NameKind};
 
 use crate::declared_scope::{
     Scope, declared_names, derived_names, evaluate_declarations, known_declared_names,
@@ -18,9 +17,44 @@ use crate::name_fault::{NameErr, keep_least_fault};
 use crate::name_kind::{NameContext, NameKind, NameRequirement};
 use crate::name_table::find;
 use mu_io::{Items, Name};
-use mu_tree::{Branch, Clause, Equation, Expr, Factor, Model, Ref, Statement, Term};
+use mu_tree::{
+    Branch, Clause, Equation, Expr, Factor, Model, Nest, Nested, RangeRef, Ref, Statement, Term,
+};
 use std::alloc::{AllocError, Global};
 use std::collections::BTreeMap;
+
+/// The initial algorithm, as a part of a model in which names are checked.
+pub struct Initial;
+
+/// The equations and the clauses, as the other part.
+pub struct Main;
+
+/// Items of a part whose names are checked. `faults` are the faults of an item inside loops.
+pub trait CheckNames<P>: Nest {
+    ghost faults: { (List ℕ → NameKind) → List (List ℕ) → Self → List NameErr };
+
+    /// Records the faults of an item that is no loop. Errors: allocation failure.
+    fn check_one(
+        &self,
+        alloc: Global,
+        declared: &BTreeMap<&[u8], NameKind>,
+        loops: &mut Vec<Name>,
+        least: &mut Option<NameErr>,
+    ) -> Result<(), AllocError>
+        ensures faults { OnOk result
+            (least.new
+            ≡ least_of least.old
+            (unless_loop (Self.item (Self.tree self.now))
+            (faults (name_kind_at declared.now) loops.old.items self.now))) }
+        ensures loops { OnOk result (loops.new.items ≡ loops.old.items) };
+
+    ghost loop_faults: { (declared : List ℕ → NameKind) (loops : List (List ℕ)) (x : Self)
+        (r : Range) (body : List Self)
+        → Self.Nest.tree x ≡ Self.Nest.each r (map Self.Nest.tree body)
+        → faults declared loops x
+        ≡ range_faults (name_kind_in loops declared) r
+        ++ flat_map (faults declared (loops ++ r.var ∷ [])) body };
+}
 
 /// Returns the role, array size and values of each declared name, and the settings. Errors: the
 /// fault with the least offset (at one offset, the least number), or out of memory.
@@ -51,10 +85,10 @@ fn check_scope(alloc: Global, m: &Model, least: &mut Option<NameErr>) -> Result<
     let mut constants = BTreeMap::new(alloc);
     let values = evaluate_declarations(alloc, &declared, &mut constants, &m.decls, least)?;
     let settings = model_settings(&declared, &constants, &m.settings, least);
-    let loops = Vec::new(alloc);
-    check_starts(alloc, &declared, &loops, &m.starts, least)?;
-    check_equations(alloc, &declared, &loops, &m.equations, least)?;
-    check_clauses(alloc, &declared, &loops, &m.clauses, least)?;
+    let mut loops = Vec::new(alloc);
+    check_items::<Initial, Statement>(alloc, &declared, &mut loops, &m.starts, least)?;
+    check_items::<Main, Equation>(alloc, &declared, &mut loops, &m.equations, least)?;
+    check_items::<Main, Clause>(alloc, &declared, &mut loops, &m.clauses, least)?;
     let known = known_declared_names(alloc, &derived, settings.quantum, m, &values)?;
     Ok(Scope {
         known: Items::new(known),
@@ -76,69 +110,189 @@ fn check_end_name(m: &Model, least: &mut Option<NameErr>)
     }
 }
 
-/// Records the faults of start assignments. Errors: allocation failure.
-#[cycle(naming_starts)]
-#[tactic(auto, using(crate::proofs::LeastLemmas::least_of_append))]
-pub fn check_starts(
+// Records the faults of items inside loops. Errors: allocation failure.
+fn check_items<P, T: CheckNames<P>>(
     alloc: Global,
     declared: &BTreeMap<&[u8], NameKind>,
-    loops: &[Name],
-    statements: &[Statement],
+    loops: &mut Vec<Name>,
+    items: &[T],
     least: &mut Option<NameErr>,
 ) -> Result<(), AllocError>
-    ensures { OnOk result
+    ensures faults { OnOk result
         (least.new
         ≡ least_of least.old
-        (starts_faults (name_kind_at declared.now) loops.now
-        (statements_of (map statement statements.now)))) }
+        (flat_map (T.faults (name_kind_at declared.now) loops.old.items) items.now)) }
+    ensures loops { OnOk result (loops.new.items ≡ loops.old.items) }
 {
-    for one in statements {
-        check_start(alloc, declared, loops, one, least)?;
+    for one in items {
+        match one.nested() {
+            Nested::One(one) => one.check_one(alloc, declared, loops, least)?,
+            Nested::Each { range, body } => {
+                check_range(declared, loops, range, least);
+                enter_loop(alloc, loops, range.var)?;
+                check_items(alloc, declared, loops, body, least)?;
+                leave_loop(loops);
+            }
+        }
     }
     Ok(())
 }
 
-// Records the faults of a start assignment.
-#[cycle(naming_starts)]
-#[tactic(auto, using(crate::proofs::LeastLemmas::least_of_append))]
-fn check_start(
-    alloc: Global,
-    declared: &BTreeMap<&[u8], NameKind>,
-    loops: &[Name],
-    one: &Statement,
-    least: &mut Option<NameErr>,
-) -> Result<(), AllocError>
-    ensures { OnOk result
-        (least.new
-        ≡ least_of least.old
-        (start_faults (name_kind_at declared.now) loops.now (statement one.now))) }
-{
-    match one {
-        Statement::Set { target, value } => {
-            check_sides(
-                declared,
-                loops,
-                NameRequirement::Started,
-                NameContext::Constant,
-                target,
-                value,
-                least,
-            );
-            Ok(())
-        }
-        Statement::Reinit { .. } => Ok(()),
-        Statement::For {
-            var,
-            at,
-            from,
-            to,
-            body,
-        } => {
-            check_range(declared, loops, var, *at, from, to, least);
-            let inner = check_inner_loops(alloc, loops, var)?;
-            check_starts(alloc, declared, &inner, body, least)
+impl CheckNames<Initial> for Statement {
+    ghost faults = { λ declared loops x. start_faults declared loops (statement x) };
+
+    fn check_one(
+        &self,
+        alloc: Global,
+        declared: &BTreeMap<&[u8], NameKind>,
+        loops: &mut Vec<Name>,
+        least: &mut Option<NameErr>,
+    ) -> Result<(), AllocError> {
+        match self {
+            Statement::Set { target, value } => {
+                check_sides(
+                    declared,
+                    loops,
+                    NameRequirement::Started,
+                    NameContext::Constant,
+                    target,
+                    value,
+                    least,
+                );
+                Ok(())
+            }
+            Statement::Reinit { .. } | Statement::For { .. } => Ok(()),
         }
     }
+
+    ghost loop_faults = { loop_faults one_start_faults statement
+        (λ r ts. EachStatement r (statements_of ts)) statement_item
+        (λ r ts. ap (Each r) (statement_items_of ts)) };
+}
+
+impl CheckNames<Main> for Statement {
+    ghost faults = { λ declared loops x. statement_faults declared loops (statement x) };
+
+    fn check_one(
+        &self,
+        alloc: Global,
+        declared: &BTreeMap<&[u8], NameKind>,
+        loops: &mut Vec<Name>,
+        least: &mut Option<NameErr>,
+    ) -> Result<(), AllocError> {
+        match self {
+            Statement::Set { target, value } => {
+                check_sides(
+                    declared,
+                    loops,
+                    NameRequirement::Discrete,
+                    NameContext::Clause,
+                    target,
+                    value,
+                    least,
+                );
+                Ok(())
+            }
+            Statement::Reinit { target, value } => {
+                check_sides(
+                    declared,
+                    loops,
+                    NameRequirement::State,
+                    NameContext::Clause,
+                    target,
+                    value,
+                    least,
+                );
+                Ok(())
+            }
+            Statement::For { .. } => Ok(()),
+        }
+    }
+
+    ghost loop_faults = { loop_faults one_statement_faults statement
+        (λ r ts. EachStatement r (statements_of ts)) statement_item
+        (λ r ts. ap (Each r) (statement_items_of ts)) };
+}
+
+impl CheckNames<Main> for Equation {
+    ghost faults = { λ declared loops x. equation_faults declared loops (equation x) };
+
+    fn check_one(
+        &self,
+        alloc: Global,
+        declared: &BTreeMap<&[u8], NameKind>,
+        loops: &mut Vec<Name>,
+        least: &mut Option<NameErr>,
+    ) -> Result<(), AllocError> {
+        match self {
+            Equation::Der { target, value } => {
+                check_sides(
+                    declared,
+                    loops,
+                    NameRequirement::State,
+                    NameContext::Equation,
+                    target,
+                    value,
+                    least,
+                );
+                Ok(())
+            }
+            Equation::Plain { target, value } => {
+                check_sides(
+                    declared,
+                    loops,
+                    NameRequirement::Algebraic,
+                    NameContext::Equation,
+                    target,
+                    value,
+                    least,
+                );
+                Ok(())
+            }
+            Equation::For { .. } => Ok(()),
+        }
+    }
+
+    ghost loop_faults = { loop_faults one_equation_faults equation
+        (λ r ts. EachEquation r (equations_of ts)) equation_item
+        (λ r ts. ap (Each r) (equation_items_of ts)) };
+}
+
+impl CheckNames<Main> for Clause {
+    ghost faults = { λ declared loops x. clause_faults declared loops (clause x) };
+
+    fn check_one(
+        &self,
+        alloc: Global,
+        declared: &BTreeMap<&[u8], NameKind>,
+        loops: &mut Vec<Name>,
+        least: &mut Option<NameErr>,
+    ) -> Result<(), AllocError> {
+        match self {
+            Clause::When { branches } => check_branches(alloc, declared, loops, branches, least),
+            Clause::For { .. } => Ok(()),
+        }
+    }
+
+    ghost loop_faults = { loop_faults branches_faults clause
+        (λ r ts. EachClause r (clauses_of ts)) clause_item
+        (λ r ts. ap (Each r) (clause_items_of ts)) };
+}
+
+// Adds the variable of one more loop. Errors: allocation failure.
+fn enter_loop(alloc: Global, loops: &mut Vec<Name>, var: &Name) -> Result<(), AllocError>
+    ensures { OnOk result (loops.new.items ≡ loops.old.items ++ var.now ∷ []) }
+{
+    let name = var.copy(alloc)?;
+    loops.push(name)?;
+    Ok(())
+}
+
+// Removes the variable of the innermost loop.
+fn leave_loop(loops: &mut Vec<Name>)
+    ensures { loops.new.items ≡ take (length loops.old.items - 1) loops.old.items }
+{
+    loops.pop();
 }
 
 // Records the faults of a left side and a right side.
@@ -339,20 +493,20 @@ fn check_factors(
 fn check_range(
     declared: &BTreeMap<&[u8], NameKind>,
     loops: &[Name],
-    var: &Name,
-    at: u32,
-    from: &Expr,
-    to: &Expr,
+    range: RangeRef,
     least: &mut Option<NameErr>,
 )
     ensures { least.new
         ≡ least_of least.old
-        (range_faults (name_kind_in loops.now (name_kind_at declared.now))
-        (range var.now at (expression from.now) (expression to.now))) }
+        (range_faults (name_kind_in loops.now (name_kind_at declared.now)) (range_of range.entry)) }
 {
-    check_name_taken(at, standing(declared, loops, var.bytes()), least);
-    check_expression(declared, loops, NameContext::Constant, from, least);
-    check_expression(declared, loops, NameContext::Constant, to, least);
+    check_name_taken(
+        range.at,
+        standing(declared, loops, range.var.bytes()),
+        least,
+    );
+    check_expression(declared, loops, NameContext::Constant, range.from, least);
+    check_expression(declared, loops, NameContext::Constant, range.to, least);
 }
 
 /// Records a fault if the name is already in use.
@@ -368,160 +522,19 @@ pub fn check_name_taken(at: u32, standing: NameKind, least: &mut Option<NameErr>
     }
 }
 
-// Returns the loop variables inside one more loop. Errors: allocation failure.
-fn check_inner_loops(alloc: Global, loops: &[Name], var: &Name) -> Result<Vec<Name>, AllocError>
-    ensures { IfOk result (λ inner. inner.items ≡ loops.now ++ var.now ∷ []) }
-{
-    let mut inner = Vec::new(alloc);
-    for name in loops {
-        inner.push(name.copy(alloc)?)?;
-    }
-    inner.push(var.copy(alloc)?)?;
-    Ok(inner)
-}
-
-/// Records the faults of equations inside loops. Errors: allocation failure.
-#[cycle(naming_equations)]
-#[tactic(auto, using(crate::proofs::LeastLemmas::least_of_append))]
-pub fn check_equations(
-    alloc: Global,
-    declared: &BTreeMap<&[u8], NameKind>,
-    loops: &[Name],
-    equations: &[Equation],
-    least: &mut Option<NameErr>,
-) -> Result<(), AllocError>
-    ensures { OnOk result
-        (least.new
-        ≡ least_of least.old
-        (equations_faults (name_kind_at declared.now) loops.now
-        (equations_of (map equation equations.now)))) }
-{
-    for one in equations {
-        check_equation(alloc, declared, loops, one, least)?;
-    }
-    Ok(())
-}
-
-// Records the faults of an equation inside loops.
-#[cycle(naming_equations)]
-#[tactic(auto, using(crate::proofs::LeastLemmas::least_of_append))]
-fn check_equation(
-    alloc: Global,
-    declared: &BTreeMap<&[u8], NameKind>,
-    loops: &[Name],
-    one: &Equation,
-    least: &mut Option<NameErr>,
-) -> Result<(), AllocError>
-    ensures { OnOk result
-        (least.new
-        ≡ least_of least.old
-        (equation_faults (name_kind_at declared.now) loops.now (equation one.now))) }
-{
-    match one {
-        Equation::Der { target, value } => {
-            check_sides(
-                declared,
-                loops,
-                NameRequirement::State,
-                NameContext::Equation,
-                target,
-                value,
-                least,
-            );
-            Ok(())
-        }
-        Equation::Plain { target, value } => {
-            check_sides(
-                declared,
-                loops,
-                NameRequirement::Algebraic,
-                NameContext::Equation,
-                target,
-                value,
-                least,
-            );
-            Ok(())
-        }
-        Equation::For {
-            var,
-            at,
-            from,
-            to,
-            body,
-        } => {
-            check_range(declared, loops, var, *at, from, to, least);
-            let inner = check_inner_loops(alloc, loops, var)?;
-            check_equations(alloc, declared, &inner, body, least)
-        }
-    }
-}
-
-/// Records the faults of clauses. Errors: allocation failure.
-#[cycle(naming_clauses)]
-#[tactic(auto, using(crate::proofs::LeastLemmas::least_of_append))]
-pub fn check_clauses(
-    alloc: Global,
-    declared: &BTreeMap<&[u8], NameKind>,
-    loops: &[Name],
-    clauses: &[Clause],
-    least: &mut Option<NameErr>,
-) -> Result<(), AllocError>
-    ensures { OnOk result
-        (least.new
-        ≡ least_of least.old
-        (clauses_faults (name_kind_at declared.now) loops.now
-        (clauses_of (map clause clauses.now)))) }
-{
-    for one in clauses {
-        check_clause(alloc, declared, loops, one, least)?;
-    }
-    Ok(())
-}
-
-// Records the faults of a clause.
-#[cycle(naming_clauses)]
-#[tactic(auto, using(crate::proofs::LeastLemmas::least_of_append))]
-fn check_clause(
-    alloc: Global,
-    declared: &BTreeMap<&[u8], NameKind>,
-    loops: &[Name],
-    one: &Clause,
-    least: &mut Option<NameErr>,
-) -> Result<(), AllocError>
-    ensures { OnOk result
-        (least.new
-        ≡ least_of least.old
-        (clause_faults (name_kind_at declared.now) loops.now (clause one.now))) }
-{
-    match one {
-        Clause::When { branches } => check_branches(alloc, declared, loops, branches, least),
-        Clause::For {
-            var,
-            at,
-            from,
-            to,
-            body,
-        } => {
-            check_range(declared, loops, var, *at, from, to, least);
-            let inner = check_inner_loops(alloc, loops, var)?;
-            check_clauses(alloc, declared, &inner, body, least)
-        }
-    }
-}
-
-// Records the faults of branches.
-#[tactic(auto, using(crate::proofs::LeastLemmas::least_of_append))]
+// Records the faults of branches. Errors: allocation failure.
 fn check_branches(
     alloc: Global,
     declared: &BTreeMap<&[u8], NameKind>,
-    loops: &[Name],
+    loops: &mut Vec<Name>,
     branches: &[Branch],
     least: &mut Option<NameErr>,
 ) -> Result<(), AllocError>
-    ensures { OnOk result
+    ensures faults { OnOk result
         (least.new
         ≡ least_of least.old
-        (branches_faults (name_kind_at declared.now) loops.now (map branch branches.now))) }
+        (branches_faults (name_kind_at declared.now) loops.old.items (map branch branches.now))) }
+    ensures loops { OnOk result (loops.new.items ≡ loops.old.items) }
 {
     for one in branches {
         check_branch(alloc, declared, loops, one, least)?;
@@ -529,97 +542,21 @@ fn check_branches(
     Ok(())
 }
 
-// Records the faults of a branch.
-#[tactic(auto, using(crate::proofs::LeastLemmas::least_of_append))]
+// Records the faults of a branch. Errors: allocation failure.
 fn check_branch(
     alloc: Global,
     declared: &BTreeMap<&[u8], NameKind>,
-    loops: &[Name],
+    loops: &mut Vec<Name>,
     one: &Branch,
     least: &mut Option<NameErr>,
 ) -> Result<(), AllocError>
-    ensures { OnOk result
+    ensures faults { OnOk result
         (least.new
         ≡ least_of least.old
-        (branch_faults (name_kind_at declared.now) loops.now (branch one.now))) }
+        (branch_faults (name_kind_at declared.now) loops.old.items (branch one.now))) }
+    ensures loops { OnOk result (loops.new.items ≡ loops.old.items) }
 {
     check_expression(declared, loops, NameContext::Clause, &one.cond.left, least);
     check_expression(declared, loops, NameContext::Clause, &one.cond.right, least);
-    check_statements(alloc, declared, loops, &one.body, least)
-}
-
-// Records the faults of statements of a clause.
-#[cycle(naming_statements)]
-#[tactic(auto, using(crate::proofs::LeastLemmas::least_of_append))]
-fn check_statements(
-    alloc: Global,
-    declared: &BTreeMap<&[u8], NameKind>,
-    loops: &[Name],
-    statements: &[Statement],
-    least: &mut Option<NameErr>,
-) -> Result<(), AllocError>
-    ensures { OnOk result
-        (least.new
-        ≡ least_of least.old
-        (statements_faults (name_kind_at declared.now) loops.now
-        (statements_of (map statement statements.now)))) }
-{
-    for one in statements {
-        check_statement(alloc, declared, loops, one, least)?;
-    }
-    Ok(())
-}
-
-// Records the faults of a statement of a clause.
-#[cycle(naming_statements)]
-#[tactic(auto, using(crate::proofs::LeastLemmas::least_of_append))]
-fn check_statement(
-    alloc: Global,
-    declared: &BTreeMap<&[u8], NameKind>,
-    loops: &[Name],
-    one: &Statement,
-    least: &mut Option<NameErr>,
-) -> Result<(), AllocError>
-    ensures { OnOk result
-        (least.new
-        ≡ least_of least.old
-        (statement_faults (name_kind_at declared.now) loops.now (statement one.now))) }
-{
-    match one {
-        Statement::Set { target, value } => {
-            check_sides(
-                declared,
-                loops,
-                NameRequirement::Discrete,
-                NameContext::Clause,
-                target,
-                value,
-                least,
-            );
-            Ok(())
-        }
-        Statement::Reinit { target, value } => {
-            check_sides(
-                declared,
-                loops,
-                NameRequirement::State,
-                NameContext::Clause,
-                target,
-                value,
-                least,
-            );
-            Ok(())
-        }
-        Statement::For {
-            var,
-            at,
-            from,
-            to,
-            body,
-        } => {
-            check_range(declared, loops, var, *at, from, to, least);
-            let inner = check_inner_loops(alloc, loops, var)?;
-            check_statements(alloc, declared, &inner, body, least)
-        }
-    }
+    check_items::<Main, Statement>(alloc, declared, loops, &one.body, least)
 }

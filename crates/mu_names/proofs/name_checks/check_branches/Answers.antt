@@ -1,5 +1,6 @@
 use Rattle.std.proofs.Common.{◌≡◌, ◌∙◌, ◌+◌, map, drop, ap}
 use Rattle.mu_tree.specs.ModelTree.{branch}
+use Rattle.mu_names.specs.LeastFaults.{least_of}
 use Rattle.mu_names.specs.Naming.{branch_faults, branches_faults}
 use Rattle.mu_names.specs.NameTables.{name_kind_at}
 use Rattle.mu_names.proofs.LeastLemmas.{noted_first}
@@ -8,9 +9,16 @@ use Rattle.mu_names.proofs.name_checks.check_branches.Goals as goal
 
 pub loop-one-preserved : goal.loop-one-preserved
 loop-one-preserved c =
-    noted_first _ _ (branch_faults (name_kind_at c.args.declared.now) c.args.loops.now (branch c.one-item.result))
-    (branches_faults (name_kind_at c.args.declared.now) c.args.loops.now (map branch (drop (c.loop-one.one-index + 1) c.args.branches.now)))
-    (branches_faults (name_kind_at c.args.declared.now) c.args.loops.now (map branch (drop c.loop-one.one-index c.args.branches.now)))
-    c.in_ok-check_branch.ensures
-    (ap (branches_faults (name_kind_at c.args.declared.now) c.args.loops.now) (branches_from c.args.branches.now c.loop-one.one-index c.one-item.result c.loop-one-test.true c.one-item.is))
-    ∙ c.loop-one.invariant
+    let d = name_kind_at c.args.declared.now in
+    let loops = c.args.loops.now.items in
+    let same = c.loop-one.invariant.1 in
+    let x = branch c.one-item.result in (
+      noted_first _ _ (branch_faults d loops x)
+          (branches_faults d loops (map branch (drop (c.loop-one.one-index + 1) c.args.branches.now)))
+          (branches_faults d loops (map branch (drop c.loop-one.one-index c.args.branches.now)))
+          (c.in_ok-check_branch.ensures.faults
+          ∙ ap (λ ls. least_of c.loop-one.least (branch_faults d ls x)) same)
+          (ap (branches_faults d loops) (branches_from c.args.branches.now c.loop-one.one-index c.one-item.result c.loop-one-test.true c.one-item.is))
+          ∙ c.loop-one.invariant.0,
+      c.in_ok-check_branch.ensures.loops ∙ same,
+    )

@@ -11,17 +11,19 @@ use Rattle.mu_names.specs.declared.declared_scope.DeclarationValues.{Declaration
 use Rattle.mu_names.specs.declared.name_kind.NameKind.{NameKind}
 use Rattle.mu_names.specs.DeclarationFaults.{all_valued, constants_after, declarations_faults, meaning_after, no_constants, repeated_faults}
 use Rattle.mu_names.specs.LeastFaults.{least_of}
-use Rattle.mu_names.specs.Naming.{starts_faults, equations_faults, clauses_faults}
+use Rattle.mu_tree.specs.Nests.{clause_item, clause_items_of, equation_item, equation_items_of, statement_item, statement_items_of}
+use Rattle.mu_names.specs.Naming.{branches_faults, clauses_faults, equations_faults, one_equation_faults, one_start_faults, starts_faults}
 use Rattle.mu_names.specs.Roles.{all_known, default_settings, meaning_in, settings_faults, settings_from, settings_in, scope_of}
 use Rattle.mu_names.specs.DeclaredRoles.{declared_in, derived_in}
 use Rattle.mu_names.specs.NameTables.{entry_at, name_kind_at}
 use Rattle.mu_names.proofs.LeastLemmas.{noted_seven}
+use Rattle.mu_names.proofs.NestedFaults.{named}
 use Rattle.mu_names.proofs.TableLemmas.{empty_table, length-all_valued}
 use Rattle.mu_names.proofs.name_checks.check_scope.Goals as goal
 
 pub known_declared_names-requires-clause-same : goal.known_declared_names-requires-clause-same
 known_declared_names-requires-clause-same c =
-    ap length (c.deref-10.ensures.value ∙ c.in_ok-values.ensures.values)
+    ap length (c.deref-7.ensures.value ∙ c.in_ok-values.ensures.values)
     ∙ length-all_valued (name_kind_at c.in_ok-declared.declared) (entry_at c.new-constants.result) (map declaration c.deref-2.result.now)
     ∙ ap (λ ds. length (map declaration ds)) c.deref-2.ensures.value
 
@@ -30,8 +32,8 @@ returns-clause-scope c =
     let m = model c.args.m.now in
     let none : entry_at c.new-constants.result ≡ no_constants = fun_ext (empty_table c.new-constants.result c.new-constants.ensures.empty) in
     let declared : name_kind_at c.in_ok-declared.declared ≡ declared_in m = c.in_ok-declared.ensures.table in
-    let values : c.deref-10.result.now ≡ all_valued (declared_in m) no_constants m.decls =
-    c.deref-10.ensures.value ∙ c.in_ok-values.ensures.values
+    let values : c.deref-7.result.now ≡ all_valued (declared_in m) no_constants m.decls =
+    c.deref-7.ensures.value ∙ c.in_ok-values.ensures.values
     ∙ ap (λ d. all_valued d (entry_at c.new-constants.result) (map declaration c.deref-2.result.now)) declared
     ∙ ap (λ k. all_valued (declared_in m) k (map declaration c.deref-2.result.now)) none
     ∙ ap (λ ds. all_valued (declared_in m) no_constants (map declaration ds)) c.deref-2.ensures.value in
@@ -47,7 +49,7 @@ returns-clause-scope c =
     ∙ ap (λ xs. settings_from (meaning_in m) default_settings (map setting xs)) c.deref-3.ensures.value in
     let known : c.new.result ≡ all_known (settings_in m).quantum (derived_in m) m.decls (all_valued (declared_in m) no_constants m.decls) =
     c.new.ensures ∙ c.in_ok-known.ensures
-    ∙ ap (λ (s : Settings). all_known s.quantum (derived_in m) m.decls c.deref-10.result.now) settings
+    ∙ ap (λ (s : Settings). all_known s.quantum (derived_in m) m.decls c.deref-7.result.now) settings
     ∙ ap (all_known (settings_in m).quantum (derived_in m) m.decls) values in
     let scope_with : List Known → Settings → Scope = λ k s. record { known = k; settings = s } in
     ap (λ k. scope_with k c.model_settings-settings.result) known ∙ ap (scope_with (scope_of m).known) settings
@@ -80,15 +82,19 @@ returns-clause-faults c =
     ∙ ap (λ d. least_of c.evaluate_declarations.new.least (settings_faults (meaning_after (entry_at c.evaluate_declarations.new.constants) d) [] (map setting c.deref-3.result.now))) declared
     ∙ ap (λ k. least_of c.evaluate_declarations.new.least (settings_faults (meaning_after k (declared_in m)) [] (map setting c.deref-3.result.now))) constants
     ∙ ap (λ xs. least_of c.evaluate_declarations.new.least (settings_faults (meaning_in m) [] (map setting xs))) c.deref-3.ensures.value)
-    (c.in_ok-check_starts.ensures
-    ∙ ap (λ d. least_of c.model_settings-settings.new.least (starts_faults d c.deref-4.result.now (statements_of (map statement c.deref-5.result.now)))) declared
-    ∙ ap (λ l. least_of c.model_settings-settings.new.least (starts_faults (declared_in m) l (statements_of (map statement c.deref-5.result.now)))) (c.deref-4.ensures.value ∙ c.new-loops.ensures.items)
-    ∙ ap (λ xs. least_of c.model_settings-settings.new.least (starts_faults (declared_in m) [] (statements_of (map statement xs)))) c.deref-5.ensures.value)
-    (c.in_ok-check_equations.ensures
-    ∙ ap (λ d. least_of c.check_starts.new.least (equations_faults d c.deref-6.result.now (equations_of (map equation c.deref-7.result.now)))) declared
-    ∙ ap (λ l. least_of c.check_starts.new.least (equations_faults (declared_in m) l (equations_of (map equation c.deref-7.result.now)))) (c.deref-6.ensures.value ∙ c.new-loops.ensures.items)
-    ∙ ap (λ xs. least_of c.check_starts.new.least (equations_faults (declared_in m) [] (equations_of (map equation xs)))) c.deref-7.ensures.value)
-    (c.in_ok-check_clauses.ensures
-    ∙ ap (λ d. least_of c.check_equations.new.least (clauses_faults d c.deref-8.result.now (clauses_of (map clause c.deref-9.result.now)))) declared
-    ∙ ap (λ l. least_of c.check_equations.new.least (clauses_faults (declared_in m) l (clauses_of (map clause c.deref-9.result.now)))) (c.deref-8.ensures.value ∙ c.new-loops.ensures.items)
-    ∙ ap (λ xs. least_of c.check_equations.new.least (clauses_faults (declared_in m) [] (clauses_of (map clause xs)))) c.deref-9.ensures.value)
+    (c.in_ok-check_items.ensures.faults
+    ∙ ap (least_of c.model_settings-settings.new.least)
+    (named one_start_faults statement statement_item _ (declared_in m) _ [] _ c.args.m.now.starts.items
+    _ declared c.new-loops.ensures.items c.deref-4.ensures.value (statement_items_of m.starts)))
+    (c.in_ok-check_items-2.ensures.faults
+    ∙ ap (least_of c.check_items.new.least)
+    (named one_equation_faults equation equation_item _ (declared_in m) _ [] _
+    c.args.m.now.equations.items _ declared
+    (c.in_ok-check_items.ensures.loops ∙ c.new-loops.ensures.items) c.deref-5.ensures.value
+    (equation_items_of m.equations)))
+    (c.in_ok-check_items-3.ensures.faults
+    ∙ ap (least_of c.check_items-2.new.least)
+    (named branches_faults clause clause_item _ (declared_in m) _ [] _ c.args.m.now.clauses.items
+    _ declared
+    (c.in_ok-check_items-2.ensures.loops ∙ c.in_ok-check_items.ensures.loops
+    ∙ c.new-loops.ensures.items) c.deref-6.ensures.value (clause_items_of m.clauses)))

@@ -1,0 +1,33 @@
+use Rattle.std.proofs.Common.{◌≡◌, ◌∙◌, ◌++◌, map, ap, refl}
+use Rattle.std.proofs.lemmas.Result.{on_ok_weaker}
+use Rattle.mu_tree.specs.Expression.{expression}
+use Rattle.mu_tree.specs.ModelTree.{statement, statements_of}
+use Rattle.mu_tree.specs.Nests.{statement_item, statement_items_of}
+use Rattle.mu_names.specs.declared.name_kind.NameContext.TheVariants as reading
+use Rattle.mu_names.specs.DeclaredRoles.{name_kind_in}
+use Rattle.mu_names.specs.LeastFaults.{least_of}
+use Rattle.mu_names.specs.NameTables.{name_kind_at}
+use Rattle.mu_names.specs.Naming.{expression_faults, one_statement_faults, statements_faults}
+use Rattle.mu_names.proofs.LeastLemmas.{noted_both}
+use Rattle.mu_names.proofs.NestedFaults.{named}
+use Rattle.mu_names.proofs.name_checks.check_branch.Goals as goal
+
+pub returns-clause-faults : goal.returns-clause-faults
+returns-clause-faults c =
+    let d = name_kind_at c.args.declared.now in
+    let loops = c.args.loops.now.items in
+    let known = name_kind_in loops d in
+    let b = c.args.one.now in
+    let left = expression_faults reading.Clause known (expression b.cond.left) in
+    let right = expression_faults reading.Clause known (expression b.cond.right) in
+    let body = statements_faults d loops (statements_of (map statement b.body.items)) in
+    on_ok_weaker c.check_items.result
+    (λ noted. noted_both _ _ _ left (right ++ body) (left ++ (right ++ body))
+    (rw c.deref.ensures.value at c.check_expression.ensures)
+    (noted_both _ _ _ right body (right ++ body)
+    (rw c.deref-2.ensures.value at c.check_expression-2.ensures)
+    (noted ∙ ap (least_of c.check_expression-2.new.least)
+    (named one_statement_faults statement statement_item d d loops loops c.deref-3.result.now
+    b.body.items _ refl refl c.deref-3.ensures.value
+    (statement_items_of (map statement b.body.items)))) refl) refl)
+    c.check_items.ensures.faults
