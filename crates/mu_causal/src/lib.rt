@@ -1,6 +1,5 @@
 //! Causalization: the order in which the algebraic variables of a flat model can be computed.
-//! Main items: `order`, which returns a `Order` or a
-//! `CausalErr`.
+//! Main items: `order`, which returns an `Order` or a `CausalErr`.
 //! Depends on `mu_io` (lists) and `mu_tree` (flat models).
 #![tactic(auto)]
 

@@ -1,6 +1,5 @@
 //! Name analysis: the role, array size and values of each declared name, and the model's settings.
-//! Main items: `roles`, which returns a `Scope` or a
-//! `NameErr`.
+//! Main items: `roles`, which returns a `Scope` or a `NameErr`.
 //! Depends on `mu_io` (names), `mu_num` (fractions) and `mu_tree` (syntax trees).
 #![tactic(auto)]
 
