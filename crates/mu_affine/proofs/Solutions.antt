@@ -22,6 +22,7 @@ use Rattle.mu_causal.specs.Causality.{IsReady, Follow, IsOrder}
 use Rattle.mu_causal.specs.Dependencies.{names_of, names_of_terms, names_of_factors, IsAlgebraic}
 use Rattle.mu_causal.specs.Dependencies.{DependsOn, WantsEquation, wants_equation, numbers_from}
 use Rattle.mu_causal.specs.Dependencies.{EachHasOneEquation}
+use Rattle.mu_causal.proofs.Elements.{contained, contained_first, contained_later, none_contained}
 use Rattle.mu_affine.specs.declared.affine_fault.AffineErr.{AffineErr}
 use Rattle.mu_affine.specs.declared.exact_form.Sizes.{Sizes}
 use Rattle.mu_affine.specs.AffineForm.{AffineForm}
@@ -35,23 +36,7 @@ use Rattle.mu_affine.specs.FormSequence.{forms_of}
 use Rattle.mu_affine.proofs.Steps.{parts_of, same_ok}
 use Rattle.mu_affine.proofs.Bridges.{state_place, discrete_place}
 
--- an element is the first one, or one of the others
-contained : {A : Type 0} (x : A) (xs : List A) (y : A) → Contains (x ∷ xs) y → (x ≡ y) ⊎ Contains xs y
-contained x xs y (k, within, is) = by_place k within is
-  where
-    by_place : (k : ℕ) → k < length (x ∷ xs) → get_or (x ∷ xs) k y ≡ y → (x ≡ y) ⊎ Contains xs y
-    by_place zero h e = inl e
-    by_place (suc k) h e = inr (k, omega arith, e)
-
-pub contained_first : {A : Type 0} (x : A) (xs : List A) → Contains (x ∷ xs) x
-contained_first x xs = (0, omega arith, refl)
-
-pub contained_later : {A : Type 0} (x : A) (xs : List A) (y : A) → Contains xs y → Contains (x ∷ xs) y
-contained_later x xs y h = (suc h.0, omega (arith, h.1), h.2)
-
-pub none_contained : {A : Type 0} (y : A) → Contains [] y → ⊥
-none_contained y h = omega (arith, h.1)
-
+-- the element of a list with one element
 only_one : {A : Type 0} (x y : A) → Contains (x ∷ []) y → x ≡ y
 only_one x y h = elim (contained x [] y h) [ inl same ↦ same | inr none_left ↦ absurd (none_contained y none_left) ]
 

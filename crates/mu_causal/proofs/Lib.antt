@@ -2,6 +2,7 @@ mod Passing
 pub mod Listing
 pub mod Rounds
 pub mod Cycles
+pub mod Elements
 pub mod Orders
 mod FlatShapes
 pub mod FlatGraphs

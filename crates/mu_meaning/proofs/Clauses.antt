@@ -7,6 +7,7 @@ use Rattle.std.proofs.lemmas.List.Elements.{All-contains}
 use Rattle.mu_num.specs.Fraction.{difference}
 use Rattle.mu_tree.specs.FlatExpression.{FlatAction, Assign, Restart, FlatBranchTree, FlatModelTree}
 use Rattle.mu_tree.specs.FlatModels.{IsFlatModel, IsFlatAction, IsFlatBranch, IsFlatClause}
+use Rattle.mu_causal.proofs.Elements.{contained, none_contained}
 use Rattle.mu_affine.specs.declared.affine_fault.AffineErr.{AffineErr}
 use Rattle.mu_affine.specs.declared.exact_form.Sizes.{Sizes}
 use Rattle.mu_affine.specs.AffineForm.{AffineForm}
@@ -14,8 +15,7 @@ use Rattle.mu_affine.specs.FormOf.{Context, form_of}
 use Rattle.mu_affine.specs.FormSequence.{FormsSoFar, forms_of, then_take, keep, keep_actions}
 use Rattle.mu_affine.specs.FormSequence.{keep_branches, keep_clauses, action_form, condition_form}
 use Rattle.mu_affine.specs.Solution.{sizes_of, clause_context}
-use Rattle.mu_affine.proofs.Solutions.{none_contained, keep_same, actions_same, branches_same}
-use Rattle.mu_affine.proofs.Solutions.{clauses_same}
+use Rattle.mu_affine.proofs.Solutions.{keep_same, actions_same, branches_same, clauses_same}
 use Rattle.mu_affine.proofs.Steps.{parts_of}
 use Rattle.mu_meaning.specs.Values.{Valuation, both, value, form_value, IsNumber}
 use Rattle.mu_meaning.specs.Meaning.{HasDenominators, IsValuation, HasProperAction, HasProperBranch}
@@ -23,15 +23,6 @@ use Rattle.mu_meaning.specs.Meaning.{HasProperNumbers, assigned}
 use Rattle.mu_meaning.proofs.Meaning.{forms_have_values}
 use Rattle.mu_meaning.proofs.Conditions.{conditions_have_values}
 use Rattle.mu_meaning.proofs.Models.{keep_kept, expression_sound, stages}
-
--- an element is the first one, or one of the others
-contained : {A : Type 0} (x : A) (xs : List A) (y : A) → Contains (x ∷ xs) y → (x ≡ y) ⊎ Contains xs
-    y
-contained x xs y (k, within, is) = by_place k within is
-  where
-    by_place : (k : ℕ) → k < length (x ∷ xs) → get_or (x ∷ xs) k y ≡ y → (x ≡ y) ⊎ Contains xs y
-    by_place zero h e = inl e
-    by_place (suc k) h e = inr (k, omega arith, e)
 
 -- ---- each condition and each statement has a form
 

@@ -10,6 +10,7 @@ use Rattle.mu_causal.specs.Dependencies.{names_of, IsAlgebraic, DependsOn, Wants
 use Rattle.mu_causal.specs.Dependencies.{wants_equation, equation_numbers, HasOneEquation}
 use Rattle.mu_causal.specs.Dependencies.{EachHasOneEquation, EachBelowHasOneEquation}
 use Rattle.mu_causal.specs.declared.causal_outcome.CausalErr.TheVariants as ordering
+use Rattle.mu_causal.proofs.Elements.{contained}
 use Rattle.mu_causal.proofs.FlatGraphs.{Source}
 use Rattle.mu_tree.specs.FlatExpression.{FlatVariable, FlatEquationTree, FlatModelTree}
 use Rattle.mu_tree.specs.declared.flat.FlatRole.{FlatRole}
@@ -19,11 +20,7 @@ use Rattle.qss_compile.specs.Phases.{HasOrder, OrderRefuses}
 use Rattle.qss_compile.proofs.Deciding.{Decides}
 use Rattle.qss_compile.proofs.Orderings.{IsDecided, IsLeastOf, least_below, order_or_cycle}
 
--- an element is the first or one of the others
-one_of : {X : Type 0} (x w : X) (xs : List X) → Contains (x ∷ xs) w → (x ≡ w) ⊎ Contains xs w
-one_of x w xs (zero, lt, e) = inl e
-one_of x w xs (suc k, lt, e) = inr (k, omega (arith, lt), e)
-
+-- whether a list has an element
 contains_decided : (xs : List ℕ) (w : ℕ) → IsDecided (Contains xs w)
 contains_decided [] w = inr (λ c. let lt = c.1 in omega (arith, lt))
 contains_decided (x ∷ xs) w = by (cases_eq x w) (contains_decided xs w)
@@ -31,7 +28,7 @@ contains_decided (x ∷ xs) w = by (cases_eq x w) (contains_decided xs w)
     by : (x ≡ w) ⊎ (x ≢ w) → IsDecided (Contains xs w) → IsDecided (Contains (x ∷ xs) w)
     by (inl e) rest = inl (0, omega arith, e)
     by (inr ne) (inl c) = inl (suc c.0, (let lt = c.1 in omega (arith, lt)), c.2)
-    by (inr ne) (inr none) = inr (λ c. elim (one_of x w xs c) [ inl e ↦ ne e | inr later ↦ none later ])
+    by (inr ne) (inr none) = inr (λ c. elim (contained x xs w c) [ inl e ↦ ne e | inr later ↦ none later ])
 
 source_decided : (es : List FlatEquationTree) (v w : ℕ) → IsDecided (Source es v w)
 source_decided [] v w = inr (λ s. let lt = s.there.1 in omega (arith, lt))
@@ -41,7 +38,7 @@ source_decided (e ∷ es) v w = by (cases_eq e.target v) (contains_decided (name
     later s = record { equation = s.equation; there = (suc s.there.0, (let lt = s.there.1 in omega (arith, lt)), s.there.2); target = s.target; named = s.named }
 
     neither : ((e.target ≡ v) → Contains (names_of e.value) w → ⊥) → (Source es v w → ⊥) → Source (e ∷ es) v w → ⊥
-    neither fails none s = elim (one_of e s.equation es s.there) [
+    neither fails none s = elim (contained e es s.equation s.there) [
       | inl same ↦ fails (ap (λ (x : FlatEquationTree). x.target) same ∙ s.target) (subst (λ (x : FlatEquationTree). Contains (names_of x.value) w) (sym same) s.named)
       | inr c ↦ none (record { equation = s.equation; there = c; target = s.target; named = s.named })
     ]
