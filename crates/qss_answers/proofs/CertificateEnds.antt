@@ -7,11 +7,13 @@ use Rattle.std.specs.Io.KnownBytes.{Appends}
 use Rattle.qss_machine.specs.declared.compiled_machine.Machine.{Machine}
 use Rattle.cert_check.specs.Scope.{IsInScope}
 use Rattle.cert_check.specs.declared.certificate.Certificate.{Certificate}
-use Rattle.qss_answers.specs.Answers.{Answer, refused, written, TakesMemory, EndsWithoutText, Ends}
+use Rattle.qss_answers.specs.Answers.{Answer, refused, written, TakesMemory, HasNoText, Ends}
 use Rattle.qss_answers.specs.BoundTexts.{bounds_text}
 use Rattle.qss_answers.specs.CertificateAnswers.{limit, IsRefusal, IsRead, IsCertified}
 use Rattle.qss_answers.specs.CertificateAnswers.{IsCertification, IsUpgrade, HasNoBounds, RefusesBy}
 use Rattle.qss_answers.specs.AcceptedBounds.{IsSoundCertification}
+use Rattle.qss_answers.specs.declared.answer_result.AnswerErr.{AnswerErr}
+use Rattle.qss_answers.specs.declared.answer_result.AnswerErr.TheVariants as error
 use Rattle.qss_answers.specs.declared.answer_result.AnswerResult.{AnswerResult}
 use Rattle.qss_answers.specs.declared.answer_result.AnswerResult.TheVariants as ending
 use Rattle.qss_answers.specs.declared.refusal.Refusal.{Refusal}
@@ -42,30 +44,26 @@ module _ (m : Machine) (bytes : List ℕ) where
   upgrade_takes scope short a (inr (c, read, e)) = subst TakesMemory (sym e) tt
 
   -- if the bytes are not parsed, there is no upgrade
-  pub no_upgrade : IsInScope m → length bytes ≤ limit → (end : AnswerResult)
-      → RefusesBy m bytes end → EndsWithoutText (IsUpgrade m bytes) end
-  no_upgrade scope short (ending.Refused why) is = inl (why, is, refl)
-  no_upgrade scope short ending.Memory h = upgrade_takes scope short
-  no_upgrade scope short ending.Written h = absurd h
-  no_upgrade scope short ending.Fault h = absurd h
+  pub no_upgrade : IsInScope m → length bytes ≤ limit → (why : AnswerErr)
+      → RefusesBy m bytes why → HasNoText (IsUpgrade m bytes) why
+  no_upgrade scope short (error.Refused why) is = inl (why, is, refl)
+  no_upgrade scope short error.Memory h = upgrade_takes scope short
 
   module _ (c : Certificate) (read : IsRead m bytes c) where
     -- the bounds of the certificate are an answer for the bytes
-    pub certification_text : (answer : Result (Vec ℕ Global) AnswerResult)
+    pub certification_text : (answer : Result (Vec ℕ Global) AnswerErr)
         → IfOk answer (λ text. IsCertified m c (written text.items))
         → IfOk answer (λ text. IsCertification m bytes (written text.items))
     certification_text (Ok text) is = inr (c, read, is)
     certification_text (Err end) is = tt
 
     -- if the certificate has no bounds, the bytes have none
-    pub no_certification : (answer : Result (Vec ℕ Global) AnswerResult)
+    pub no_certification : (answer : Result (Vec ℕ Global) AnswerErr)
         → IfErr answer (HasNoBounds m c)
-        → IfErr answer (EndsWithoutText (IsCertification m bytes))
+        → IfErr answer (HasNoText (IsCertification m bytes))
     no_certification (Ok text) h = tt
-    no_certification (Err (ending.Refused why)) h = inr (c, read, h)
-    no_certification (Err ending.Memory) h = certification_takes read.scope read.short
-    no_certification (Err ending.Written) h = absurd h
-    no_certification (Err ending.Fault) h = absurd h
+    no_certification (Err (error.Refused why)) h = inr (c, read, h)
+    no_certification (Err error.Memory) h = certification_takes read.scope read.short
 
   -- the written bounds hold
   pub promised : {K : Type 0} (known : K → Option (List ℕ)) (faults : K → ℕ) (failed : K → Bool)

@@ -6,7 +6,9 @@ use Rattle.std.specs.declared.vec.Vec.{Vec}
 use Rattle.cert_check.specs.declared.inequality_checker.Verdict.{Verdict}
 use Rattle.cert_check.specs.declared.inequality_checker.Verdict.TheVariants as verdict
 use Rattle.qss_answers.specs.Answers.{Answer, written, judged, TakesMemory, WritesText}
-use Rattle.qss_answers.specs.Answers.{EndsWithoutText, Ends}
+use Rattle.qss_answers.specs.Answers.{result_of, HasNoText, Ends}
+use Rattle.qss_answers.specs.declared.answer_result.AnswerErr.{AnswerErr}
+use Rattle.qss_answers.specs.declared.answer_result.AnswerErr.TheVariants as error
 use Rattle.qss_answers.specs.declared.answer_result.AnswerResult.{AnswerResult}
 use Rattle.qss_answers.specs.declared.answer_result.AnswerResult.TheVariants as ending
 
@@ -25,23 +27,22 @@ judged_text text wanted (verdict.Range a b) e = absurd (cc)
 
 module _ {K : Type 0} (known : K → Option (List ℕ)) (faults : K → ℕ) (failed : K → Bool)
     (IsSuch : Answer → Type 0) (old new : K) where
-  nothing : (end : AnswerResult) → EndsWithoutText IsSuch end → new ≡ old
-      → Ends known faults failed IsSuch end old new
-  nothing (ending.Refused why) h same = (h, same)
-  nothing ending.Memory h same = (h, same)
-  nothing ending.Written h same = absurd h
-  nothing ending.Fault h same = absurd h
+  nothing : (why : AnswerErr) → HasNoText IsSuch why → new ≡ old
+      → Ends known faults failed IsSuch (result_of why) old new
+  nothing (error.Refused why) h same = (h, same)
+  nothing error.Memory h same = (h, same)
 
   -- a call that writes the text of an answer, if there is one
-  pub ends_of : (answer : Result (Vec ℕ Global) AnswerResult)
-      → IfOk answer (λ text. IsSuch (written text.items)) → IfErr answer (EndsWithoutText IsSuch)
+  pub ends_of : (answer : Result (Vec ℕ Global) AnswerErr)
+      → IfOk answer (λ text. IsSuch (written text.items)) → IfErr answer (HasNoText IsSuch)
       → (end : AnswerResult)
       → IfOk answer (λ text. WritesText known faults failed text.items end old new)
-      → IfErr answer (λ stop. (end ≡ stop) × (new ≡ old))
+      → IfErr answer (λ why. (end ≡ result_of why) × (new ≡ old))
       → Ends known faults failed IsSuch end old new
   ends_of (Ok text) is none ending.Written wrote same = (text.items, is, wrote)
   ends_of (Ok text) is none ending.Fault wrote same = (text.items, is, wrote)
   ends_of (Ok text) is none (ending.Refused why) wrote same = absurd wrote
   ends_of (Ok text) is none ending.Memory wrote same = absurd wrote
-  ends_of (Err stop) is none end wrote same =
-      nothing end (subst (EndsWithoutText IsSuch) (sym same.0) none) same.1
+  ends_of (Err why) is none end wrote same =
+      subst (λ (e : AnswerResult). Ends known faults failed IsSuch e old new) (sym same.0)
+      (nothing why none same.1)

@@ -11,9 +11,11 @@ use Rattle.cert_check.specs.declared.certificate.Certificate.{Certificate}
 use Rattle.cert_propose.specs.Proposals.{IsProposal, HasCandidate}
 use Rattle.cert_propose.specs.declared.certificate_proposal.Proposal.{Proposal}
 use Rattle.cert_propose.specs.declared.certificate_proposal.Proposal.TheVariants as proposal
-use Rattle.qss_answers.specs.Answers.{Answer, written, TakesMemory, EndsWithoutText, Ends}
+use Rattle.qss_answers.specs.Answers.{Answer, written, TakesMemory, HasNoText, Ends}
 use Rattle.qss_answers.specs.ProposalAnswers.{answer_of, IsProposed}
 use Rattle.qss_answers.specs.ProposedBounds.{IsSoundProposal}
+use Rattle.qss_answers.specs.declared.answer_result.AnswerErr.{AnswerErr}
+use Rattle.qss_answers.specs.declared.answer_result.AnswerErr.TheVariants as error
 use Rattle.qss_answers.specs.declared.answer_result.AnswerResult.{AnswerResult}
 use Rattle.qss_answers.specs.declared.answer_result.AnswerResult.TheVariants as ending
 use Rattle.qss_answers.proofs.BoundsHold.{kept_texts}
@@ -29,27 +31,25 @@ candidate_takes m scope (x, e) a (inr (inside, (proposal.Candidate c v, is, f)))
 candidate_takes m scope (x, e) a (inr (inside, (proposal.NoCandidate step, is, f))) = absurd (cc)
 
 module _ (m : Machine) (scope : IsInScope m) where
-  none_by : (p : Proposal) → IsProposal m p → (end : AnswerResult)
-      → EndsWithoutText (λ answer. answer ≡ answer_of p) end → EndsWithoutText (IsProposed m) end
-  none_by p is (ending.Refused why) e = inr (scope, (p, is, e))
-  none_by (proposal.Candidate c v) is ending.Memory takes = candidate_takes m scope (is.0, is.1)
-  none_by (proposal.NoCandidate step) is ending.Memory takes =
+  none_by : (p : Proposal) → IsProposal m p → (why : AnswerErr)
+      → HasNoText (λ answer. answer ≡ answer_of p) why → HasNoText (IsProposed m) why
+  none_by p is (error.Refused why) e = inr (scope, (p, is, e))
+  none_by (proposal.Candidate c v) is error.Memory takes = candidate_takes m scope (is.0, is.1)
+  none_by (proposal.NoCandidate step) is error.Memory takes =
       absurd (takes (answer_of (proposal.NoCandidate step)) refl)
-  none_by p is ending.Written h = absurd h
-  none_by p is ending.Fault h = absurd h
 
   module _ (p : Proposal) (is : IsProposal m p) where
     -- the text of the machine's proposal is an answer
-    pub proposed : (answer : Result (Vec ℕ Global) AnswerResult)
+    pub proposed : (answer : Result (Vec ℕ Global) AnswerErr)
         → IfOk answer (λ text. written text.items ≡ answer_of p)
         → IfOk answer (λ text. IsProposed m (written text.items))
     proposed (Ok text) e = inr (scope, (p, is, e))
     proposed (Err end) e = tt
 
     -- if the machine's proposal has no text, the machine has none
-    pub no_proposal : (answer : Result (Vec ℕ Global) AnswerResult)
-        → IfErr answer (EndsWithoutText (λ answer. answer ≡ answer_of p))
-        → IfErr answer (EndsWithoutText (IsProposed m))
+    pub no_proposal : (answer : Result (Vec ℕ Global) AnswerErr)
+        → IfErr answer (HasNoText (λ answer. answer ≡ answer_of p))
+        → IfErr answer (HasNoText (IsProposed m))
     no_proposal (Ok text) h = tt
     no_proposal (Err end) h = none_by p is end h
 

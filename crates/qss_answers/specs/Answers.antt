@@ -4,6 +4,8 @@ use Rattle.std.specs.Io.KnownBytes.{Appends}
 use Rattle.mu_io.specs.Sinks.{AppendsPrefix, EndsByFault}
 use Rattle.cert_check.specs.declared.inequality_checker.Verdict.{Verdict}
 use Rattle.cert_check.specs.declared.inequality_checker.Verdict.TheVariants.{Accepted}
+use Rattle.qss_answers.specs.declared.answer_result.AnswerErr.{AnswerErr}
+use Rattle.qss_answers.specs.declared.answer_result.AnswerErr.TheVariants as error
 use Rattle.qss_answers.specs.declared.answer_result.AnswerResult.{AnswerResult}
 use Rattle.qss_answers.specs.declared.answer_result.AnswerResult.TheVariants as ending
 use Rattle.qss_answers.specs.declared.refusal.Refusal.{Refusal}
@@ -38,12 +40,16 @@ WritesText known faults failed text ending.Fault old new =
     AppendsPrefix (known old) (known new) text × EndsByFault faults failed old new
 WritesText known faults failed text _ old new = ⊥
 
--- a call writes no text: the answer is the rejection of the ending, or an allocation failed, which
+-- the result of a call that writes no text for this reason
+abbrev pub result_of : AnswerErr → AnswerResult
+result_of (error.Refused why) = ending.Refused why
+result_of error.Memory = ending.Memory
+
+-- there is no text for this reason: the answer is this rejection, or an allocation failed, which
 -- requires that a call with each such answer allocates
-abbrev pub EndsWithoutText : (IsSuch : Answer → Type 0) → AnswerResult → Type 0
-EndsWithoutText IsSuch (ending.Refused why) = IsSuch (refused why)
-EndsWithoutText IsSuch ending.Memory = (answer : Answer) → IsSuch answer → TakesMemory answer
-EndsWithoutText IsSuch _ = ⊥
+abbrev pub HasNoText : (IsSuch : Answer → Type 0) → AnswerErr → Type 0
+HasNoText IsSuch (error.Refused why) = IsSuch (refused why)
+HasNoText IsSuch error.Memory = (answer : Answer) → IsSuch answer → TakesMemory answer
 
 -- a call with such an answer: its text is written completely, or a prefix up to a fault, or nothing
 abbrev pub Ends : {K : Type 0} → (known : K → Option (List ℕ)) → (faults : K → ℕ)
@@ -52,10 +58,12 @@ Ends known faults failed IsSuch ending.Written old new = (text : List ℕ) × Is
     × WritesText known faults failed text ending.Written old new
 Ends known faults failed IsSuch ending.Fault old new = (text : List ℕ) × IsSuch (written text)
     × WritesText known faults failed text ending.Fault old new
-Ends known faults failed IsSuch end old new = EndsWithoutText IsSuch end × (new ≡ old)
+Ends known faults failed IsSuch (ending.Refused why) old new =
+    HasNoText IsSuch (error.Refused why) × (new ≡ old)
+Ends known faults failed IsSuch ending.Memory old new =
+    HasNoText IsSuch error.Memory × (new ≡ old)
 
 -- a call returns no value: for such a rejection, or since an allocation failed
-abbrev pub IsNotReadBy : (Refusal → Type 0) → AnswerResult → Type 0
-IsNotReadBy Refuses (ending.Refused why) = Refuses why
-IsNotReadBy Refuses ending.Memory = Unit {0}
-IsNotReadBy Refuses _ = ⊥
+abbrev pub IsNotReadBy : (Refusal → Type 0) → AnswerErr → Type 0
+IsNotReadBy Refuses (error.Refused why) = Refuses why
+IsNotReadBy Refuses error.Memory = Unit {0}

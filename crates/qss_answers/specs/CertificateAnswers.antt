@@ -17,8 +17,8 @@ use Rattle.cert_check.specs.CertificateLines.{lines}
 use Rattle.cert_check.specs.CertificateTexts.{IsTextOf}
 use Rattle.cert_check.specs.Written.{lines_text}
 use Rattle.qss_answers.specs.Answers.{Answer, refused, written, judged, IsNotReadBy}
-use Rattle.qss_answers.specs.declared.answer_result.AnswerResult.{AnswerResult}
-use Rattle.qss_answers.specs.declared.answer_result.AnswerResult.TheVariants as ending
+use Rattle.qss_answers.specs.declared.answer_result.AnswerErr.{AnswerErr}
+use Rattle.qss_answers.specs.declared.answer_result.AnswerErr.TheVariants as error
 use Rattle.qss_answers.specs.declared.refusal.Refusal.{Refusal}
 use Rattle.qss_answers.specs.declared.refusal.Refusal.TheVariants as refusal
 
@@ -70,13 +70,12 @@ IsCertification m bytes answer = IsAnswer m (IsCertified m) bytes answer
 abbrev pub IsUpgrade : Machine → List ℕ → Answer → Type 0
 IsUpgrade m bytes answer = IsAnswer m (λ c such. such ≡ upgraded c) bytes answer
 
--- the bytes are not parsed, for the reason of the ending: a rejection, or out of memory
-abbrev pub RefusesBy : Machine → List ℕ → AnswerResult → Type 0
-RefusesBy m bytes end = IsNotReadBy (IsRefusal m bytes) end
+-- the bytes are not parsed for this reason: a rejection, or out of memory
+abbrev pub RefusesBy : Machine → List ℕ → AnswerErr → Type 0
+RefusesBy m bytes why = IsNotReadBy (IsRefusal m bytes) why
 
 -- the bounds of a certificate are not returned: it is rejected, or it is accepted and an allocation
 -- failed
-abbrev pub HasNoBounds : Machine → Certificate → AnswerResult → Type 0
-HasNoBounds m c (ending.Refused why) = IsCertified m c (refused why)
-HasNoBounds m c ending.Memory = IsVerdict (system_of m) (certificate_data c) Accepted
-HasNoBounds m c _ = ⊥
+abbrev pub HasNoBounds : Machine → Certificate → AnswerErr → Type 0
+HasNoBounds m c (error.Refused why) = IsCertified m c (refused why)
+HasNoBounds m c error.Memory = IsVerdict (system_of m) (certificate_data c) Accepted

@@ -14,7 +14,7 @@ use Rattle.qss_trace.specs.declared.trace.Trace.{Trace}
 use Rattle.qss_trace.specs.declared.trace_checker.TraceVerdict.TheVariants as verdict
 use Rattle.cert_check.specs.declared.text_err.TextErr.{TextErr}
 use Rattle.qss_answers.specs.Answers.{Answer, refused, written, IsNotReadBy}
-use Rattle.qss_answers.specs.declared.answer_result.AnswerResult.{AnswerResult}
+use Rattle.qss_answers.specs.declared.answer_result.AnswerErr.{AnswerErr}
 use Rattle.qss_answers.specs.declared.refusal.Refusal.{Refusal}
 use Rattle.qss_answers.specs.declared.refusal.Refusal.TheVariants as refusal
 
@@ -62,5 +62,5 @@ IsChecked m bytes answer =
     ((why : Refusal) × IsRefusal m bytes why × (answer ≡ refused why)) ⊎ ((t : Trace) × IsAccepted m bytes t × (answer ≡ written (summary t)))
 
 -- a call returns no legitimate trace: the bytes are none for this reason, or an allocation failed
-abbrev pub RefusesBy : Machine → List ℕ → AnswerResult → Type 0
-RefusesBy m bytes end = IsNotReadBy (IsRefusal m bytes) end
+abbrev pub RefusesBy : Machine → List ℕ → AnswerErr → Type 0
+RefusesBy m bytes why = IsNotReadBy (IsRefusal m bytes) why

@@ -1,4 +1,5 @@
-//! The result of a call that writes the answer for a certificate, a trace or a proposal.
+//! The result of a call that writes the answer for a certificate, a trace or a proposal, and the
+//! reason why a call has no value.
 
 use crate::refusal::Refusal;
 use std::alloc::AllocError;
@@ -16,13 +17,22 @@ pub enum AnswerResult {
     Memory,
 }
 
-impl From<AllocError> for AnswerResult {
+/// The reason why a call has no value or no text.
+#[derive(Clone, Copy, Debug, PartialEq, Eq)]
+pub enum AnswerErr {
+    /// The input is rejected.
+    Refused(Refusal),
+    /// Out of memory.
+    Memory,
+}
+
+impl From<AllocError> for AnswerErr {
     ghost use Rattle.std.specs.Prelude.{◌≡◌};
-    ghost use Rattle.qss_answers.specs.declared.answer_result.AnswerResult.TheVariants.{Memory};
+    ghost use Rattle.qss_answers.specs.declared.answer_result.AnswerErr.TheVariants.{Memory};
 
-    ghost from_gives = { λ _ end. end ≡ Memory };
+    ghost from_gives = { λ _ why. why ≡ Memory };
 
-    fn from(_: AllocError) -> AnswerResult {
-        AnswerResult::Memory
+    fn from(_: AllocError) -> AnswerErr {
+        AnswerErr::Memory
     }
 }

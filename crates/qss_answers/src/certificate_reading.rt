@@ -5,7 +5,7 @@ ghost use Rattle.qss_answers.specs.Prelude.{certificate_data, IsVerdict, IsInSco
 ghost use Rattle.qss_answers.specs.Answers.{refused};
 ghost use Rattle.qss_answers.specs.CertificateAnswers.{limit, IsCertified, IsRead, RefusesBy};
 
-use crate::answer_result::AnswerResult;
+use crate::answer_result::AnswerErr;
 use crate::comparison_basis::Basis;
 use crate::refusal::Refusal;
 use cert_check::{Certificate, TextErr, Verdict, check, read_certificate};
@@ -25,16 +25,16 @@ pub struct CertificateText<'a> {
     pub ghost short: { length bytes.now ≤ limit },
 }
 
-/// Parses a certificate of a machine. Error: the result of a call without it.
+/// Parses a certificate of a machine. Error: the reason why there is none.
 #[inline(never)]
-pub(crate) fn read_for(alloc: Global, text: CertificateText) -> Result<Certificate, AnswerResult>
+pub(crate) fn read_for(alloc: Global, text: CertificateText) -> Result<Certificate, AnswerErr>
     ensures read { IfOk result (IsRead text.entry.m.now text.entry.bytes.now) }
     ensures refused { IfErr result (RefusesBy text.entry.m.now text.entry.bytes.now) }
 {
     match read_certificate(alloc, text.bytes, text.m) {
         Ok(c) => Ok(c),
-        Err(TextErr::Memory) => Err(AnswerResult::Memory),
-        Err(why) => Err(AnswerResult::Refused(Refusal::NotCertificate(why))),
+        Err(TextErr::Memory) => Err(AnswerErr::Memory),
+        Err(why) => Err(AnswerErr::Refused(Refusal::NotCertificate(why))),
     }
 }
 

@@ -4,11 +4,11 @@
 ghost use Rattle.std.specs.Prelude.{◌≡◌, ◌++◌, ◌∷◌, [], ℕ, List, map, IfOk, IfErr, OnOk};
 ghost use Rattle.qss_answers.specs.Prelude.{Appends, Certificate, default_writer, row_text};
 ghost use Rattle.qss_answers.specs.AcceptedBounds.{IsSoundCertification};
-ghost use Rattle.qss_answers.specs.Answers.{written, EndsWithoutText, Ends};
+ghost use Rattle.qss_answers.specs.Answers.{written, HasNoText, Ends};
 ghost use Rattle.qss_answers.specs.CertificateAnswers.{HasNoBounds, IsCertification, IsCertified};
 ghost use Rattle.qss_answers.specs.BoundTexts as Bounds;
 
-use crate::answer_result::AnswerResult;
+use crate::answer_result::{AnswerErr, AnswerResult};
 use crate::answer_writing::write_answer;
 use crate::certificate_reading::{CertificateText, judge, read_for};
 use crate::comparison_basis::Basis;
@@ -36,27 +36,27 @@ pub fn certify<O: Sink>(alloc: Global, text: CertificateText, out: &mut O) -> An
     write_answer(certification(alloc, text), out)
 }
 
-// The bounds of the certificate in these bytes if it is accepted. Error: the result of a call
-// without them.
-fn certification(alloc: Global, text: CertificateText) -> Result<Vec<u8>, AnswerResult>
+// The bounds of the certificate in these bytes if it is accepted. Error: the reason why there
+// are none.
+fn certification(alloc: Global, text: CertificateText) -> Result<Vec<u8>, AnswerErr>
     ensures text { IfOk result
         (λ bounds. IsCertification text.entry.m.now text.entry.bytes.now (written bounds.items)) }
     ensures no_text { IfErr result
-        (EndsWithoutText (IsCertification text.entry.m.now text.entry.bytes.now)) }
+        (HasNoText (IsCertification text.entry.m.now text.entry.bytes.now)) }
 {
     let c = read_for(alloc, text)?;
     certified_text(alloc, Basis { m: text.m, c: &c })
 }
 
-// The bounds of a certificate if it is accepted. Error: the result of a call without them.
-fn certified_text(alloc: Global, basis: Basis) -> Result<Vec<u8>, AnswerResult>
+// The bounds of a certificate if it is accepted. Error: the reason why there are none.
+fn certified_text(alloc: Global, basis: Basis) -> Result<Vec<u8>, AnswerErr>
     ensures text { IfOk result
         (λ text. IsCertified basis.entry.m.now basis.entry.c.now (written text.items)) }
     ensures no_text { IfErr result (HasNoBounds basis.entry.m.now basis.entry.c.now) }
 {
     match judge(basis) {
         Ok(()) => Ok(bounds_text(alloc, basis.m, basis.c)?),
-        Err(why) => Err(AnswerResult::Refused(why)),
+        Err(why) => Err(AnswerErr::Refused(why)),
     }
 }
 

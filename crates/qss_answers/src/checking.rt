@@ -2,11 +2,11 @@
 
 ghost use Rattle.std.specs.Prelude.{◌≡◌, IfOk, IfErr};
 ghost use Rattle.qss_answers.specs.Prelude.{Appends, state_count, IsTextOf, IsRunOf, Trace};
-ghost use Rattle.qss_answers.specs.Answers.{written, EndsWithoutText, Ends};
+ghost use Rattle.qss_answers.specs.Answers.{written, HasNoText, Ends};
 ghost use Rattle.qss_answers.specs.TraceAnswers.{IsRead, IsChecked};
 ghost use Rattle.qss_answers.specs.TraceAnswers as Spec;
 
-use crate::answer_result::AnswerResult;
+use crate::answer_result::{AnswerErr, AnswerResult};
 use crate::answer_writing::write_answer;
 use crate::refusal::Refusal;
 use crate::trace_reading::{TraceText, read_run};
@@ -37,13 +37,13 @@ pub fn check_trace_text<O: Sink>(alloc: Global, text: TraceText, out: &mut O) ->
     write_answer(check_answer(alloc, text), out)
 }
 
-// The summary of the trace in these bytes if it is a legitimate run. Error: the result of a call
-// without it.
-fn check_answer(alloc: Global, text: TraceText) -> Result<Vec<u8>, AnswerResult>
+// The summary of the trace in these bytes if it is a legitimate run. Error: the reason why there
+// is none.
+fn check_answer(alloc: Global, text: TraceText) -> Result<Vec<u8>, AnswerErr>
     ensures text { IfOk result
         (λ line. IsChecked text.entry.m.now text.entry.bytes.now (written line.items)) }
     ensures no_text { IfErr result
-        (EndsWithoutText (IsChecked text.entry.m.now text.entry.bytes.now)) }
+        (HasNoText (IsChecked text.entry.m.now text.entry.bytes.now)) }
 {
     let t = read_run(alloc, text)?;
     Ok(summary(alloc, &t)?)

@@ -7,7 +7,7 @@ ghost use Rattle.qss_answers.specs.Answers.{refused};
 ghost use Rattle.qss_answers.specs.CertificateAnswers.{IsCertified};
 ghost use Rattle.qss_answers.specs.Comparisons.{HasStart, IsUsableCertificate, IsUnusableCertificate, MayStop};
 
-use crate::answer_result::AnswerResult;
+use crate::answer_result::AnswerErr;
 use crate::certificate_reading::{CertificateText, judge, read_for};
 use crate::comparison_ending::ComparisonStop;
 use crate::refusal::Refusal;
@@ -37,9 +37,8 @@ pub fn usable_certificate(
 {
     let c = match read_for(alloc, text) {
         Ok(c) => c,
-        Err(AnswerResult::Refused(why)) => return Err(ComparisonStop::Refused(why)),
-        Err(AnswerResult::Memory) => return Err(ComparisonStop::Memory),
-        Err(AnswerResult::Written | AnswerResult::Fault) => unreachable!(),
+        Err(AnswerErr::Refused(why)) => return Err(ComparisonStop::Refused(why)),
+        Err(AnswerErr::Memory) => return Err(ComparisonStop::Memory),
     };
     match judge_with_start(Basis { m: text.m, c: &c }) {
         Ok(()) => Ok(c),

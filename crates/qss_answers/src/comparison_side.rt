@@ -4,7 +4,7 @@ ghost use Rattle.std.specs.Prelude.{◌≡◌, ◌≤◌, ℕ, length, None, IfO
 ghost use Rattle.qss_answers.specs.Comparisons.{first_order, second_order, traced, HasQuanta, IfMemory, IsFirstAbove, IsRunTrace, HasNoRunTrace, MayStop, TakesMemory};
 ghost use Rattle.qss_answers.specs.TraceAnswers.{limit};
 
-use crate::answer_result::AnswerResult;
+use crate::answer_result::AnswerErr;
 use crate::comparison_basis::Basis;
 use crate::comparison_ending::ComparisonStop;
 use crate::refusal::Refusal;
@@ -69,9 +69,8 @@ pub fn traced_side(
 {
     match read_run(alloc, TraceText { m: basis.m, bytes }) {
         Ok(t) => allowed_side_trace(basis.c, t, run),
-        Err(AnswerResult::Refused(why)) => Err(ComparisonStop::Refused(why)),
-        Err(AnswerResult::Memory) => Err(ComparisonStop::Memory),
-        Err(AnswerResult::Written | AnswerResult::Fault) => unreachable!(),
+        Err(AnswerErr::Refused(why)) => Err(ComparisonStop::Refused(why)),
+        Err(AnswerErr::Memory) => Err(ComparisonStop::Memory),
     }
 }
 

@@ -5,7 +5,7 @@ ghost use Rattle.qss_answers.specs.Prelude.{state_count, IsInScope, Legitimate};
 ghost use Rattle.qss_trace.specs.TraceVerdicts.{IsVerdict};
 ghost use Rattle.qss_answers.specs.TraceAnswers.{limit, IsRead, IsAccepted, IsBrokenBy, RefusesBy};
 
-use crate::answer_result::AnswerResult;
+use crate::answer_result::AnswerErr;
 use crate::refusal::Refusal;
 use cert_check::TextErr;
 use qss_machine::Machine;
@@ -25,28 +25,28 @@ pub struct TraceText<'a> {
     pub ghost short: { length bytes.now ≤ limit },
 }
 
-/// Parses and checks a trace, which must be a legitimate run. Error: the result of a call without
-/// it.
-pub(crate) fn read_run(alloc: Global, text: TraceText) -> Result<Trace, AnswerResult>
+/// Parses and checks a trace, which must be a legitimate run. Error: the reason why there is
+/// none.
+pub(crate) fn read_run(alloc: Global, text: TraceText) -> Result<Trace, AnswerErr>
     ensures read { IfOk result (IsAccepted text.entry.m.now text.entry.bytes.now) }
     ensures refused { IfErr result (RefusesBy text.entry.m.now text.entry.bytes.now) }
 {
     let t = read_for(alloc, text)?;
     match judge(text.m, &t) {
         Ok(()) => Ok(t),
-        Err(why) => Err(AnswerResult::Refused(why)),
+        Err(why) => Err(AnswerErr::Refused(why)),
     }
 }
 
-// Parses a trace with the machine's number of states. Error: the result of a call without it.
-fn read_for(alloc: Global, text: TraceText) -> Result<Trace, AnswerResult>
+// Parses a trace with the machine's number of states. Error: the reason why there is none.
+fn read_for(alloc: Global, text: TraceText) -> Result<Trace, AnswerErr>
     ensures read { IfOk result (IsRead text.entry.m.now text.entry.bytes.now) }
     ensures refused { IfErr result (RefusesBy text.entry.m.now text.entry.bytes.now) }
 {
     match read_trace(alloc, text.bytes, text.m.states.as_slice().len() as u8) {
         Ok(t) => Ok(t),
-        Err(TextErr::Memory) => Err(AnswerResult::Memory),
-        Err(why) => Err(AnswerResult::Refused(Refusal::NotTrace(why))),
+        Err(TextErr::Memory) => Err(AnswerErr::Memory),
+        Err(why) => Err(AnswerErr::Refused(Refusal::NotTrace(why))),
     }
 }
 

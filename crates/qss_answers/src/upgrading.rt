@@ -1,10 +1,10 @@
 //! Reads a certificate of a machine and writes it with all lines, in form 3.
 
 ghost use Rattle.std.specs.Prelude.{IfOk, IfErr};
-ghost use Rattle.qss_answers.specs.Answers.{written, EndsWithoutText, Ends};
+ghost use Rattle.qss_answers.specs.Answers.{written, HasNoText, Ends};
 ghost use Rattle.qss_answers.specs.CertificateAnswers.{IsUpgrade};
 
-use crate::answer_result::AnswerResult;
+use crate::answer_result::{AnswerErr, AnswerResult};
 use crate::answer_writing::write_answer;
 use crate::certificate_reading::{CertificateText, read_for};
 use cert_check::write_certificate;
@@ -19,12 +19,12 @@ pub fn upgrade<O: Sink>(alloc: Global, text: CertificateText, out: &mut O) -> An
     write_answer(upgraded_text(alloc, text), out)
 }
 
-// The certificate in these bytes, in form 3. Error: the result of a call without it.
-fn upgraded_text(alloc: Global, text: CertificateText) -> Result<Vec<u8>, AnswerResult>
+// The certificate in these bytes, in form 3. Error: the reason why there is none.
+fn upgraded_text(alloc: Global, text: CertificateText) -> Result<Vec<u8>, AnswerErr>
     ensures text { IfOk result
         (λ line. IsUpgrade text.entry.m.now text.entry.bytes.now (written line.items)) }
     ensures no_text { IfErr result
-        (EndsWithoutText (IsUpgrade text.entry.m.now text.entry.bytes.now)) }
+        (HasNoText (IsUpgrade text.entry.m.now text.entry.bytes.now)) }
 {
     let c = read_for(alloc, text)?;
     Ok(write_certificate(alloc, &c)?)

@@ -2,7 +2,7 @@ use Rattle.std.proofs.Common.{inr, ap}
 use Rattle.std.proofs.lemmas.Result.{err_from_is_err_and}
 use Rattle.qss_answers.specs.Answers.{written}
 use Rattle.qss_answers.proofs.CertificateEnds.{no_upgrade}
-use Rattle.qss_answers.specs.declared.answer_result.AnswerResult.TheVariants.{Memory}
+use Rattle.qss_answers.specs.declared.answer_result.AnswerErr.TheVariants.{Memory}
 use Rattle.qss_answers.proofs.upgrading.upgraded_text.Goals as goal
 
 pub returns-in_err-c-clause-no_text : goal.returns-in_err-c-clause-no_text
