@@ -11,6 +11,7 @@ use Rattle.qss_cli.specs.Commands.{Command, files_of, writes_as_it_goes}
 use Rattle.qss_top.specs.Calls.{ComputesSpecification, IsTrueToReads}
 use Rattle.qss_top.specs.CommandAnswers.{Answers}
 use Rattle.qss_top.specs.CommandOutcomes.{status_of, line_text, takes_memory, IsReported}
+use Rattle.qss_top.specs.CommandOutcomes.{IsWhole, IsOutcome}
 use Rattle.qss_top.specs.Frames.{AddsReadings}
 use Rattle.qss_top.specs.MachineAnswers.{Answer, IsMessageText}
 use Rattle.qss_top.specs.ReadAnswers.{is_too_long, AreReadInOrder, MayHaveContents}
@@ -22,6 +23,7 @@ use Rattle.qss_top.specs.declared.command_outcome.Outcome.{Outcome}
 use Rattle.qss_top.specs.declared.command_outcome.Outcome.TheVariants as outcome
 use Rattle.qss_top.specs.declared.status.Status.{Status}
 use Rattle.qss_top.specs.declared.status.Status.TheVariants as ends
+use Rattle.qss_top.proofs.OutcomeFacts.{defined_whole}
 use Rattle.qss_top.proofs.ReadFacts.{stripped}
 use Rattle.qss_top.proofs.TopFacts.{IsStatus, outcome_kinds, outcome_of, status_is}
 
@@ -118,6 +120,18 @@ module _ {K : Type 0} (written : K → Option (List ℕ)) (out_old out_new : K) 
         such = such;
       }
 
+      -- the outcome is this one
+      outcome_at : (which : Outcome) → what ≡ which
+          → IsOutcome a.answer which (written out_old) (written out_new)
+      outcome_at which e = subst (λ (w : Outcome).
+          IsOutcome a.answer w (written out_old) (written out_new)) e a.outcome
+
+      -- the outcome has a specified status
+      whole_at : is_defined (status_of what) ≡ true
+          → IsWhole a.answer what (written out_old) (written out_new)
+      whole_at is =
+          defined_whole a.answer what (written out_old) (written out_new) is a.outcome
+
       -- an allocation failed
       seen_cut : line ≡ codes "out of memory\n"
           → IsOutOfMemoryPrefix (written out_old) (written out_new) a.answer
@@ -145,10 +159,10 @@ module _ {K : Type 0} (written : K → Option (List ℕ)) (out_old out_new : K) 
           → status ≢ ends.WriteFault → status ≡ status_of what → is_defined status ≡ true
           → line ≡ line_text what → IsTrue (Some command) status
       seen_whole status computes other same defined reported =
-          let (is, said, all) = a.outcome.defined (sym (ap is_defined same) ∙ defined) in
-          seen a.answer.out own.0 all own.1 (computes (determined (λ answer.
+          let whole = whole_at (sym (ap is_defined same) ∙ defined) in
+          seen a.answer.out own.0 whole.text own.1 (computes (determined (λ answer.
           (status ≡ answer.status) × (a.answer.out ≡ answer.out) × IsMessageText answer.line line)
-          (same ∙ is, refl, rw reported said))) (λ d. absurd (other d))
+          (same ∙ whole.status, refl, rw reported (whole.line)))) (λ d. absurd (other d))
 
       seen_same : what ≢ outcome.ReadFault → (status : Status) → status ≡ status_of what
           → IsReported status what line → IsTrue (Some command) status
@@ -163,7 +177,8 @@ module _ {K : Type 0} (written : K → Option (List ℕ)) (out_old out_new : K) 
           absurd (not_read (outcome_of what ends.ReadFault same (λ d. cc d)))
       seen_same not_read ends.WriteFault same reported =
           let fault = outcome_of what ends.WriteFault same (λ d. cc d) in
-          let cut = a.outcome.prefix in
+          let stops = outcome_at outcome.WriteFault fault in
+          let cut = stops.prefix in
           seen cut.front own.0 cut.appended own.1 (
             reported,
             determined
@@ -171,7 +186,7 @@ module _ {K : Type 0} (written : K → Option (List ℕ)) (out_old out_new : K) 
           )
           (λ d other e. let same : command ≡ other = cc e in
           subst (λ (c : Command). DeterminesAnswer c (λ answer. answer.out ≢ []) [] own.0) same
-          (determined (λ answer. answer.out ≢ []) (a.outcome.some_text fault)))
+          (determined (λ answer. answer.out ≢ []) (stops.some_text)))
       seen_same not_read ends.ModelRefused same reported =
           seen_whole ends.ModelRefused (λ d. d) (λ d. cc d) same refl reported
       seen_same not_read ends.Overflow same reported =
@@ -179,7 +194,7 @@ module _ {K : Type 0} (written : K → Option (List ℕ)) (out_old out_new : K) 
       seen_same not_read ends.CertRefused same reported =
           seen_whole ends.CertRefused (λ d. d) (λ d. cc d) same refl reported
       seen_same not_read ends.Memory same reported = seen_cut reported
-          (a.outcome.short (outcome_of what ends.Memory same (λ d. cc d)))
+          (outcome_at outcome.Memory (outcome_of what ends.Memory same (λ d. cc d)))
 
       -- the line of the outcome could not be allocated
       seen_unreported : (goes : Bool) → takes_memory what ≡ true
@@ -188,8 +203,8 @@ module _ {K : Type 0} (written : K → Option (List ℕ)) (out_old out_new : K) 
       seen_unreported goes takes left reported = elim (outcome_kinds what) [
         | inl (same, plain) ↦ absurd (cc (takes, plain))
         | inr (other, inl over) ↦
-            let (is, said, all) = a.outcome.defined (ap is_defined over) in
-            seen_cut reported (inr (inr (sym is ∙ over, all)))
+            let whole = whole_at (ap is_defined over) in
+            seen_cut reported (inr (inr (sym (whole.status) ∙ over, whole.text)))
         | inr (other, inr rejects) ↦ seen_cut reported (inl (unwritten (left (rejects goes))))
       ]
 

@@ -30,7 +30,7 @@ pub long_is : (kind : FileKind) (old : Option (List ℕ))
     × (is_too_long (long_answer kind) ≡ true) × (long_outcome kind ≢ outcome.ReadFault)
     × (long_outcome kind ≢ outcome.WriteFault) × (long_outcome kind ≢ outcome.Usage)
 long_is kinds.Model old = (
-  refused_now ends.ModelRefused too_long outcome.TooLong old refl refl (λ e. cc e),
+  refused_now ends.ModelRefused too_long outcome.TooLong old refl refl,
   refl,
   λ e. cc e,
   λ e. cc e,

@@ -23,7 +23,7 @@ use Rattle.qss_top.specs.Frames.{AddsReadings, IsFileFrame, IsOutputFrame, IsAns
 use Rattle.qss_top.specs.Frames.{WritesAnswer}
 use Rattle.qss_top.specs.declared.command_outcome.Outcome.{Outcome}
 use Rattle.qss_top.specs.declared.command_outcome.Outcome.TheVariants as outcome
-use Rattle.qss_top.proofs.OutcomeFacts.{whole_prefix}
+use Rattle.qss_top.proofs.OutcomeFacts.{is_answer, whole_outcome}
 
 -- ---- the output
 
@@ -33,14 +33,6 @@ module _ {K : Type 0} (faults : K → ℕ) (failed : K → Bool) where
       → IsOutputFrame faults failed goes what k k
   unwritten_output goes what k write = record
       { untouched = λ e. refl; no_new_fault = λ e. refl; fault_was_last = λ e. absurd (write e) }
-
--- the outcome is that of an answer
-abbrev is_answer : Outcome → Bool
-is_answer outcome.Usage = false
-is_answer outcome.ReadFault = false
-is_answer outcome.WriteFault = false
-is_answer outcome.Memory = false
-is_answer _ = true
 
 module _ {K : Type 0} {written : K → Option (List ℕ)} {faults : K → ℕ} {failed : K → Bool}
     {goes : Bool} {Is : Answer → Type 0} where
@@ -65,12 +57,8 @@ module _ {K : Type 0} {written : K → Option (List ℕ)} {faults : K → ℕ} {
     answered = inr (record {
       answer = a;
       such = is;
-      outcome = record {
-        defined = λ e. (status, line, all);
-        prefix = whole_prefix (written old) (written new) a.out all;
-        short = λ e. absurd (other outcome.Memory refl e);
-        some_text = λ e. absurd (other outcome.WriteFault refl e);
-      };
+      outcome = whole_outcome a what (written old) (written new) told
+          (record { status = status; line = line; text = all });
     });
     output = record {
       not_usage = other outcome.Usage refl;
@@ -101,12 +89,7 @@ module _ {K : Type 0} {written : K → Option (List ℕ)} {faults : K → ℕ} {
     answered = inr (record {
       answer = a;
       such = is;
-      outcome = record {
-        defined = λ e. absurd (cc e);
-        prefix = prefix;
-        short = λ e. absurd (cc e);
-        some_text = λ e. some;
-      };
+      outcome = record { prefix = prefix; some_text = some };
     });
     output = record {
       not_usage = λ e. cc e;

@@ -1,5 +1,5 @@
 -- The outcomes of running a machine.
-use Rattle.std.proofs.Common.{◌≡◌, ◌≢◌, ℕ, List, [], ◌∷◌, ◌++◌, refl, sym, ap, ◌∙◌, subst}
+use Rattle.std.proofs.Common.{◌≡◌, Bool, true, false, ℕ, List, [], ◌∷◌, ◌++◌, refl, sym, ap, ◌∙◌, subst}
 use Rattle.std.proofs.Common.{append_assoc, append-nil, inl}
 use Rattle.std.specs.declared.option.Option.{Option}
 use Rattle.std.specs.Prelude.{codes, flat_map}
@@ -7,38 +7,65 @@ use Rattle.std.proofs.KnownBytes.{Appends-nil}
 use Rattle.std.proofs.lemmas.List.Concat.{flat_map-append}
 use Rattle.std.specs.Io.KnownBytes.{Appends}
 use Rattle.csv.specs.Writing.{default_writer, row_text, row_body, end_text}
-use Rattle.mu_io.specs.Sinks.{AppendsPrefix}
 use Rattle.qss_rows.specs.RowTexts.{header}
 use Rattle.qss_answers.specs.declared.refusal.Refusal.{Refusal}
-use Rattle.qss_top.specs.MachineAnswers.{Message, IsMessageText}
+use Rattle.qss_top.specs.MachineAnswers.{Answer, Message, IsMessageText}
 use Rattle.qss_top.specs.MachineAnswers.{refusal, rejection, rejected, status_of_refusal}
-use Rattle.qss_top.specs.CommandOutcomes.{IsOutcome, status_of, line_text as outcome_text}
+use Rattle.qss_top.specs.CommandOutcomes.{IsWhole, IsOutcome, status_of, line_text as outcome_text}
+use Rattle.qss_top.specs.Statuses.{is_defined}
 use Rattle.qss_top.specs.WrittenTexts.{StopsAtLine}
 use Rattle.qss_top.specs.declared.command_outcome.Outcome.{Outcome}
 use Rattle.qss_top.specs.declared.command_outcome.Outcome.TheVariants as outcome
 use Rattle.qss_top.specs.declared.status.Status.{Status}
 
--- a text that was appended is a prefix of itself
-pub whole_prefix : (old new : Option (List ℕ)) (xs : List ℕ) → Appends old new xs
-    → AppendsPrefix old new xs
-whole_prefix old new xs all =
-    record { front = xs; rest = []; parts = append-nil xs; appended = all }
+-- ---- outcomes
+
+-- the outcome is that of an answer
+abbrev pub is_answer : Outcome → Bool
+is_answer outcome.Usage = false
+is_answer outcome.ReadFault = false
+is_answer outcome.WriteFault = false
+is_answer outcome.Memory = false
+is_answer _ = true
+
+-- the outcome of an answer, with its whole text
+pub whole_outcome : (answer : Answer) (what : Outcome) (old new : Option (List ℕ))
+    → is_answer what ≡ true → IsWhole answer what old new → IsOutcome answer what old new
+whole_outcome answer outcome.Done old new is whole = whole
+whole_outcome answer outcome.Usage old new is whole = absurd (cc)
+whole_outcome answer outcome.ReadFault old new is whole = absurd (cc)
+whole_outcome answer outcome.WriteFault old new is whole = absurd (cc)
+whole_outcome answer outcome.TooLong old new is whole = whole
+whole_outcome answer (outcome.Refused r) old new is whole = whole
+whole_outcome answer (outcome.Overflow name tick) old new is whole = whole
+whole_outcome answer (outcome.Rejected why) old new is whole = whole
+whole_outcome answer outcome.Memory old new is whole = absurd (cc)
+
+-- at a specified status the outcome is that of the answer
+pub defined_whole : (answer : Answer) (what : Outcome) (old new : Option (List ℕ))
+    → is_defined (status_of what) ≡ true → IsOutcome answer what old new
+    → IsWhole answer what old new
+defined_whole answer outcome.Done old new is whole = whole
+defined_whole answer outcome.Usage old new is whole = whole
+defined_whole answer outcome.ReadFault old new is none = absurd none
+defined_whole answer outcome.WriteFault old new is stops = absurd (cc)
+defined_whole answer outcome.TooLong old new is whole = whole
+defined_whole answer (outcome.Refused r) old new is whole = whole
+defined_whole answer (outcome.Overflow name tick) old new is whole = whole
+defined_whole answer (outcome.Rejected why) old new is whole = whole
+defined_whole answer outcome.Memory old new is cut = absurd (cc)
 
 -- a refusal, if nothing was written
 pub refused_now : (status : Status) (line : Message) (what : Outcome) (old : Option (List ℕ))
     → status_of what ≡ status → IsMessageText line (outcome_text what)
-    → what ≢ outcome.WriteFault → IsOutcome (refusal status line) what old old
-refused_now status line what old is said no_fault = record {
-  defined = λ e. (is, said, Appends-nil old);
-  prefix = whole_prefix old old [] (Appends-nil old);
-  short = λ e. inl (Appends-nil old);
-  some_text = λ e. absurd (no_fault e);
-}
+    → IsWhole (refusal status line) what old old
+refused_now status line what old is said =
+    record { status = is; line = said; text = Appends-nil old }
 
 pub rejected_now : (why : Refusal) (old : Option (List ℕ))
     → IsOutcome (rejection why) (outcome.Rejected why) old old
-rejected_now why old = refused_now (status_of_refusal why) (rejected why) (outcome.Rejected why) old
-    refl refl (λ e. cc e)
+rejected_now why old =
+    refused_now (status_of_refusal why) (rejected why) (outcome.Rejected why) old refl refl
 
 -- ---- lines
 

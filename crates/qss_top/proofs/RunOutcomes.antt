@@ -55,19 +55,14 @@ module _ {K : Type 0} (written : K → Option (List ℕ)) {old new : K} where
 module _ {K : Type 0} {written : K → Option (List ℕ)} {faults : K → ℕ} {failed : K → Bool}
     {old new : K} where
   -- an allocation failed after complete lines
-  cut_writes : (a : Answer) → AppendsPrefix (written old) (written new) a.out
-      → IsOutOfMemoryPrefix (written old) (written new) a → faults new ≡ faults old
+  cut_writes : (a : Answer) → IsOutOfMemoryPrefix (written old) (written new) a
+      → faults new ≡ faults old
       → WritesAnswer written faults failed true (λ b. b ≡ a) outcome.Memory old new
-  cut_writes a prefix cut calm = record {
+  cut_writes a cut calm = record {
     answered = inr (record {
       answer = a;
       such = refl;
-      outcome = record {
-        defined = λ e. absurd (cc e);
-        prefix = prefix;
-        short = λ e. cut;
-        some_text = λ e. absurd (cc e);
-      };
+      outcome = cut;
     });
     output = record {
       not_usage = λ e. cc e;
@@ -95,7 +90,7 @@ module _ {K : Type 0} {written : K → Option (List ℕ)} {faults : K → ℕ} {
       (λ e. absurd (cc e))
   run_writes options m played.Fault h =
       fault_writes (printed_run_answer options m) refl (λ e. cc e) h.prefix (h.last refl)
-  run_writes options m played.Memory h = cut_writes (printed_run_answer options m) h.prefix
+  run_writes options m played.Memory h = cut_writes (printed_run_answer options m)
       (run_cut written options m (h.short refl)) (h.calm (λ e. cc e))
 
   -- the second-order run
@@ -111,5 +106,5 @@ module _ {K : Type 0} {written : K → Option (List ℕ)} {faults : K → ℕ} {
       (rw (overflow, name_is) refl) (h.whole refl) (h.calm (λ e. cc e)) (λ e. absurd (cc e))
   second_writes m played.Fault h =
       fault_writes (second_run_answer m) refl (λ e. cc e) h.prefix (h.last refl)
-  second_writes m played.Memory h = cut_writes (second_run_answer m) h.prefix
+  second_writes m played.Memory h = cut_writes (second_run_answer m)
       (second_cut written m (h.short refl)) (h.calm (λ e. cc e))

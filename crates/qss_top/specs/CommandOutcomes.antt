@@ -10,7 +10,6 @@ use Rattle.qss_answers.specs.RefusalTexts.{write_refusal}
 use Rattle.qss_top.specs.MachineAnswers.{Answer, IsMessageText, status_of_refusal}
 use Rattle.qss_top.specs.MachineAnswers.{usage_line}
 use Rattle.qss_top.specs.MachineAnswers.{too_long_line, overflow_line}
-use Rattle.qss_top.specs.Statuses.{is_defined}
 use Rattle.qss_top.specs.WrittenTexts.{IsOutOfMemoryPrefix}
 use Rattle.qss_top.specs.declared.command_outcome.Outcome.{Outcome}
 use Rattle.qss_top.specs.declared.command_outcome.Outcome.TheVariants as outcome
@@ -54,16 +53,24 @@ takes_memory (outcome.Overflow name tick) = true
 takes_memory (outcome.Rejected why) = true
 takes_memory _ = false
 
--- the outcome and the written text are possible for the answer: at a specified status they are
--- those
--- of the answer, else only a prefix of its text is written
-pub record IsOutcome (answer : Answer) (what : Outcome) (old new : Option (List ℕ)) : Type 0 where
-  pub defined : is_defined (status_of what) ≡ true → (status_of what ≡ answer.status)
-      × IsMessageText answer.line (line_text what) × Appends old new answer.out
+-- the status, the line and the whole text of the answer
+pub record IsWhole (answer : Answer) (what : Outcome) (old new : Option (List ℕ)) : Type 0 where
+  pub status : status_of what ≡ answer.status
+  pub line : IsMessageText answer.line (line_text what)
+  pub text : Appends old new answer.out
+
+-- a write failed: a prefix of the text of the answer, which is not empty
+pub record StopsByFault (answer : Answer) (old new : Option (List ℕ)) : Type 0 where
   pub prefix : AppendsPrefix old new answer.out
-  pub short : what ≡ outcome.Memory → IsOutOfMemoryPrefix old new answer
-  -- a write fails only if the answer has a text
-  pub some_text : what ≡ outcome.WriteFault → answer.out ≢ []
+  pub some_text : answer.out ≢ []
+
+-- the outcome and the written text are possible for the answer, by the case of the outcome
+-- after a read fault there is no answer
+abbrev pub IsOutcome : Answer → Outcome → (old new : Option (List ℕ)) → Type 0
+IsOutcome answer outcome.ReadFault old new = ⊥
+IsOutcome answer outcome.WriteFault old new = StopsByFault answer old new
+IsOutcome answer outcome.Memory old new = IsOutOfMemoryPrefix old new answer
+IsOutcome answer what old new = IsWhole answer what old new
 
 -- the line on standard error for an outcome and its final status
 abbrev pub IsReported : Status → Outcome → List ℕ → Type 0
