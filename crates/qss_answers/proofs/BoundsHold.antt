@@ -1,6 +1,5 @@
 -- The bounds in the texts of answers hold.
 use Rattle.std.proofs.Common.{◌≡◌, ℕ, inl, inr, List, sym, subst}
-use Rattle.qss_machine.specs.Machines.{state_count, start_states, quanta}
 use Rattle.qss_machine.specs.declared.compiled_machine.Machine.{Machine}
 use Rattle.qss_machine.proofs.Near.{quanta_positive}
 use Rattle.cert_check.specs.CertificateData.{certificate_data}

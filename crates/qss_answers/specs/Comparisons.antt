@@ -7,7 +7,6 @@ use Rattle.std.specs.List.{concat}
 use Rattle.qss_machine.specs.declared.compiled_machine.Machine.{Machine}
 use Rattle.mu_num.specs.IndexedSums.{int_at}
 use Rattle.qss_machine.specs.Machines.{level_unit, start_states}
-use Rattle.cert_check.specs.Scope.{IsInScope}
 use Rattle.cert_check.specs.declared.certificate.Certificate.{Certificate}
 use Rattle.qss_answers.specs.Answers.{refused}
 use Rattle.qss_answers.specs.CertificateAnswers as Certificates

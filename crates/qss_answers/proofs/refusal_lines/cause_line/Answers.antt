@@ -1,5 +1,5 @@
 -- The line of each reason, as the parts of its format.
-use Rattle.std.proofs.Common.{◌≡◌, ℕ, ap, ◌∙◌, sym, Vec, Global}
+use Rattle.std.proofs.Common.{ℕ, ap, ◌∙◌, sym, Vec, Global}
 use Rattle.std.specs.String.{string_bytes}
 use Rattle.cert_check.specs.declared.text_err.TextErr.{TextErr}
 use Rattle.qss_answers.specs.RefusalTexts as Spec
