@@ -1,5 +1,5 @@
 -- The names of other crates that the clauses of this crate cite, passed on from one place. Declares nothing.
-pub use Rattle.mu_grammar.specs.BodyMachine.{begin_bare, begin_clause, begin_equation, begin_start, begin_statement, body_token, branches_of, close_assignment, close_equation, close_first, close_index, close_last, close_restart, close_side, condition_turn, end_branch, end_loop, enter, follow_target, follow_target_name, leave, new_branch, next_branch, put_clause, put_equation, put_start, put_statement, target_token, variable_token}
+pub use Rattle.mu_grammar.specs.BodyMachine.{begin_bare, begin_clause, begin_equation, begin_start, begin_statement, body_token, branches_of, close_assignment, close_equation, close_first, close_index, close_last, close_restart, close_side, condition_turn, end_branch, end_loop, enter, follow_target, follow_target_name, leave, new_branch, new_loop, next_branch, put_clause, put_equation, put_start, put_statement, target_token, variable_token}
 pub use Rattle.mu_grammar.specs.Closing.{is_close, is_open_square}
 pub use Rattle.mu_grammar.specs.ConditionMachine.{after_left, begin_condition, compares, complete, depth_of, left_move, right_move, turn}
 pub use Rattle.mu_grammar.specs.Conditions.{compared, relation_of}
@@ -18,4 +18,5 @@ pub use Rattle.mu_grammar.specs.Symbols.{symbols}
 pub use Rattle.mu_grammar.specs.declared.parse_fault.ParseErr.{ParseErr}
 pub use Rattle.mu_lexer.specs.Tokens.{IsWithin}
 pub use Rattle.mu_tree.specs.Expression.{Element, Whole, expression, reference, scaled, signed}
-pub use Rattle.mu_tree.specs.ModelTree.{Algebraic, Assign, Branches, Derivative, EachClause, EachEquation, EachStatement, ModelTree, Restart, clause, clauses_of, condition, equation, equations_of, model, statement, statements_of}
+pub use Rattle.mu_tree.specs.ModelTree.{Algebraic, Assign, Branches, Derivative, ModelTree, Restart, clause, condition, equation, model, statement}
+pub use Rattle.mu_tree.specs.Nests.{owned_range}

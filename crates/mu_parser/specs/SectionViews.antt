@@ -3,10 +3,7 @@ use Rattle.std.specs.Prelude.{Bool, false, List, map, reverse}
 use Rattle.mu_tree.specs.Expression.{expression, reference}
 use Rattle.mu_parser.specs.declared.section.state.Draft.{Draft}
 use Rattle.mu_parser.specs.declared.section.state.Component.{Component}
-use Rattle.mu_parser.specs.declared.section.state.LoopRange.{LoopRange}
-use Rattle.mu_parser.specs.declared.section.state.EquationLoop.{EquationLoop}
-use Rattle.mu_parser.specs.declared.section.state.StatementLoop.{StatementLoop}
-use Rattle.mu_parser.specs.declared.section.state.ClauseLoop.{ClauseLoop}
+use Rattle.mu_parser.specs.declared.section.loops.Loop.{Loop}
 use Rattle.mu_parser.specs.declared.section.state.OpenWhen.{OpenWhen}
 use Rattle.mu_parser.specs.declared.section.state.OpenBranch.{OpenBranch}
 use Rattle.mu_parser.specs.declared.section.state.Body.{Body}
@@ -33,7 +30,8 @@ use Rattle.mu_grammar.specs.declared.symbol.Fixed.TheVariants as fixed
 use Rattle.mu_tree.specs.declared.tree.Prefix.TheVariants as prefixes
 use Rattle.mu_tree.specs.declared.tree.SettingItem.{SettingItem}
 use Rattle.mu_tree.specs.ModelTree as trees
-use Rattle.mu_tree.specs.ModelTree.{Range, range, EquationTree, StatementTree, ClauseTree, ModelTree}
+use Rattle.mu_tree.specs.ModelTree.{ModelTree}
+use Rattle.mu_tree.specs.Nests.{owned_range}
 use Rattle.mu_parser.specs.ExpressionViews.{frames_of, position_of, stage_of}
 
 -- the logical view of a draft
@@ -44,33 +42,21 @@ draft_of d = record { name = d.name; decls = map trees.declaration d.decls.items
 abbrev pub component_of : Component → model.Component
 component_of c = record { draft = draft_of c.draft.value; declared = trees.declaration c.declared.value }
 
--- the logical view of the range of a loop
-abbrev pub range_of : LoopRange → Range
-range_of r = range r.var r.at (expression r.from) (expression r.to)
-
--- the logical view of an open loop
-abbrev pub equation_loop : EquationLoop → model.Loop EquationTree
-equation_loop l = record { range = range_of l.range; items = map trees.equation l.items.items }
-
-abbrev pub statement_loop : StatementLoop → model.Loop StatementTree
-statement_loop l = record { range = range_of l.range; items = map trees.statement l.items.items }
-
-abbrev pub clause_loop : ClauseLoop → model.Loop ClauseTree
-clause_loop l = record { range = range_of l.range; items = map trees.clause l.items.items }
+-- the logical view of an open loop, by the logical view of its items
+abbrev pub loop_of : {T A : Type 0} → (T → A) → Loop T → model.Loop A
+loop_of tree l = record { range = owned_range l.range; items = map tree l.items.items }
 
 -- the logical view of open loops, innermost first
-abbrev pub equation_loops : List EquationLoop → List (model.Loop EquationTree)
-equation_loops ls = map equation_loop (reverse ls)
-
-abbrev pub statement_loops : List StatementLoop → List (model.Loop StatementTree)
-statement_loops ls = map statement_loop (reverse ls)
-
-abbrev pub clause_loops : List ClauseLoop → List (model.Loop ClauseTree)
-clause_loops ls = map clause_loop (reverse ls)
+abbrev pub loops_of : {T A : Type 0} → (T → A) → List (Loop T) → List (model.Loop A)
+loops_of tree ls = map (loop_of tree) (reverse ls)
 
 -- the logical view of an open clause
 abbrev pub when_of : OpenWhen → model.OpenWhen
-when_of w = record { draft = draft_of w.draft.value; loops = clause_loops w.loops.items; branches = map trees.branch w.branches.items }
+when_of w = record {
+  draft = draft_of w.draft.value;
+  loops = loops_of trees.clause w.loops.items;
+  branches = map trees.branch w.branches.items;
+}
 
 -- the logical view of an open branch
 abbrev pub branch_of : OpenBranch → model.OpenBranch
@@ -78,18 +64,21 @@ branch_of b = record { clause = when_of b.clause; branch = trees.branch b.branch
 
 -- the logical view of a body
 abbrev pub body_of : Body → model.Body
-body_of (bodies.Equations d ls) = model.in_equations (draft_of d.value) (equation_loops ls.items)
-body_of (bodies.Starts d ls) = model.in_starts (draft_of d.value) (statement_loops ls.items)
-body_of (bodies.Clauses d ls) = model.in_clauses (draft_of d.value) (clause_loops ls.items)
-body_of (bodies.Branch b ls) = model.in_branch (branch_of b) (statement_loops ls.items)
+body_of (bodies.Equations d ls) =
+    model.in_equations (draft_of d.value) (loops_of trees.equation ls.items)
+body_of (bodies.Starts d ls) =
+    model.in_starts (draft_of d.value) (loops_of trees.statement ls.items)
+body_of (bodies.Clauses d ls) = model.in_clauses (draft_of d.value) (loops_of trees.clause ls.items)
+body_of (bodies.Branch b ls) = model.in_branch (branch_of b) (loops_of trees.statement ls.items)
 
 -- the logical view of an aim
 abbrev pub aim_of : Aim → model.Aim
-aim_of (aims.Plain d ls) = model.plain (draft_of d.value) (equation_loops ls.items)
-aim_of (aims.Derivative d ls) = model.derivative (draft_of d.value) (equation_loops ls.items)
-aim_of (aims.Initial d ls) = model.initial (draft_of d.value) (statement_loops ls.items)
-aim_of (aims.Assigned b ls) = model.assigned (branch_of b) (statement_loops ls.items)
-aim_of (aims.Restarted b ls) = model.restarted (branch_of b) (statement_loops ls.items)
+aim_of (aims.Plain d ls) = model.plain (draft_of d.value) (loops_of trees.equation ls.items)
+aim_of (aims.Derivative d ls) =
+    model.derivative (draft_of d.value) (loops_of trees.equation ls.items)
+aim_of (aims.Initial d ls) = model.initial (draft_of d.value) (loops_of trees.statement ls.items)
+aim_of (aims.Assigned b ls) = model.assigned (branch_of b) (loops_of trees.statement ls.items)
+aim_of (aims.Restarted b ls) = model.restarted (branch_of b) (loops_of trees.statement ls.items)
 
 -- the logical view of an owner
 abbrev pub owner_of : Owner → model.Owner

@@ -12,13 +12,13 @@ use crate::declaration::follow_declaration_value;
 use crate::expression::machine::{Frame, Move, Position, expression_depth_at, step_expression};
 use crate::parser::parse_with_kept;
 use crate::section::body::{body_level, close_body_loop_first, close_body_loop_last};
-use crate::section::equation::equation_level;
-use crate::section::state::{Aim, Component, Effect, LoopRange, Place, State, Waiting};
+use crate::section::loops::loop_level;
+use crate::section::state::{Aim, Component, Effect, Place, State, Waiting};
 use crate::section::target::{close_target_index, close_target_value, target_aim_level};
 use mu_grammar::Symbol;
 use mu_io::Name;
 use mu_lexer::Mark;
-use mu_tree::{Expr, Ref, SettingItem, SettingName};
+use mu_tree::{Expr, Range, Ref, SettingItem, SettingName};
 use std::alloc::{AllocError, Global};
 
 /// Parses a token of an expression.
@@ -82,7 +82,7 @@ fn awaited_side_level(aim: &Aim) -> u128
     ensures count_limit { result < 2 ^ 66 }
 {
     match aim {
-        Aim::Derivative(_, loops) => equation_level(loops),
+        Aim::Derivative(_, loops) => loop_level(loops),
         _ => target_aim_level(aim),
     }
 }
@@ -151,7 +151,7 @@ fn follow_complete_expression(
             alloc, body, name, place, value, symbol,
         )),
         Waiting::Last(body, name, place, from) => {
-            let range = LoopRange {
+            let range = Range {
                 var: name,
                 at: place,
                 from,

@@ -4,6 +4,7 @@ pub mod body;
 pub mod clause;
 pub mod equation;
 pub mod follow_section;
+pub mod loops;
 pub mod state;
 pub mod statement;
 pub mod target;

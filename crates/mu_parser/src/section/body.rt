@@ -1,24 +1,24 @@
 //! Transitions in a section, a branch or a loop: the first token of an item, and the heads of the
 //! loops that begin there.
 
-ghost use Rattle.std.specs.Prelude.{◌≡◌, ◌<◌, ◌^◌, List, ℕ, IfOk};
-ghost use Rattle.mu_parser.specs.Prelude.{expression, begin_bare, body_token, close_first, close_last, enter, variable_token, body_level, symbol_view};
-ghost use Rattle.mu_parser.specs.SectionViews.{body_of, effect_of, range_of};
+ghost use Rattle.std.specs.Prelude.{◌≡◌, ◌<◌, ◌^◌, List, ℕ, IfOk, IsOkAnd};
+ghost use Rattle.mu_parser.specs.Prelude.{expression, begin_bare, body_token, close_first, close_last, end_loop, enter, leave, owned_range, variable_token, body_level, symbol_view};
+ghost use Rattle.mu_parser.specs.SectionViews.{body_of, effect_of};
 
 use crate::expression::machine::Position;
 use crate::parser::parse_with_kept;
-use crate::section::clause::{begin_clause, clause_level};
-use crate::section::equation::{begin_equation, equation_level};
-use crate::section::state::{
-    Body, ClauseLoop, Effect, EquationLoop, LoopRange, State, StatementLoop, Then, Waiting,
-};
+use crate::section::clause::{begin_clause, end_clause_branch, put_clause};
+use crate::section::equation::{begin_equation, put_equation};
+use crate::section::follow_section::follow_section;
+use crate::section::loops::{close_loop, enter_loop, loop_level};
+use crate::section::state::{Body, Effect, State, Then, Waiting};
 use crate::section::statement::{
-    begin_start_statement, begin_statement, start_statement_level, statement_level,
+    begin_start_statement, begin_statement, put_start_statement, put_statement, statement_level,
 };
 use mu_grammar::{Fixed, Symbol};
 use mu_io::Name;
 use mu_lexer::{Mark, Word};
-use mu_tree::Expr;
+use mu_tree::{Expr, Range};
 use std::alloc::{AllocError, Global};
 
 /// Parses the first token of an item, or the token after the last item. `Err` is an allocation
@@ -83,11 +83,12 @@ pub fn close_body_loop_first(
 pub fn close_body_loop_last(
     alloc: Global,
     body: Body,
-    range: LoopRange,
+    range: Range,
     symbol: Symbol,
 ) -> Result<Effect, AllocError>
     ensures { IfOk result
-        (λ e. effect_of e ≡ close_last (body_of body) (range_of range) (symbol_view symbol.entry)) }
+        (λ e. effect_of e
+        ≡ close_last (body_of body) (owned_range range) (symbol_view symbol.entry)) }
 {
     match symbol {
         Symbol::Word(Word::Loop, _) => {
@@ -108,9 +109,9 @@ pub fn body_level(body: &Body) -> u128
     ensures count_limit { result < 2 ^ 66 }
 {
     match body {
-        Body::Equations(_, loops) => equation_level(loops),
-        Body::Starts(_, loops) => start_statement_level(loops),
-        Body::Clauses(_, loops) => clause_level(loops),
+        Body::Equations(_, loops) => loop_level(loops),
+        Body::Starts(_, loops) => loop_level(loops),
+        Body::Clauses(_, loops) => loop_level(loops),
         Body::Branch(branch, loops) => statement_level(branch, loops),
     }
 }
@@ -129,33 +130,81 @@ fn begin_bare_body(alloc: Global, body: Body, symbol: Symbol) -> Result<Effect, 
 }
 
 // Opens a loop with this range.
-fn enter_body_loop(alloc: Global, body: Body, range: LoopRange) -> Result<Body, AllocError>
-    ensures { IfOk result (λ b. body_of b ≡ enter (body_of body) (range_of range)) }
+fn enter_body_loop(alloc: Global, body: Body, range: Range) -> Result<Body, AllocError>
+    ensures { IfOk result (λ b. body_of b ≡ enter (body_of body) (owned_range range)) }
 {
     match body {
         Body::Equations(draft, loops) => {
-            let items = Vec::new(alloc);
-            let mut loops = loops;
-            loops.push(EquationLoop { range, items })?;
+            let (loops, draft) = parse_with_kept(enter_loop(alloc, loops, range), draft)?;
             Ok(Body::Equations(draft, loops))
         }
         Body::Starts(draft, loops) => {
-            let items = Vec::new(alloc);
-            let mut loops = loops;
-            loops.push(StatementLoop { range, items })?;
+            let (loops, draft) = parse_with_kept(enter_loop(alloc, loops, range), draft)?;
             Ok(Body::Starts(draft, loops))
         }
         Body::Clauses(draft, loops) => {
-            let items = Vec::new(alloc);
-            let mut loops = loops;
-            loops.push(ClauseLoop { range, items })?;
+            let (loops, draft) = parse_with_kept(enter_loop(alloc, loops, range), draft)?;
             Ok(Body::Clauses(draft, loops))
         }
         Body::Branch(branch, loops) => {
-            let items = Vec::new(alloc);
-            let mut loops = loops;
-            loops.push(StatementLoop { range, items })?;
+            let (loops, branch) = parse_with_kept(enter_loop(alloc, loops, range), branch)?;
             Ok(Body::Branch(branch, loops))
+        }
+    }
+}
+
+/// Parses the token after the last item of a body. `Err` is an allocation failure.
+pub fn leave_body(alloc: Global, body: Body, symbol: Symbol) -> Result<Effect, AllocError>
+    ensures { IfOk result
+        (λ e. effect_of e ≡ leave (body_of body) (symbol_view symbol.entry)) }
+{
+    match body {
+        Body::Equations(draft, loops) => {
+            let (loops, ended) = close_loop(loops);
+            match ended {
+                None => Ok(follow_section(alloc, draft, symbol)),
+                Some(item) => end_loop(put_equation(draft, loops, item), symbol),
+            }
+        }
+        Body::Starts(draft, loops) => {
+            let (loops, ended) = close_loop(loops);
+            match ended {
+                None => Ok(follow_section(alloc, draft, symbol)),
+                Some(item) => end_loop(put_start_statement(draft, loops, item), symbol),
+            }
+        }
+        Body::Clauses(draft, loops) => {
+            let (loops, ended) = close_loop(loops);
+            match ended {
+                None => Ok(follow_section(alloc, draft, symbol)),
+                Some(item) => end_loop(put_clause(draft, loops, item), symbol),
+            }
+        }
+        Body::Branch(branch, loops) => {
+            let (loops, ended) = close_loop(loops);
+            match ended {
+                None => end_clause_branch(alloc, branch, symbol),
+                Some(item) => end_loop(put_statement(branch, loops, item), symbol),
+            }
+        }
+    }
+}
+
+// Parses the token after the last item of a loop. `body` is the body after the loop, or an
+// allocation failure.
+fn end_loop(body: Result<Body, AllocError>, symbol: Symbol) -> Result<Effect, AllocError>
+    ensures { IfOk result (λ e. IsOkAnd body
+        (λ b. effect_of e ≡ end_loop (body_of b) (symbol_view symbol.entry))) }
+{
+    let body = body?;
+    match symbol {
+        Symbol::Word(Word::End, _) => {
+            let next = State::Expects(Fixed::ForWord, Then::Semicolon(body));
+            Ok(Effect::Advances(next))
+        }
+        _ => {
+            drop(body);
+            Ok(Effect::Refuses)
         }
     }
 }

@@ -1,17 +1,15 @@
 //! Transitions in clauses, their branches, and loops over clauses.
 
-ghost use Rattle.std.specs.Prelude.{◌≡◌, ◌<◌, ◌^◌, [], List, ℕ, suc, IfOk};
-ghost use Rattle.mu_parser.specs.Prelude.{Branches, EachClause, clause, clauses_of, condition, begin_clause, branches_of, condition_turn, end_branch, leave, new_branch, next_branch, put_clause, depth_of, turn, in_branch, in_clauses, level, symbol_view};
+ghost use Rattle.std.specs.Prelude.{◌≡◌, [], List, ℕ, suc, IfOk};
+ghost use Rattle.mu_parser.specs.Prelude.{Branches, clause, condition, begin_clause, branches_of, condition_turn, end_branch, new_branch, next_branch, put_clause, depth_of, turn, in_branch, level, symbol_view};
 ghost use Rattle.mu_parser.specs.ConditionViews.{turn_of};
 ghost use Rattle.mu_parser.specs.ExpressionViews.{stage_of};
-ghost use Rattle.mu_parser.specs.SectionViews.{body_of, branch_of, clause_loop, clause_loops, draft_of, effect_of, when_of};
+ghost use Rattle.mu_parser.specs.SectionViews.{body_of, branch_of, draft_of, effect_of, loops_of, when_of};
 
 use crate::expression::condition::{Stage, Turn, condition_depth, read_condition_token};
-use crate::parser::parse_with_kept;
-use crate::section::follow_section::{end_section_loop, follow_section};
-use crate::section::state::{
-    Body, ClauseLoop, Draft, Effect, LoopRange, OpenBranch, OpenWhen, State, Then,
-};
+use crate::section::body::leave_body;
+use crate::section::loops::{Loop, loop_level, put_item};
+use crate::section::state::{Body, Draft, Effect, OpenBranch, OpenWhen, State, Then};
 use mu_grammar::{Fixed, Symbol};
 use mu_lexer::Word;
 use mu_tree::{Branch, Clause, Cond};
@@ -22,17 +20,17 @@ use std::alloc::{AllocError, Global};
 pub fn begin_clause(
     alloc: Global,
     draft: Box<Draft>,
-    loops: Vec<ClauseLoop>,
+    loops: Vec<Loop<Clause>>,
     symbol: Symbol,
 ) -> Result<Effect, AllocError>
     ensures { IfOk result
         (λ e. effect_of e
-        ≡ begin_clause (draft_of draft.value) (clause_loops loops.items)
+        ≡ begin_clause (draft_of draft.value) (loops_of clause loops.items)
         (symbol_view symbol.entry)) }
 {
     match symbol {
         Symbol::Word(Word::When, _) => {
-            let level = clause_level(&loops);
+            let level = loop_level(&loops);
             let clause = OpenWhen {
                 draft,
                 loops,
@@ -43,7 +41,7 @@ pub fn begin_clause(
                 State::Condition(clause, Stage::Before(Vec::new(alloc))),
             ))
         }
-        _ => leave_clauses(alloc, draft, loops, symbol),
+        _ => leave_body(alloc, Body::Clauses(draft, loops), symbol),
     }
 }
 
@@ -86,72 +84,19 @@ pub fn clause_condition_token(
     clause_condition_turn(alloc, clause, level, turn)
 }
 
-/// Returns the nesting depth in these loops.
-pub fn clause_level(loops: &Vec<ClauseLoop>) -> u128
-    ensures value { result ≡ level 0 (clause_loops loops.now.items) }
-    ensures count_limit { result < 2 ^ 64 }
-{
-    loops.len() as u128
-}
-
-// Parses the token after the last clause of a loop or section.
-fn leave_clauses(
-    alloc: Global,
-    draft: Box<Draft>,
-    loops: Vec<ClauseLoop>,
-    symbol: Symbol,
-) -> Result<Effect, AllocError>
-    ensures { IfOk result
-        (λ e. effect_of e
-        ≡ leave (in_clauses (draft_of draft.value) (clause_loops loops.items))
-        (symbol_view symbol.entry)) }
-{
-    let mut loops = loops;
-    match loops.pop() {
-        None => Ok(follow_section(alloc, draft, symbol)),
-        Some(inner) => {
-            let body = put_clause(draft, loops, each_clause(inner))?;
-            Ok(end_section_loop(body, symbol))
-        }
-    }
-}
-
-// Adds a clause to the innermost loop, or to the model if no loop is open.
-fn put_clause(draft: Box<Draft>, loops: Vec<ClauseLoop>, item: Clause) -> Result<Body, AllocError>
+/// Adds a clause to the innermost loop, or to the model if no loop is open. `Err` is an allocation
+/// failure.
+pub fn put_clause(
+    mut draft: Box<Draft>,
+    mut loops: Vec<Loop<Clause>>,
+    item: Clause,
+) -> Result<Body, AllocError>
     ensures { IfOk result
         (λ b. body_of b
-        ≡ put_clause (draft_of draft.value) (clause_loops loops.items) (clause item)) }
+        ≡ put_clause (draft_of draft.value) (loops_of clause loops.items) (clause item)) }
 {
-    let mut draft = draft;
-    let mut loops = loops;
-    match loops.pop() {
-        None => {
-            draft.clauses.push(item)?;
-            Ok(Body::Clauses(draft, loops))
-        }
-        Some(inner) => {
-            let ClauseLoop { range, items } = inner;
-            let mut items = items;
-            let (_, range) = parse_with_kept(items.push(item), range)?;
-            loops.push(ClauseLoop { range, items })?;
-            Ok(Body::Clauses(draft, loops))
-        }
-    }
-}
-
-// Converts a complete loop to a clause.
-fn each_clause(whole: ClauseLoop) -> Clause
-    ensures { let l = clause_loop whole in clause result ≡ EachClause l.range (clauses_of l.items) }
-{
-    let ClauseLoop { range, items } = whole;
-    let LoopRange { var, at, from, to } = range;
-    Clause::For {
-        var,
-        at,
-        from,
-        to,
-        body: items,
-    }
+    put_item(&mut draft.clauses, &mut loops, item)?;
+    Ok(Body::Clauses(draft, loops))
 }
 
 // Appends the complete branch to its clause.

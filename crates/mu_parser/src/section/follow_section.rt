@@ -1,8 +1,8 @@
-//! Transitions after a section of a model and after the last item of a loop.
+//! Transitions after a section of a model.
 
 ghost use Rattle.std.specs.Prelude.{◌≡◌, List, ℕ};
-ghost use Rattle.mu_parser.specs.Prelude.{end_loop, between, symbol_view};
-ghost use Rattle.mu_parser.specs.SectionViews.{body_of, draft_of, effect_of};
+ghost use Rattle.mu_parser.specs.Prelude.{between, symbol_view};
+ghost use Rattle.mu_parser.specs.SectionViews.{draft_of, effect_of};
 
 use crate::section::state::{Body, Draft, Effect, Place, State, Then};
 use mu_grammar::{Fixed, Symbol};
@@ -32,20 +32,5 @@ pub fn follow_section(alloc: Global, draft: Box<Draft>, symbol: Symbol) -> Effec
         }
         Symbol::Word(Word::End, _) => Effect::Advances(State::EndName(draft, Vec::new(alloc))),
         _ => Effect::Refuses,
-    }
-}
-
-/// Parses a token after the last item of a loop. `body` is the body after the loop.
-pub fn end_section_loop(body: Body, symbol: Symbol) -> Effect
-    ensures { effect_of result ≡ end_loop (body_of body) (symbol_view symbol.entry) }
-{
-    match symbol {
-        Symbol::Word(Word::End, _) => {
-            Effect::Advances(State::Expects(Fixed::ForWord, Then::Semicolon(body)))
-        }
-        _ => {
-            drop(body);
-            Effect::Refuses
-        }
     }
 }

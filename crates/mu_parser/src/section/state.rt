@@ -2,6 +2,7 @@
 
 use crate::expression::condition::Stage;
 use crate::expression::machine::{Frame, Position};
+use crate::section::loops::Loop;
 use mu_grammar::{Bracket, Fixed};
 use mu_io::Name;
 use mu_tree::{
@@ -25,41 +26,11 @@ pub struct Component {
     pub declared: Box<Decl>,
 }
 
-/// A loop variable with its byte offset, and the first and last value of its range.
-#[derive(Drop)]
-pub struct LoopRange {
-    pub var: Name,
-    pub at: u32,
-    pub from: Expr,
-    pub to: Expr,
-}
-
-/// An open loop over equations.
-#[derive(Drop)]
-pub struct EquationLoop {
-    pub range: LoopRange,
-    pub items: Vec<Equation>,
-}
-
-/// An open loop over statements or initial equations.
-#[derive(Drop)]
-pub struct StatementLoop {
-    pub range: LoopRange,
-    pub items: Vec<Statement>,
-}
-
-/// An open loop over clauses.
-#[derive(Drop)]
-pub struct ClauseLoop {
-    pub range: LoopRange,
-    pub items: Vec<Clause>,
-}
-
 /// An open clause in these loops.
 #[derive(Drop)]
 pub struct OpenWhen {
     pub draft: Box<Draft>,
-    pub loops: Vec<ClauseLoop>,
+    pub loops: Vec<Loop<Clause>>,
     pub branches: Vec<Branch>,
 }
 
@@ -73,20 +44,20 @@ pub struct OpenBranch {
 /// The place of equations, clauses or statements: a section or a branch, and the open loops.
 #[derive(Drop)]
 pub enum Body {
-    Equations(Box<Draft>, Vec<EquationLoop>),
-    Starts(Box<Draft>, Vec<StatementLoop>),
-    Clauses(Box<Draft>, Vec<ClauseLoop>),
-    Branch(OpenBranch, Vec<StatementLoop>),
+    Equations(Box<Draft>, Vec<Loop<Equation>>),
+    Starts(Box<Draft>, Vec<Loop<Statement>>),
+    Clauses(Box<Draft>, Vec<Loop<Clause>>),
+    Branch(OpenBranch, Vec<Loop<Statement>>),
 }
 
 /// The role and place of a reference outside expressions.
 #[derive(Drop)]
 pub enum Aim {
-    Plain(Box<Draft>, Vec<EquationLoop>),
-    Derivative(Box<Draft>, Vec<EquationLoop>),
-    Initial(Box<Draft>, Vec<StatementLoop>),
-    Assigned(OpenBranch, Vec<StatementLoop>),
-    Restarted(OpenBranch, Vec<StatementLoop>),
+    Plain(Box<Draft>, Vec<Loop<Equation>>),
+    Derivative(Box<Draft>, Vec<Loop<Equation>>),
+    Initial(Box<Draft>, Vec<Loop<Statement>>),
+    Assigned(OpenBranch, Vec<Loop<Statement>>),
+    Restarted(OpenBranch, Vec<Loop<Statement>>),
 }
 
 /// The owner of the annotation that contains an experiment.

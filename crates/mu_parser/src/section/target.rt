@@ -3,17 +3,14 @@
 
 ghost use Rattle.std.specs.Prelude.{◌≡◌, ◌<◌, ◌^◌, List, ℕ, IfOk};
 ghost use Rattle.mu_parser.specs.Prelude.{expression, reference, Algebraic, Assign, Derivative, Restart, equation, statement, close_assignment, close_equation, close_index, close_restart, close_side, follow_target, follow_target_name, put_equation, put_start, put_statement, target_token, advances, aim_level, begin, for_side, symbol_view};
-ghost use Rattle.mu_parser.specs.SectionViews.{aim_of, body_of, branch_of, draft_of, effect_of, equation_loops, statement_loops};
+ghost use Rattle.mu_parser.specs.SectionViews.{aim_of, body_of, branch_of, draft_of, effect_of, loops_of};
 
 use crate::expression::machine::{Position, whole};
 use crate::parser::parse_with_kept;
-use crate::section::equation::{equation_level, put_equation};
-use crate::section::state::{
-    Aim, Body, Draft, Effect, EquationLoop, OpenBranch, State, StatementLoop, Then, Waiting,
-};
-use crate::section::statement::{
-    put_start_statement, put_statement, start_statement_level, statement_level,
-};
+use crate::section::equation::put_equation;
+use crate::section::loops::{Loop, loop_level};
+use crate::section::state::{Aim, Body, Draft, Effect, OpenBranch, State, Then, Waiting};
+use crate::section::statement::{put_start_statement, put_statement, statement_level};
 use mu_grammar::{Fixed, Symbol};
 use mu_io::Name;
 use mu_lexer::Mark;
@@ -116,14 +113,14 @@ fn algebraic_target_equation(target: Ref, value: Expr) -> Equation
 // Adds this equation and parses the token after it.
 fn add_target_equation(
     draft: Box<Draft>,
-    loops: Vec<EquationLoop>,
+    loops: Vec<Loop<Equation>>,
     item: Equation,
     symbol: Symbol,
 ) -> Result<Effect, AllocError>
     ensures { IfOk result
         (λ e. effect_of e
         ≡ close_equation
-        (put_equation (draft_of draft.value) (equation_loops loops.items) (equation item))
+        (put_equation (draft_of draft.value) (loops_of equation loops.items) (equation item))
         (symbol_view symbol.entry)) }
 {
     let body = put_equation(draft, loops, item)?;
@@ -161,14 +158,14 @@ fn assign_target(target: Ref, value: Expr) -> Statement
 // Adds this initial equation and parses the token after it.
 fn add_target_start(
     draft: Box<Draft>,
-    loops: Vec<StatementLoop>,
+    loops: Vec<Loop<Statement>>,
     item: Statement,
     symbol: Symbol,
 ) -> Result<Effect, AllocError>
     ensures { IfOk result
         (λ e. effect_of e
         ≡ close_assignment
-        (put_start (draft_of draft.value) (statement_loops loops.items) (statement item))
+        (put_start (draft_of draft.value) (loops_of statement loops.items) (statement item))
         (symbol_view symbol.entry)) }
 {
     let body = put_start_statement(draft, loops, item)?;
@@ -191,14 +188,14 @@ fn close_assignment_target(body: Body, symbol: Symbol) -> Effect
 // Adds this assignment and parses the token after it.
 fn add_target_assignment(
     branch: OpenBranch,
-    loops: Vec<StatementLoop>,
+    loops: Vec<Loop<Statement>>,
     item: Statement,
     symbol: Symbol,
 ) -> Result<Effect, AllocError>
     ensures { IfOk result
         (λ e. effect_of e
         ≡ close_assignment
-        (put_statement (branch_of branch) (statement_loops loops.items) (statement item))
+        (put_statement (branch_of branch) (loops_of statement loops.items) (statement item))
         (symbol_view symbol.entry)) }
 {
     let body = put_statement(branch, loops, item)?;
@@ -215,14 +212,14 @@ fn restart_target(target: Ref, value: Expr) -> Statement
 // Adds this `reinit` statement and parses the token after its value.
 fn add_target_restart(
     branch: OpenBranch,
-    loops: Vec<StatementLoop>,
+    loops: Vec<Loop<Statement>>,
     item: Statement,
     symbol: Symbol,
 ) -> Result<Effect, AllocError>
     ensures { IfOk result
         (λ e. effect_of e
         ≡ close_restart
-        (put_statement (branch_of branch) (statement_loops loops.items) (statement item))
+        (put_statement (branch_of branch) (loops_of statement loops.items) (statement item))
         (symbol_view symbol.entry)) }
 {
     let body = put_statement(branch, loops, item)?;
@@ -250,9 +247,9 @@ pub fn target_aim_level(aim: &Aim) -> u128
     ensures count_limit { result < 2 ^ 66 }
 {
     match aim {
-        Aim::Plain(_, loops) => equation_level(loops),
-        Aim::Derivative(_, loops) => equation_level(loops) + 1,
-        Aim::Initial(_, loops) => start_statement_level(loops),
+        Aim::Plain(_, loops) => loop_level(loops),
+        Aim::Derivative(_, loops) => loop_level(loops) + 1,
+        Aim::Initial(_, loops) => loop_level(loops),
         Aim::Assigned(branch, loops) => statement_level(branch, loops),
         Aim::Restarted(branch, loops) => statement_level(branch, loops) + 1,
     }

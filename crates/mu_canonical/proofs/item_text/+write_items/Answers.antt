@@ -9,8 +9,9 @@ use Rattle.mu_canonical.proofs.item_text.+write_items.Goals.{in-One+in_ok-write_
 pub write_items-requires : goal.write_items-requires
 write_items-requires g t c κs within =
     let d = c.decreases in
-    let s = body_smaller g.T.Nest.tree g.T.Nest.each g.T.Nest.item g.met.T.Nest.each_item c.args.items.now
-    c.in-Each.body.now c.loop-one.one-index c.one-item.result _ c.loop-one-test.true c.one-item.is c.in-Each.ensures in
+    let s = body_smaller g.T.Nest.tree g.T.Nest.each g.T.Nest.item g.met.T.Nest.each_item
+    c.args.items.now c.in-Each.body.now c.loop-one.one-index c.one-item.result _
+    c.loop-one-test.true c.one-item.is c.in-Each.ensures in
     (search (rules, arith, d, s), within)
 
 pub loop-one-preserved : goal.loop-one-preserved
@@ -24,7 +25,8 @@ loop-one-preserved g t c =
     let out = c.loop-one.out.items in
     let whole = c.args.out.now.items ++ joined (list_texts xs) in
     let written = c.match-nested.out.items in
-    let next : written ≡ out ++ joined (texts x) → written ++ joined (list_texts (drop (i + 1) xs)) ≡ whole =
+    let next : written ≡ out ++ joined (texts x)
+    → written ++ joined (list_texts (drop (i + 1) xs)) ≡ whole =
     λ w. item_written texts list_texts law.more_texts xs i x out written whole c.loop-one-test.true
     c.one-item.is w c.loop-one.invariant in
     elim c.match-nested.branch [

@@ -9,4 +9,6 @@ decreases-write_items g l = list_size g.T.Nest.tree g.T.Nest.item l.items.now
 
 -- what is left to write completes the text
 abbrev pub invariant-loop-one : goal.invariant-loop-one
-invariant-loop-one g l = l.out.items ++ joined (g.T.WrittenItem.list_texts (drop l.one-index l.items)) ≡ l.initial.out.items ++ joined (g.T.WrittenItem.list_texts l.items)
+invariant-loop-one g l =
+    l.out.items ++ joined (g.T.WrittenItem.list_texts (drop l.one-index l.items))
+    ≡ l.initial.out.items ++ joined (g.T.WrittenItem.list_texts l.items)

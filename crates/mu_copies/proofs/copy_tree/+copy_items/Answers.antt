@@ -5,6 +5,7 @@ use Rattle.mu_copies.proofs.copy_tree.+copy_items.Goals as goal
 pub copy_items-requires : goal.copy_items-requires
 copy_items-requires g t c κs within =
     let d = c.decreases in
-    let s = body_smaller g.T.Nest.tree g.T.Nest.each g.T.Nest.item g.met.T.Nest.each_item c.args.items.now
-    c.in-Each.body.now c.loop-one.one-index c.one-item.result _ c.loop-one-test.true c.one-item.is c.in-Each.ensures in
+    let s = body_smaller g.T.Nest.tree g.T.Nest.each g.T.Nest.item g.met.T.Nest.each_item
+    c.args.items.now c.in-Each.body.now c.loop-one.one-index c.one-item.result _
+    c.loop-one-test.true c.one-item.is c.in-Each.ensures in
     (search (rules, arith, d, s), within)
