@@ -97,6 +97,23 @@ drop_size {T} {Tree} {L} tree item xs zero = omega arith
 drop_size {T} {Tree} {L} tree item [] (suc i) = omega arith
 drop_size {T} {Tree} {L} tree item (x ∷ xs) (suc i) = omega (arith, drop_size tree item xs i)
 
+-- an item of a list is at most the list
+pub item_within : {T Tree L : Type 0} (tree : T → Tree) (item : Tree → NestTree L) (xs : List T)
+    (i : ℕ) (x : T) → i < length xs → x ≡ get_or xs i x
+    → item_size (item (tree x)) ≤ list_size tree item xs
+item_within {T} {Tree} {L} tree item xs i x h e =
+    omega (arith, drop_size tree item xs i,
+    ap (λ ts. items_size (items_of (map item ts))) (trees_from tree xs i x h e))
+
+-- a loop has one item more than its body
+pub loop_size : {T Tree L : Type 0} (tree : T → Tree) (each : Range → List Tree → Tree)
+    (item : Tree → NestTree L)
+    (each_item : (r : Range) (ts : List Tree) → item (each r ts) ≡ Each r (items_of (map item ts)))
+    (x : T) (range : Range) (body : List T) → tree x ≡ each range (map tree body)
+    → item_size (item (tree x)) ≡ list_size tree item body + 1
+loop_size {T} {Tree} {L} tree each item each_item x range body is =
+    ap item_size (ap item is ∙ each_item range (map tree body))
+
 -- the body of a loop in a list has less items than the list
 pub body_smaller : {T Tree L : Type 0} (tree : T → Tree) (each : Range → List Tree → Tree)
     (item : Tree → NestTree L)
@@ -104,9 +121,4 @@ pub body_smaller : {T Tree L : Type 0} (tree : T → Tree) (each : Range → Lis
     (xs body : List T) (i : ℕ) (x : T) (range : Range) → i < length xs → x ≡ get_or xs i x
     → tree x ≡ each range (map tree body) → list_size tree item body < list_size tree item xs
 body_smaller {T} {Tree} {L} tree each item each_item xs body i x range h e is =
-    omega (
-      arith,
-      drop_size tree item xs i,
-      ap (λ ts. items_size (items_of (map item ts))) (trees_from tree xs i x h e),
-      ap item_size (ap item is ∙ each_item range (map tree body)),
-    )
+    omega (arith, item_within tree item xs i x h e, loop_size tree each item each_item x range body is)

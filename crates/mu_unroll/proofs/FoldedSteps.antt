@@ -1,40 +1,24 @@
 -- Constant folding of equations, statements, branches and clauses.
-use Rattle.std.proofs.Common.{◌≡◌, ◌∙◌, ◌+◌, ◌<◌, ◌++◌, ◌∷◌, [], ℕ, List, Global, Vec, length, map}
+use Rattle.std.proofs.Common.{◌≡◌, ◌∙◌, ◌+◌, ◌<◌, ◌++◌, ◌∷◌, [], ℕ, List, length, map}
 use Rattle.std.proofs.Common.{take, get_or}
-use Rattle.std.proofs.Common.{refl, sym, ap, subst}
+use Rattle.std.proofs.Common.{refl, sym, ap}
 use Rattle.std.specs.Prelude.{Option, Some, None, Result, Ok, true, false, is_some}
 use Rattle.mu_num.specs.Fraction.{Fraction}
-use Rattle.mu_tree.specs.Expression.{expression}
-use Rattle.mu_tree.specs.FlatExpression.{FlatAction, FlatBranchTree, FlatEquationTree}
-use Rattle.mu_tree.specs.FlatExpression.{FlatExpression, FlatVariable}
-use Rattle.mu_tree.specs.ModelTree.{BranchTree, ClauseTree, Condition, EachClause, EachEquation}
-use Rattle.mu_tree.specs.ModelTree.{EachStatement, EquationTree, StatementTree, branch, clause}
-use Rattle.mu_tree.specs.ModelTree.{clauses_of, equation, equations_of, range, statement}
-use Rattle.mu_tree.specs.ModelTree.{statements_of}
-use Rattle.mu_tree.specs.declared.expr.Expr.{Expr}
+use Rattle.mu_tree.specs.Expression.{Expression}
+use Rattle.mu_tree.specs.FlatExpression.{FlatAction, FlatBranchTree, FlatExpression}
+use Rattle.mu_tree.specs.ModelTree.{BranchTree, Condition, branch, range, statements_of}
 use Rattle.mu_tree.specs.declared.tree.Branch.{Branch}
-use Rattle.mu_tree.specs.declared.tree.Clause.{Clause}
-use Rattle.mu_tree.specs.declared.tree.Clause as clauses
-use Rattle.mu_tree.specs.declared.tree.Equation.{Equation}
-use Rattle.mu_tree.specs.declared.tree.Equation as equations
-use Rattle.mu_tree.specs.declared.tree.Statement.{Statement}
-use Rattle.mu_tree.specs.declared.tree.Statement as statements
-use Rattle.mu_names.proofs.Shapes.{clause-For, equation-For, statement-For}
 use Rattle.mu_unroll.specs.declared.unroll_fault.UnrollErr.{UnrollErr}
+use Rattle.mu_unroll.specs.declared.environment.LoopVar.{LoopVar}
 use Rattle.mu_unroll.specs.declared.environment.NameDenotation.{NameDenotation}
-use Rattle.mu_unroll.specs.ConstantFolding.{IsSameBranch, IsSameBranches, IsSameClause}
-use Rattle.mu_unroll.specs.ConstantFolding.{IsSameClauses}
-use Rattle.mu_unroll.specs.ConstantFolding.{IsSameConstant, IsSameEquation, IsSameEquations}
-use Rattle.mu_unroll.specs.ConstantFolding.{IsSameExpression}
-use Rattle.mu_unroll.specs.ConstantFolding.{IsSameStart, IsSameStarts}
-use Rattle.mu_unroll.specs.ConstantFolding.{IsSameStatement, IsSameStatements}
+use Rattle.mu_unroll.specs.ConstantFolding.{IsSameBranch, IsSameBranches, IsSameConstant}
+use Rattle.mu_unroll.specs.ConstantFolding.{IsSameExpression, IsSameStatements, IsSameStep}
 use Rattle.mu_unroll.specs.ConstantValues.{bind_result}
 use Rattle.mu_unroll.specs.Counting.{node_count, with_item}
 use Rattle.mu_unroll.specs.Flattening.{flattened}
-use Rattle.mu_unroll.specs.Unrolling.{Progress, progress, unrolled_branch, unrolled_branches}
-use Rattle.mu_unroll.specs.Unrolling.{unrolled_clause, unrolled_clauses, unrolled_equation}
-use Rattle.mu_unroll.specs.Unrolling.{unrolled_equations, unrolled_start, unrolled_starts}
-use Rattle.mu_unroll.specs.Unrolling.{unrolled_statement, unrolled_statements, with_more}
+use Rattle.mu_unroll.specs.ListUnrolling.{in_order, in_rounds}
+use Rattle.mu_unroll.specs.Unrolling.{Progress, Step, progress, unrolled_branch}
+use Rattle.mu_unroll.specs.Unrolling.{unrolled_branches, unrolled_statements, with_more}
 use Rattle.mu_unroll.specs.VariablePlaces.{constant_of, meant_in}
 use Rattle.mu_unroll.proofs.Folding.{IsSequence, bind_same, copy_pushed, loop_same}
 
@@ -43,189 +27,50 @@ none_of : (o : Option Fraction) → is_some o ≡ false → o ≡ None
 none_of None h = refl
 none_of (Some a) h = absurd (let wrong : true ≡ false = h in cc)
 
--- equations in order
-equation_sequence : (declared : List ℕ → NameDenotation)
-    → IsSequence {T = EquationTree} {X = FlatEquationTree} (λ x loops p. unrolled_equation declared
-    loops x p)
-    (λ xs loops p. unrolled_equations declared loops (equations_of xs) p)
-equation_sequence declared = record { none = λ loops p. refl; more = λ x xs loops p. refl }
+-- the items of a list in order
+ordered : {T X : Type 0} (one : T → Step X) (declared : List ℕ → NameDenotation)
+    → IsSequence (λ x. one x declared) (λ xs. in_order one xs declared)
+ordered {T} {X} one declared = record { none = λ loops p. refl; more = λ x xs loops p. refl }
 
-pub equations_pushed : (declared : List ℕ → NameDenotation) (before new : List Equation) (copy :
-    Equation)
-    (items : List Equation) (i : ℕ) (item : Equation) → new ≡ before ++ copy ∷ [] → i < length items
-    → item ≡ get_or items i item
-    → IsSameEquations declared (equations_of (map equation before)) (equations_of (map equation
-    (take i items)))
-    → IsSameEquation declared (equation copy) (equation item)
-    → IsSameEquations declared (equations_of (map equation new)) (equations_of (map equation (take
-    (i + 1) items)))
-equations_pushed declared before new copy items i item =
-    copy_pushed equation (λ x loops p. unrolled_equation declared loops x p)
-    (λ xs loops p. unrolled_equations declared loops (equations_of xs) p) (equation_sequence
-    declared)
-    declared before new copy items i item
+pub items_pushed : {T X : Type 0} (one : T → Step X) (declared : List ℕ → NameDenotation)
+    (before new : List T) (copy : T) (items : List T) (i : ℕ) (item : T)
+    → new ≡ before ++ copy ∷ [] → i < length items → item ≡ get_or items i item
+    → IsSameStep declared (in_order one before declared) (in_order one (take i items) declared)
+    → IsSameStep declared (one copy declared) (one item declared)
+    → IsSameStep declared (in_order one new declared) (in_order one (take (i + 1) items) declared)
+items_pushed {T} {X} one declared =
+    copy_pushed (λ x. one x declared) (λ xs. in_order one xs declared) (ordered one declared)
+    declared
 
--- a loop over equations
-pub equation_loop_same : (declared : List ℕ → NameDenotation) (one : Equation) (var copy : List ℕ)
-    (at : ℕ) (from to f t : Expr) (body new : Vec Equation Global)
-    → one ≡ equations.For var at from to body → copy ≡ var → is_some (constant_of (declared var)) ≡
-    false
-    → IsSameConstant declared (expression f) (expression from)
-    → IsSameConstant declared (expression t) (expression to)
-    → IsSameEquations declared (equations_of (map equation new.items)) (equations_of (map equation
-    body.items))
-    → IsSameEquation declared (equation (equations.For copy at f t new)) (equation one)
-equation_loop_same declared one var copy at from to f t body new is named none first last same =
-    subst (λ (w : List ℕ). IsSameEquation declared (equation (equations.For w at f t new)) (equation
-    one)) (sym named)
-    (subst (λ x. IsSameEquation declared x (equation one)) (sym (equation-For var at f t new))
-    (subst (λ y. IsSameEquation declared
-    (EachEquation (range var at (expression f) (expression t)) (equations_of (map equation
-    new.items))) y)
-    (sym (ap equation is ∙ equation-For var at from to body))
-    (loop_same declared var at (expression f) (expression t) (expression from) (expression to)
-    (λ loops p. unrolled_equations declared loops (equations_of (map equation new.items)) p)
-    (λ loops p. unrolled_equations declared loops (equations_of (map equation body.items)) p)
-    (none_of (constant_of (declared var)) none) first last same)))
-
--- statements in order
-statement_sequence : (declared : List ℕ → NameDenotation)
-    → IsSequence {T = StatementTree} {X = FlatAction} (λ x loops p. unrolled_statement declared
-    loops x p)
-    (λ xs loops p. unrolled_statements declared loops (statements_of xs) p)
-statement_sequence declared = record { none = λ loops p. refl; more = λ x xs loops p. refl }
-
-pub statements_pushed : (declared : List ℕ → NameDenotation) (before new : List Statement) (copy :
-    Statement)
-    (items : List Statement) (i : ℕ) (item : Statement) → new ≡ before ++ copy ∷ []
-    → i < length items
-    → item ≡ get_or items i item
-    → IsSameStatements declared (statements_of (map statement before)) (statements_of (map statement
-    (take i items)))
-    → IsSameStatement declared (statement copy) (statement item)
-    → IsSameStatements declared (statements_of (map statement new)) (statements_of (map statement
-    (take (i + 1) items)))
-statements_pushed declared before new copy items i item =
-    copy_pushed statement (λ x loops p. unrolled_statement declared loops x p)
-    (λ xs loops p. unrolled_statements declared loops (statements_of xs) p) (statement_sequence
-    declared)
-    declared before new copy items i item
-
--- a loop over statements
-pub statement_loop_same : (declared : List ℕ → NameDenotation) (one : Statement) (var copy : List ℕ)
-    (at : ℕ) (from to f t : Expr) (body new : Vec Statement Global)
-    → one ≡ statements.For var at from to body → copy ≡ var → is_some (constant_of (declared var)) ≡
-    false
-    → IsSameConstant declared (expression f) (expression from)
-    → IsSameConstant declared (expression t) (expression to)
-    → IsSameStatements declared (statements_of (map statement new.items)) (statements_of (map
-    statement body.items))
-    → IsSameStatement declared (statement (statements.For copy at f t new)) (statement one)
-statement_loop_same declared one var copy at from to f t body new is named none first last same =
-    subst (λ (w : List ℕ). IsSameStatement declared (statement (statements.For w at f t new))
-    (statement one)) (sym named)
-    (subst (λ x. IsSameStatement declared x (statement one)) (sym (statement-For var at f t new))
-    (subst (λ y. IsSameStatement declared
-    (EachStatement (range var at (expression f) (expression t)) (statements_of (map statement
-    new.items))) y)
-    (sym (ap statement is ∙ statement-For var at from to body))
-    (loop_same declared var at (expression f) (expression t) (expression from) (expression to)
-    (λ loops p. unrolled_statements declared loops (statements_of (map statement new.items)) p)
-    (λ loops p. unrolled_statements declared loops (statements_of (map statement body.items)) p)
-    (none_of (constant_of (declared var)) none) first last same)))
-
--- start assignments in order
-start_sequence : (declared : List ℕ → NameDenotation)
-    → IsSequence {T = StatementTree} {X = FlatVariable} (λ x loops p. unrolled_start declared loops
-    x p)
-    (λ xs loops p. unrolled_starts declared loops (statements_of xs) p)
-start_sequence declared = record { none = λ loops p. refl; more = λ x xs loops p. refl }
-
-pub starts_pushed : (declared : List ℕ → NameDenotation) (before new : List Statement) (copy :
-    Statement)
-    (items : List Statement) (i : ℕ) (item : Statement) → new ≡ before ++ copy ∷ []
-    → i < length items
-    → item ≡ get_or items i item
-    → IsSameStarts declared (statements_of (map statement before)) (statements_of (map statement
-    (take i items)))
-    → IsSameStart declared (statement copy) (statement item)
-    → IsSameStarts declared (statements_of (map statement new)) (statements_of (map statement (take
-    (i + 1) items)))
-starts_pushed declared before new copy items i item =
-    copy_pushed statement (λ x loops p. unrolled_start declared loops x p)
-    (λ xs loops p. unrolled_starts declared loops (statements_of xs) p) (start_sequence declared)
-    declared before new copy items i item
-
--- a loop over start assignments
-pub start_loop_same : (declared : List ℕ → NameDenotation) (one : Statement) (var copy : List ℕ)
-    (at : ℕ) (from to f t : Expr) (body new : Vec Statement Global)
-    → one ≡ statements.For var at from to body → copy ≡ var → is_some (constant_of (declared var)) ≡
-    false
-    → IsSameConstant declared (expression f) (expression from)
-    → IsSameConstant declared (expression t) (expression to)
-    → IsSameStarts declared (statements_of (map statement new.items)) (statements_of (map statement
-    body.items))
-    → IsSameStart declared (statement (statements.For copy at f t new)) (statement one)
-start_loop_same declared one var copy at from to f t body new is named none first last same =
-    subst (λ (w : List ℕ). IsSameStart declared (statement (statements.For w at f t new)) (statement
-    one)) (sym named)
-    (subst (λ x. IsSameStart declared x (statement one)) (sym (statement-For var at f t new))
-    (subst (λ y. IsSameStart declared
-    (EachStatement (range var at (expression f) (expression t)) (statements_of (map statement
-    new.items))) y)
-    (sym (ap statement is ∙ statement-For var at from to body))
-    (loop_same declared var at (expression f) (expression t) (expression from) (expression to)
-    (λ loops p. unrolled_starts declared loops (statements_of (map statement new.items)) p)
-    (λ loops p. unrolled_starts declared loops (statements_of (map statement body.items)) p)
-    (none_of (constant_of (declared var)) none) first last same)))
-
--- clauses in order
-clause_sequence : (declared : List ℕ → NameDenotation)
-    → IsSequence {T = ClauseTree} {X = List FlatBranchTree} (λ x loops p. unrolled_clause declared
-    loops x p)
-    (λ xs loops p. unrolled_clauses declared loops (clauses_of xs) p)
-clause_sequence declared = record { none = λ loops p. refl; more = λ x xs loops p. refl }
-
-pub clauses_pushed : (declared : List ℕ → NameDenotation) (before new : List Clause) (copy : Clause)
-    (items : List Clause) (i : ℕ) (item : Clause) → new ≡ before ++ copy ∷ [] → i < length items
-    → item ≡ get_or items i item
-    → IsSameClauses declared (clauses_of (map clause before)) (clauses_of (map clause (take i
-    items)))
-    → IsSameClause declared (clause copy) (clause item)
-    → IsSameClauses declared (clauses_of (map clause new)) (clauses_of (map clause (take (i + 1)
-    items)))
-clauses_pushed declared before new copy items i item =
-    copy_pushed clause (λ x loops p. unrolled_clause declared loops x p)
-    (λ xs loops p. unrolled_clauses declared loops (clauses_of xs) p) (clause_sequence declared)
-    declared before new copy items i item
-
--- a loop over clauses
-pub clause_loop_same : (declared : List ℕ → NameDenotation) (one : Clause) (var copy : List ℕ)
-    (at : ℕ) (from to f t : Expr) (body new : Vec Clause Global)
-    → one ≡ clauses.For var at from to body → copy ≡ var → is_some (constant_of (declared var)) ≡
-    false
-    → IsSameConstant declared (expression f) (expression from)
-    → IsSameConstant declared (expression t) (expression to)
-    → IsSameClauses declared (clauses_of (map clause new.items)) (clauses_of (map clause
-    body.items))
-    → IsSameClause declared (clause (clauses.For copy at f t new)) (clause one)
-clause_loop_same declared one var copy at from to f t body new is named none first last same =
-    subst (λ (w : List ℕ). IsSameClause declared (clause (clauses.For w at f t new)) (clause one))
-    (sym named)
-    (subst (λ x. IsSameClause declared x (clause one)) (sym (clause-For var at f t new))
-    (subst (λ y. IsSameClause declared
-    (EachClause (range var at (expression f) (expression t)) (clauses_of (map clause new.items))) y)
-    (sym (ap clause is ∙ clause-For var at from to body))
-    (loop_same declared var at (expression f) (expression t) (expression from) (expression to)
-    (λ loops p. unrolled_clauses declared loops (clauses_of (map clause new.items)) p)
-    (λ loops p. unrolled_clauses declared loops (clauses_of (map clause body.items)) p)
-    (none_of (constant_of (declared var)) none) first last same)))
+-- a loop with equal bounds over equal items
+pub loop_folded : {T X : Type 0} (one : T → Step X) (declared : List ℕ → NameDenotation)
+    (copied item : T) (copy var : List ℕ) (at : ℕ) (f t g u : Expression) (new body : List T)
+    → ((loops : List LoopVar) (p : Progress X)
+    → one copied declared loops p ≡ in_rounds one (range copy at f t) new declared loops p)
+    → ((loops : List LoopVar) (p : Progress X)
+    → one item declared loops p ≡ in_rounds one (range var at g u) body declared loops p)
+    → copy ≡ var → is_some (constant_of (declared var)) ≡ false
+    → IsSameConstant declared f g → IsSameConstant declared t u
+    → IsSameStep declared (in_order one new declared) (in_order one body declared)
+    → IsSameStep declared (one copied declared) (one item declared)
+loop_folded {T} {X} one declared copied item copy var at f t g u new body copies is named none from
+    to same =
+    let rounds : IsSameStep declared (in_rounds one (range var at f t) new declared)
+        (in_rounds one (range var at g u) body declared) =
+    loop_same declared var at f t g u (in_order one new declared) (in_order one body declared)
+    (none_of (constant_of (declared var)) none) from to same in
+    record {
+      in_loops = λ loops h p.
+          copies loops p
+          ∙ ap (λ w. in_rounds one (range w at f t) new declared loops p) named
+          ∙ rounds.in_loops loops h p ∙ sym (is loops p);
+    }
 
 -- branches in order
 branch_sequence : (declared : List ℕ → NameDenotation)
-    → IsSequence {T = BranchTree} {X = FlatBranchTree} (λ x loops p. unrolled_branch declared loops
-    x p)
-    (λ xs loops p. unrolled_branches declared loops xs p)
+    → IsSequence {T = Branch} {X = FlatBranchTree}
+    (λ x loops p. unrolled_branch declared loops (branch x) p)
+    (λ xs loops p. unrolled_branches declared loops (map branch xs) p)
 branch_sequence declared = record { none = λ loops p. refl; more = λ x xs loops p. refl }
 
 pub branches_pushed : (declared : List ℕ → NameDenotation) (before new : List Branch) (copy :
@@ -235,10 +80,10 @@ pub branches_pushed : (declared : List ℕ → NameDenotation) (before new : Lis
     → IsSameBranches declared (map branch before) (map branch (take i items))
     → IsSameBranch declared (branch copy) (branch item)
     → IsSameBranches declared (map branch new) (map branch (take (i + 1) items))
-branches_pushed declared before new copy items i item =
-    copy_pushed branch (λ x loops p. unrolled_branch declared loops x p)
-    (λ xs loops p. unrolled_branches declared loops xs p) (branch_sequence declared)
-    declared before new copy items i item
+branches_pushed declared =
+    copy_pushed (λ x loops p. unrolled_branch declared loops (branch x) p)
+    (λ xs loops p. unrolled_branches declared loops (map branch xs) p) (branch_sequence declared)
+    declared
 
 -- a branch with this condition and these statements
 abbrev branch_of : (List ℕ → NameDenotation) → Condition

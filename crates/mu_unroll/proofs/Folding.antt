@@ -207,20 +207,17 @@ pushed_same {T} {X} one run is declared xs ys x y all last = record {
 }
 
 -- one more copy of an item
-pub copy_pushed : {S T X : Type 0} (f : S → T)
+pub copy_pushed : {T X : Type 0}
     (one : T → List LoopVar → Progress X → Result (Progress X) UnrollErr)
     (run : List T → List LoopVar → Progress X → Result (Progress X) UnrollErr) → IsSequence one run
-    → (declared : List ℕ → NameDenotation) (before new : List S) (copy : S) (items : List S) (i : ℕ)
-    (item : S) → new ≡ before ++ copy ∷ [] → i < length items → item ≡ get_or items i item
-    → IsSameStep declared (run (map f before)) (run (map f (take i items)))
-    → IsSameStep declared (one (f copy)) (one (f item))
-    → IsSameStep declared (run (map f new)) (run (map f (take (i + 1) items)))
-copy_pushed {S} {T} {X} f one run is declared before new copy items i item pushed h e all last =
-    let made : map f new ≡ map f before ++ f copy ∷ [] = ap (map f) pushed ∙ map-append f before
-    (copy ∷ []) in
-    let taken : map f (take (i + 1) items) ≡ map f (take i items) ++ f item ∷ [] =
-    rw (add-one, take-suc items i item h, ← e) (map-append f (take i items) (item ∷ [])) in
-    subst (λ xs. IsSameStep declared (run xs) (run (map f (take (i + 1) items)))) (sym made)
-    (subst (λ ys. IsSameStep declared (run (map f before ++ f copy ∷ [])) (run ys)) (sym taken)
-    (pushed_same one run is declared (map f before) (map f (take i items)) (f copy) (f item) all
-    last))
+    → (declared : List ℕ → NameDenotation) (before new : List T) (copy : T) (items : List T) (i : ℕ)
+    (item : T) → new ≡ before ++ copy ∷ [] → i < length items → item ≡ get_or items i item
+    → IsSameStep declared (run before) (run (take i items))
+    → IsSameStep declared (one copy) (one item)
+    → IsSameStep declared (run new) (run (take (i + 1) items))
+copy_pushed {T} {X} one run is declared before new copy items i item pushed h e all last =
+    let taken : take (i + 1) items ≡ take i items ++ item ∷ [] =
+    rw (add-one, take-suc items i item h, ← e) refl in
+    subst (λ xs. IsSameStep declared (run xs) (run (take (i + 1) items))) (sym pushed)
+    (subst (λ ys. IsSameStep declared (run (before ++ copy ∷ [])) (run ys)) (sym taken)
+    (pushed_same one run is declared before (take i items) copy item all last))

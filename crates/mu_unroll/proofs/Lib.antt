@@ -16,3 +16,4 @@ mod Whole
 mod Folding
 mod FoldedParts
 mod FoldedSteps
+mod Orders

@@ -18,15 +18,11 @@ use Rattle.mu_unroll.specs.Counting.{with_round}
 use Rattle.mu_unroll.specs.Environments.{HasSameNames}
 use Rattle.mu_unroll.specs.LoopBounds.{AreRoundsBounded}
 use Rattle.mu_unroll.specs.UnrollFaults.{IsFault}
-use Rattle.mu_unroll.specs.Unrolling.{Progress, inside, progress, repeated, rounds_from}
+use Rattle.mu_unroll.specs.Unrolling.{Progress, Step, inside, progress, repeated, rounds_from}
 use Rattle.mu_unroll.specs.VariableTables.{meant_at}
 use Rattle.mu_unroll.proofs.Faulty.{after, fault_same, fault_then, is_fault}
 use Rattle.mu_unroll.proofs.Rounding.{le_of, lt_of, near_next, near_small, round_fault, round_limit}
 use Rattle.mu_unroll.proofs.Rounding.{round_none, round_step}
-
--- a step of a walk, inside loops
-abbrev pub Step : Type 0 → Type 0
-Step X = (List ℕ → NameDenotation) → List LoopVar → Progress X → Result (Progress X) UnrollErr
 
 -- a step in an environment
 abbrev pub step_in : {X : Type 0} → Step X → Environment → Progress X

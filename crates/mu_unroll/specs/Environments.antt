@@ -1,7 +1,7 @@
 -- Environments and outputs during unrolling.
 use Rattle.std.specs.Prelude.{◌≡◌, map}
 use Rattle.mu_unroll.specs.declared.environment.Environment.{Environment}
-use Rattle.mu_unroll.specs.declared.unroller.Output.{Output}
+use Rattle.mu_unroll.specs.declared.item_unrolling.Output.{Output}
 use Rattle.mu_unroll.specs.Unrolling.{Progress, progress}
 
 -- two environments have the same declared names and the same loop variables

@@ -31,32 +31,3 @@ abbrev pub AreFoldedFactors : Table → (copies factors : List Factor) → Type 
 AreFoldedFactors declared copies factors =
     IsSameFactors (meant_at declared) (factors_of (map scaled copies))
     (factors_of (map scaled factors))
-
--- the copied equations are unrolled as the originals
-abbrev pub AreFoldedEquations : Table → (copies equations : List Equation) → Type 0
-AreFoldedEquations declared copies equations =
-    IsSameEquations (meant_at declared) (equations_of (map equation copies))
-    (equations_of (map equation equations))
-
--- the copied start assignments are executed as the originals
-abbrev pub AreFoldedStarts : Table → (copies statements : List Statement) → Type 0
-AreFoldedStarts declared copies statements =
-    IsSameStarts (meant_at declared) (statements_of (map statement copies))
-    (statements_of (map statement statements))
-
--- the copied statements of branches are unrolled as the originals
-abbrev pub AreFoldedStatements : Table → (copies statements : List Statement) → Type 0
-AreFoldedStatements declared copies statements =
-    IsSameStatements (meant_at declared) (statements_of (map statement copies))
-    (statements_of (map statement statements))
-
--- the copied branches are unrolled as the originals
-abbrev pub AreFoldedBranches : Table → (copies branches : List Branch) → Type 0
-AreFoldedBranches declared copies branches =
-    IsSameBranches (meant_at declared) (map branch copies) (map branch branches)
-
--- the copied clauses are unrolled as the originals
-abbrev pub AreFoldedClauses : Table → (copies clauses : List Clause) → Type 0
-AreFoldedClauses declared copies clauses =
-    IsSameClauses (meant_at declared) (clauses_of (map clause copies))
-    (clauses_of (map clause clauses))

@@ -1,55 +1,54 @@
--- Unrolling of lists of equations, clauses and start assignments in an environment.
-use Rattle.std.specs.Prelude.{◌≡◌, List, Result, Ok, map}
-use Rattle.mu_tree.specs.FlatExpression.{FlatBranchTree, FlatEquationTree, FlatVariable}
-use Rattle.mu_tree.specs.FlatExpression.{flat_clause, flat_equation, flat_variable}
-use Rattle.mu_tree.specs.ModelTree.{clause, clauses_of, equation, equations_of, statement}
-use Rattle.mu_tree.specs.ModelTree.{statements_of}
-use Rattle.mu_tree.specs.declared.flat.FlatClause.{FlatClause}
-use Rattle.mu_tree.specs.declared.flat.FlatEquation.{FlatEquation}
-use Rattle.mu_tree.specs.declared.flat.FlatVar.{FlatVar}
-use Rattle.mu_tree.specs.declared.tree.Clause.{Clause}
-use Rattle.mu_tree.specs.declared.tree.Equation.{Equation}
-use Rattle.mu_tree.specs.declared.tree.Statement.{Statement}
-use Rattle.mu_unroll.specs.declared.environment.Environment.{Environment}
-use Rattle.mu_unroll.specs.declared.unroller.Output.{Output}
-use Rattle.mu_unroll.specs.declared.unroll_fault.UnrollErr.{UnrollErr}
-use Rattle.mu_unroll.specs.Environments.{progress_of}
-use Rattle.mu_unroll.specs.Unrolling.{Progress, unrolled_clauses, unrolled_equations}
-use Rattle.mu_unroll.specs.Unrolling.{unrolled_starts}
-use Rattle.mu_unroll.specs.VariableTables.{meant_at}
+-- Unrolling of lists of items, and of loops over them.
+use Rattle.std.specs.Prelude.{◌≡◌, List, [], ◌∷◌, Ok, map, refl}
+use Rattle.std.proofs.Common.{◌∙◌, ap}
+use Rattle.std.proofs.Math.Path.{fun_ext}
+use Rattle.std.specs.Prelude.{ℕ}
+use Rattle.mu_tree.specs.ModelTree.{Range}
+use Rattle.mu_tree.specs.Nests.{Each, NestTree, One, items_of}
+use Rattle.mu_unroll.specs.declared.environment.LoopVar.{LoopVar}
+use Rattle.mu_unroll.specs.declared.environment.NameDenotation.{NameDenotation}
+use Rattle.mu_unroll.specs.ConstantValues.{bind_result}
+use Rattle.mu_unroll.specs.Unrolling.{Progress, Step, inside, looped, unrolled_item, unrolled_items}
+use Rattle.mu_unroll.specs.VariablePlaces.{meant_in}
 
--- the progress or the fault after these equations, from an output on
-abbrev pub equations_from : Environment → List Equation → Output FlatEquation
-    → Result (Progress FlatEquationTree) UnrollErr
-equations_from env equations output =
-    unrolled_equations (meant_at env.declared) env.loops.items
-    (equations_of (map equation equations)) (progress_of flat_equation output)
+-- the items of a list in order
+abbrev pub in_order : {T X : Type 0} → (T → Step X) → List T → Step X
+in_order one [] declared loops p = Ok p
+in_order one (x ∷ xs) declared loops p =
+    bind_result (one x declared loops p) (λ q. in_order one xs declared loops q)
 
--- the equations lead from an output to another one
-abbrev pub UnrollsEquations : Environment → List Equation → (old new : Output FlatEquation) → Type 0
-UnrollsEquations env equations old new =
-    equations_from env equations old ≡ Ok (progress_of flat_equation new)
+-- the rounds of a loop
+abbrev pub in_rounds : {T X : Type 0} → (T → Step X) → Range → List T → Step X
+in_rounds one range body declared loops p =
+    looped (meant_in loops declared) range
+    (λ i q. in_order one body declared (inside loops range.var i) q) p
 
--- the progress or the fault after these clauses, from an output on
-abbrev pub clauses_from : Environment → List Clause → Output FlatClause
-    → Result (Progress (List FlatBranchTree)) UnrollErr
-clauses_from env clauses output =
-    unrolled_clauses (meant_at env.declared) env.loops.items
-    (clauses_of (map clause clauses)) (progress_of flat_clause output)
+-- nothing, if the item is a loop
+abbrev pub unless_loop : {L X : Type 0} → NestTree L → Step X → Step X
+unless_loop (One l) step declared loops p = step declared loops p
+unless_loop (Each range body) step declared loops p = Ok p
 
--- the clauses lead from an output to another one
-abbrev pub UnrollsClauses : Environment → List Clause → (old new : Output FlatClause) → Type 0
-UnrollsClauses env clauses old new =
-    clauses_from env clauses old ≡ Ok (progress_of flat_clause new)
+-- a list of items is unrolled in order
+pub items_in_order : {T Tree L X : Type 0} (one : L → Step X) (tree : T → Tree)
+    (item : Tree → NestTree L) (xs : List T) (declared : List ℕ → NameDenotation)
+    (loops : List LoopVar) (p : Progress X)
+    → unrolled_items one (items_of (map item (map tree xs))) declared loops p
+    ≡ in_order (λ x. unrolled_item one (item (tree x))) xs declared loops p
+items_in_order {T} {Tree} {L} {X} one tree item [] declared loops p = refl
+items_in_order {T} {Tree} {L} {X} one tree item (x ∷ xs) declared loops p =
+    ap (bind_result (unrolled_item one (item (tree x)) declared loops p))
+    (fun_ext (λ q. items_in_order one tree item xs declared loops q))
 
--- the progress or the fault after these start assignments, from an output on
-abbrev pub starts_from : Environment → List Statement → Output FlatVar
-    → Result (Progress FlatVariable) UnrollErr
-starts_from env statements output =
-    unrolled_starts (meant_at env.declared) env.loops.items
-    (statements_of (map statement statements)) (progress_of flat_variable output)
-
--- the start assignments lead from an output to another one
-abbrev pub UnrollsStarts : Environment → List Statement → (old new : Output FlatVar) → Type 0
-UnrollsStarts env statements old new =
-    starts_from env statements old ≡ Ok (progress_of flat_variable new)
+-- a loop is unrolled in rounds
+pub loop_in_rounds : {T Tree L X : Type 0} (one : L → Step X) (tree : T → Tree)
+    (each : Range → List Tree → Tree) (item : Tree → NestTree L)
+    (each_item : (r : Range) (ts : List Tree) → item (each r ts) ≡ Each r (items_of (map item ts)))
+    (x : T) (r : Range) (body : List T) → tree x ≡ each r (map tree body)
+    → (declared : List ℕ → NameDenotation) (loops : List LoopVar) (p : Progress X)
+    → unrolled_item one (item (tree x)) declared loops p
+    ≡ in_rounds (λ y. unrolled_item one (item (tree y))) r body declared loops p
+loop_in_rounds {T} {Tree} {L} {X} one tree each item each_item x r body is declared loops p =
+    ap (λ t. unrolled_item one t declared loops p) (ap item is ∙ each_item r (map tree body))
+    ∙ ap (λ once. looped (meant_in loops declared) r once p)
+    (fun_ext (λ i. fun_ext
+    (λ q. items_in_order one tree item body declared (inside loops r.var i) q)))

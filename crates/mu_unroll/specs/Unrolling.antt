@@ -11,12 +11,12 @@ use Rattle.mu_tree.specs.FlatExpression.{FlatVariable, FlatEquationTree, FlatAct
 use Rattle.mu_tree.specs.FlatExpression.{FlatModelTree}
 use Rattle.mu_tree.specs.FlatExpression as flat
 use Rattle.mu_tree.specs.FlatModels.{target_role}
-use Rattle.mu_tree.specs.ModelTree.{Range, EquationTree, Derivative, Algebraic, EachEquation}
-use Rattle.mu_tree.specs.ModelTree.{EquationTrees, no_equations, equation_then, StatementTree}
-use Rattle.mu_tree.specs.ModelTree.{Assign, Restart, EachStatement, StatementTrees, no_statements}
-use Rattle.mu_tree.specs.ModelTree.{statement_then, BranchTree, ClauseTree, Branches, EachClause}
-use Rattle.mu_tree.specs.ModelTree.{ClauseTrees, no_clauses, clause_then, equations_of}
-use Rattle.mu_tree.specs.ModelTree.{statements_of, clauses_of, ModelTree}
+use Rattle.mu_tree.specs.ModelTree.{Range, EquationTree, EquationTrees, StatementTree}
+use Rattle.mu_tree.specs.ModelTree.{StatementTrees, BranchTree, ClauseTree, ClauseTrees}
+use Rattle.mu_tree.specs.ModelTree.{equations_of, statements_of, clauses_of, ModelTree}
+use Rattle.mu_tree.specs.Nests.{Each, NestTree, NestTrees, One, OneEquation, OneStatement}
+use Rattle.mu_tree.specs.Nests.{clause_item, clause_items, equation_item, equation_items}
+use Rattle.mu_tree.specs.Nests.{item_then, no_items, statement_item, statement_items}
 use Rattle.mu_names.specs.declared.declared_scope.Known.{Known}
 use Rattle.mu_names.specs.declared.declared_scope.Scope.{Scope}
 use Rattle.mu_unroll.specs.declared.unroll_counts.Counts.{Counts}
@@ -74,6 +74,22 @@ abbrev pub looped : {X : Type 0} → (List ℕ → NameDenotation) → Range →
 looped known range once p =
     bind_result (bounds_of known range.at range.from range.to) (λ r. repeated once r.next (rounds_from r.next r.last) p)
 
+-- a step of unrolling inside loops
+abbrev pub Step : Type 0 → Type 0
+Step X = (List ℕ → NameDenotation) → List LoopVar → Progress X → Result (Progress X) UnrollErr
+
+abbrev mutual
+  -- an item inside loops, where `one` is the step of an item that is no loop
+  pub unrolled_item : {L X : Type 0} → (L → Step X) → NestTree L → Step X
+  unrolled_item one (One l) declared loops p = one l declared loops p
+  unrolled_item one (Each range body) declared loops p =
+      looped (meant_in loops declared) range (λ i q. unrolled_items one body declared (inside loops range.var i) q) p
+
+  pub unrolled_items : {L X : Type 0} → (L → Step X) → NestTrees L → Step X
+  unrolled_items one no_items declared loops p = Ok p
+  unrolled_items one (item_then x xs) declared loops p =
+      bind_result (unrolled_item one x declared loops p) (λ q. unrolled_items one xs declared loops q)
+
 -- the flat equation, if its target is a variable with the required role
 abbrev pub equation_for : (der : Bool) → Option ℕ → flat.FlatExpression → Option FlatEquationTree
 equation_for der (Some v) f = Some (record { der = der; target = v; value = f })
@@ -85,17 +101,16 @@ one_equation der known target e p =
     bind_result (with_item p.counts (node_count e)) (λ c. bind_result (found known target) (λ t. bind_result (flattened false known e) (λ f.
     Ok (with_maybe p c (equation_for der (number_of_kind (target_role der) t) f)))))
 
-abbrev mutual
-  -- the flat equations of an equation inside loops
-  pub unrolled_equation : (List ℕ → NameDenotation) → List LoopVar → EquationTree → Progress FlatEquationTree → Result (Progress FlatEquationTree) UnrollErr
-  unrolled_equation declared loops (Derivative target e) p = one_equation true (meant_in loops declared) target e p
-  unrolled_equation declared loops (Algebraic target e) p = one_equation false (meant_in loops declared) target e p
-  unrolled_equation declared loops (EachEquation range body) p =
-      looped (meant_in loops declared) range (λ i q. unrolled_equations declared (inside loops range.var i) body q) p
+-- an equation that is no loop
+abbrev pub equation_once : OneEquation → Step FlatEquationTree
+equation_once e declared loops p = one_equation e.der (meant_in loops declared) e.target e.value p
 
-  pub unrolled_equations : (List ℕ → NameDenotation) → List LoopVar → EquationTrees → Progress FlatEquationTree → Result (Progress FlatEquationTree) UnrollErr
-  unrolled_equations declared loops no_equations p = Ok p
-  unrolled_equations declared loops (equation_then e es) p = bind_result (unrolled_equation declared loops e p) (λ q. unrolled_equations declared loops es q)
+-- the flat equations of an equation inside loops, and of a list of equations
+abbrev pub unrolled_equation : (List ℕ → NameDenotation) → List LoopVar → EquationTree → Progress FlatEquationTree → Result (Progress FlatEquationTree) UnrollErr
+unrolled_equation declared loops e p = unrolled_item equation_once (equation_item e) declared loops p
+
+abbrev pub unrolled_equations : (List ℕ → NameDenotation) → List LoopVar → EquationTrees → Progress FlatEquationTree → Result (Progress FlatEquationTree) UnrollErr
+unrolled_equations declared loops es p = unrolled_items equation_once (equation_items es) declared loops p
 
 -- an assignment to a discrete variable, and a reinit of a state
 abbrev pub assign_to : Option ℕ → flat.FlatExpression → Option FlatAction
@@ -112,17 +127,18 @@ one_action action kind known target e p =
     bind_result (with_item p.counts (node_count e)) (λ c. bind_result (found known target) (λ t. bind_result (flattened true known e) (λ f.
     Ok (with_maybe p c (action (number_of_kind kind t) f)))))
 
-abbrev mutual
-  -- the flat statements of a statement inside loops
-  pub unrolled_statement : (List ℕ → NameDenotation) → List LoopVar → StatementTree → Progress FlatAction → Result (Progress FlatAction) UnrollErr
-  unrolled_statement declared loops (Assign target e) p = one_action assign_to flat_role.Discrete (meant_in loops declared) target e p
-  unrolled_statement declared loops (Restart target e) p = one_action restart_of flat_role.State (meant_in loops declared) target e p
-  unrolled_statement declared loops (EachStatement range body) p =
-      looped (meant_in loops declared) range (λ i q. unrolled_statements declared (inside loops range.var i) body q) p
+-- a statement of a clause that is no loop
+abbrev pub statement_once : OneStatement → Step FlatAction
+statement_once s declared loops p =
+    if s.restart then one_action restart_of flat_role.State (meant_in loops declared) s.target s.value p
+    else one_action assign_to flat_role.Discrete (meant_in loops declared) s.target s.value p
 
-  pub unrolled_statements : (List ℕ → NameDenotation) → List LoopVar → StatementTrees → Progress FlatAction → Result (Progress FlatAction) UnrollErr
-  unrolled_statements declared loops no_statements p = Ok p
-  unrolled_statements declared loops (statement_then s ss) p = bind_result (unrolled_statement declared loops s p) (λ q. unrolled_statements declared loops ss q)
+-- the flat statements of a statement inside loops, and of a list of statements
+abbrev pub unrolled_statement : (List ℕ → NameDenotation) → List LoopVar → StatementTree → Progress FlatAction → Result (Progress FlatAction) UnrollErr
+unrolled_statement declared loops s p = unrolled_item statement_once (statement_item s) declared loops p
+
+abbrev pub unrolled_statements : (List ℕ → NameDenotation) → List LoopVar → StatementTrees → Progress FlatAction → Result (Progress FlatAction) UnrollErr
+unrolled_statements declared loops ss p = unrolled_items statement_once (statement_items ss) declared loops p
 
 -- the flat branch of a branch: its condition is counted with the nodes of both sides, then follow
 -- the sides and the statements
@@ -144,16 +160,16 @@ abbrev pub one_clause : (List ℕ → NameDenotation) → List LoopVar → List 
 one_clause declared loops bs p =
     bind_result (unrolled_branches declared loops bs (record { done = []; counts = p.counts })) (λ q. Ok (with_more p q.counts q.done))
 
-abbrev mutual
-  -- the flat clauses of a clause inside loops
-  pub unrolled_clause : (List ℕ → NameDenotation) → List LoopVar → ClauseTree → Progress (List FlatBranchTree) → Result (Progress (List FlatBranchTree)) UnrollErr
-  unrolled_clause declared loops (Branches bs) p = one_clause declared loops bs p
-  unrolled_clause declared loops (EachClause range body) p =
-      looped (meant_in loops declared) range (λ i q. unrolled_clauses declared (inside loops range.var i) body q) p
+-- a clause that is no loop
+abbrev pub clause_once : List BranchTree → Step (List FlatBranchTree)
+clause_once bs declared loops p = one_clause declared loops bs p
 
-  pub unrolled_clauses : (List ℕ → NameDenotation) → List LoopVar → ClauseTrees → Progress (List FlatBranchTree) → Result (Progress (List FlatBranchTree)) UnrollErr
-  unrolled_clauses declared loops no_clauses p = Ok p
-  unrolled_clauses declared loops (clause_then c cs) p = bind_result (unrolled_clause declared loops c p) (λ q. unrolled_clauses declared loops cs q)
+-- the flat clauses of a clause inside loops, and of a list of clauses
+abbrev pub unrolled_clause : (List ℕ → NameDenotation) → List LoopVar → ClauseTree → Progress (List FlatBranchTree) → Result (Progress (List FlatBranchTree)) UnrollErr
+unrolled_clause declared loops c p = unrolled_item clause_once (clause_item c) declared loops p
+
+abbrev pub unrolled_clauses : (List ℕ → NameDenotation) → List LoopVar → ClauseTrees → Progress (List FlatBranchTree) → Result (Progress (List FlatBranchTree)) UnrollErr
+unrolled_clauses declared loops cs p = unrolled_items clause_once (clause_items cs) declared loops p
 
 -- the variables with one start value replaced
 abbrev pub start_at : List FlatVariable → ℕ → Fraction → List FlatVariable
@@ -175,17 +191,17 @@ one_start known target e p =
     bind_result (with_item p.counts 0) (λ c. bind_result (found known target) (λ t. bind_result (constant_value (constants_in known) e) (λ a.
     Ok (record { done = with_start p.done t a; counts = c }))))
 
-abbrev mutual
-  -- the variables after a start assignment inside loops; the last assignment takes effect
-  pub unrolled_start : (List ℕ → NameDenotation) → List LoopVar → StatementTree → Progress FlatVariable → Result (Progress FlatVariable) UnrollErr
-  unrolled_start declared loops (Assign target e) p = one_start (meant_in loops declared) target e p
-  unrolled_start declared loops (Restart target e) p = Ok p
-  unrolled_start declared loops (EachStatement range body) p =
-      looped (meant_in loops declared) range (λ i q. unrolled_starts declared (inside loops range.var i) body q) p
+-- a start assignment that is no loop; the last assignment to a variable takes effect
+abbrev pub start_once : OneStatement → Step FlatVariable
+start_once s declared loops p =
+    if s.restart then Ok p else one_start (meant_in loops declared) s.target s.value p
 
-  pub unrolled_starts : (List ℕ → NameDenotation) → List LoopVar → StatementTrees → Progress FlatVariable → Result (Progress FlatVariable) UnrollErr
-  unrolled_starts declared loops no_statements p = Ok p
-  unrolled_starts declared loops (statement_then s ss) p = bind_result (unrolled_start declared loops s p) (λ q. unrolled_starts declared loops ss q)
+-- the variables after a start assignment inside loops, and after a list of start assignments
+abbrev pub unrolled_start : (List ℕ → NameDenotation) → List LoopVar → StatementTree → Progress FlatVariable → Result (Progress FlatVariable) UnrollErr
+unrolled_start declared loops s p = unrolled_item start_once (statement_item s) declared loops p
+
+abbrev pub unrolled_starts : (List ℕ → NameDenotation) → List LoopVar → StatementTrees → Progress FlatVariable → Result (Progress FlatVariable) UnrollErr
+unrolled_starts declared loops ss p = unrolled_items start_once (statement_items ss) declared loops p
 
 -- what the declared names of a scope denote
 abbrev pub declared_in : List Known → List ℕ → NameDenotation

@@ -1,6 +1,5 @@
 -- The names of this crate that clauses of many subjects cite, passed on from one place. Declares nothing.
 pub use Rattle.mu_unroll.specs.Environments.{HasSameNames, progress_of}
-pub use Rattle.mu_unroll.specs.ListUnrolling.{UnrollsClauses, UnrollsEquations, UnrollsStarts, clauses_from, equations_from, starts_from}
 pub use Rattle.mu_unroll.specs.Listing.{listed}
 pub use Rattle.mu_unroll.specs.UnrollFaults.{IsFault}
 pub use Rattle.mu_unroll.specs.Unrolling.{assign_to, one_action, one_clause, one_equation, restart_of, unrolled, unrolled_branch, unrolled_branches, unrolled_clause, unrolled_equation, unrolled_statement, unrolled_statements, unrolled_with}

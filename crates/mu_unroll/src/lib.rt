@@ -7,6 +7,8 @@ mod constant_folding;
 mod environment;
 mod flat_variables;
 mod flatten;
+mod item_folding;
+mod item_unrolling;
 mod long_constants;
 mod loop_folding;
 mod start_values;
@@ -15,5 +17,6 @@ mod unroll_fault;
 mod unrolled_values;
 mod unroller;
 
+pub use item_unrolling::Output;
 pub use unroll_fault::UnrollErr;
-pub use unroller::{Output, unroll};
+pub use unroller::unroll;

@@ -1,7 +1,8 @@
 //! Tests for long constant expressions in loops and in `when` clauses. Short ones are not folded,
 //! because a copy of the list costs more than their evaluation.
 
-use mu_tree::{Branch, Clause, Equation, Expr, Factor, Ref, Statement, Term};
+use crate::item_unrolling::Unroll;
+use mu_tree::{Cond, Expr, Factor, Nested, RangeRef, Ref, Term};
 
 /// The maximum number of nodes of a short constant expression.
 const SHORT: u32 = 16;
@@ -9,63 +10,21 @@ const SHORT: u32 = 16;
 /// The maximum number of digits of a short literal.
 const DIGITS: usize = 64;
 
-/// Returns whether one of the equations is or has a loop with a long constant expression.
-pub fn has_long_equations(equations: &[Equation]) -> bool {
-    for one in equations {
-        if has_long_equation(one) {
-            return true;
-        }
-    }
-    false
-}
-
-/// Returns whether one of the statements of the initial algorithm is or has a loop with a long
-/// constant expression.
-pub fn has_long_starts(statements: &[Statement]) -> bool {
-    for one in statements {
-        if has_long_start(one) {
-            return true;
-        }
-    }
-    false
-}
-
-/// Returns whether one of the clauses is a `when` clause or a loop with a long constant expression.
-pub fn has_long_clauses(clauses: &[Clause]) -> bool {
-    for one in clauses {
-        if has_long_clause(one) {
-            return true;
-        }
-    }
-    false
-}
-
-// Returns whether an equation is a loop with a long constant expression in its body.
-fn has_long_equation(one: &Equation) -> bool {
-    match one {
-        Equation::Der { .. } | Equation::Plain { .. } => false,
-        Equation::For { body, .. } => body.iter().any(|inner| has_long_inner_equation(inner)),
-    }
-}
-
-// Returns whether an equation in a loop has a long constant expression.
-fn has_long_inner_equation(one: &Equation) -> bool {
-    match one {
-        Equation::Der { target, value } | Equation::Plain { target, value } => {
-            has_long_index(target) || has_long_operand(value)
-        }
-        Equation::For { from, to, body, .. } => {
-            if has_many_nodes(from) || has_many_nodes(to) {
-                return true;
+/// Returns whether an item has a long constant expression that is evaluated more than once.
+/// `in_loop` states whether the items are in a loop.
+pub fn has_long_items<F, T: Unroll<F>>(in_loop: bool, items: &[T]) -> bool {
+    for one in items {
+        let is_long = match one.nested() {
+            Nested::One(one) => one.is_long(in_loop),
+            Nested::Each { range, body } => {
+                in_loop && has_long_range(range) || has_long_items(true, body)
             }
-            for inner in body {
-                if has_long_inner_equation(inner) {
-                    return true;
-                }
-            }
-            false
+        };
+        if is_long {
+            return true;
         }
     }
+    false
 }
 
 // Returns whether the index of a reference is long.
@@ -164,71 +123,22 @@ fn has_long_factor(factors: &[Factor]) -> bool {
     false
 }
 
-// Returns whether a statement of the initial algorithm is a loop with a long constant expression
-// in its body.
-fn has_long_start(one: &Statement) -> bool {
-    match one {
-        Statement::Set { .. } | Statement::Reinit { .. } => false,
-        Statement::For { body, .. } => body
-            .iter()
-            .any(|inner| has_long_inner_statement(true, inner)),
-    }
+/// Returns whether an equation or a statement of a clause has a long constant expression.
+pub fn has_long_side(target: &Ref, value: &Expr) -> bool {
+    has_long_index(target) || has_long_operand(value)
 }
 
-// Returns whether a statement in a loop has a long constant expression. The right side of a start
-// assignment is one.
-fn has_long_inner_statement(is_start: bool, one: &Statement) -> bool {
-    match one {
-        Statement::Set { target, value } | Statement::Reinit { target, value } => {
-            has_long_index(target) || has_long_operand(value) || (is_start && has_many_nodes(value))
-        }
-        Statement::For { from, to, body, .. } => {
-            if has_many_nodes(from) || has_many_nodes(to) {
-                return true;
-            }
-            for inner in body {
-                if has_long_inner_statement(is_start, inner) {
-                    return true;
-                }
-            }
-            false
-        }
-    }
+/// Returns whether a start assignment has a long constant expression. Its right side is one.
+pub fn has_long_start(target: &Ref, value: &Expr) -> bool {
+    has_long_side(target, value) || has_many_nodes(value)
 }
 
-// Returns whether a clause is a `when` clause with a long constant expression, or a loop with one
-// in its body.
-fn has_long_clause(one: &Clause) -> bool {
-    match one {
-        Clause::When { branches } => branches.iter().any(|branch| has_long_branch(branch)),
-        Clause::For { body, .. } => body.iter().any(|inner| has_long_inner_clause(inner)),
-    }
+// Returns whether the first or the last value of a loop variable is a long constant expression.
+fn has_long_range(range: RangeRef) -> bool {
+    has_many_nodes(range.from) || has_many_nodes(range.to)
 }
 
-// Returns whether a branch has a long constant expression.
-fn has_long_branch(one: &Branch) -> bool {
-    has_long_operand(&one.cond.left)
-        || has_long_operand(&one.cond.right)
-        || one
-            .body
-            .iter()
-            .any(|inner| has_long_inner_statement(false, inner))
-}
-
-// Returns whether a clause has a long constant expression.
-fn has_long_inner_clause(one: &Clause) -> bool {
-    match one {
-        Clause::When { branches } => branches.iter().any(|branch| has_long_branch(branch)),
-        Clause::For { from, to, body, .. } => {
-            if has_many_nodes(from) || has_many_nodes(to) {
-                return true;
-            }
-            for inner in body {
-                if has_long_inner_clause(inner) {
-                    return true;
-                }
-            }
-            false
-        }
-    }
+/// Returns whether a condition has a long constant expression.
+pub fn has_long_condition(cond: &Cond) -> bool {
+    has_long_operand(&cond.left) || has_long_operand(&cond.right)
 }

@@ -1,87 +1,78 @@
 //! Executes the start assignments of the initial algorithm, which set the start values of flat
 //! variables.
 
-ghost use Rattle.std.specs.Prelude.{◌≡◌, map, Ok, IfOk, IfErr, OnOk};
-ghost use Rattle.mu_unroll.specs.Prelude.{variable_limit, expression, reference, flat_variable, statement};
-ghost use Rattle.mu_unroll.specs.Environments.{HasSameNames, progress_of};
-ghost use Rattle.mu_unroll.specs.ListUnrolling.{UnrollsStarts, starts_from};
+ghost use Rattle.std.specs.Prelude.{◌≡◌, map, Ok, IfOk, IfErr};
+ghost use Rattle.std.proofs.Common.{ap};
+ghost use Rattle.mu_tree.specs.FlatExpression.{FlatVariable};
+ghost use Rattle.mu_tree.specs.ModelTree.{EachStatement};
+ghost use Rattle.mu_tree.specs.Nests.{Each, statement_item, statement_items_of};
+ghost use Rattle.mu_unroll.specs.Prelude.{variable_limit, expression, reference, flat_variable, statement, statements_of};
+ghost use Rattle.mu_unroll.specs.Environments.{progress_of};
+ghost use Rattle.mu_unroll.specs.ListUnrolling.{loop_in_rounds};
 ghost use Rattle.mu_unroll.specs.UnrollFaults.{IsFault};
-ghost use Rattle.mu_unroll.specs.Unrolling.{one_start, start_at, unrolled_start, with_start};
+ghost use Rattle.mu_unroll.specs.Unrolling.{one_start, start_at, start_once, unrolled_start, with_start};
 ghost use Rattle.mu_unroll.specs.VariablePlaces.{ArePlaced};
 ghost use Rattle.mu_unroll.specs.VariableTables.{denoted, meant_at};
 
-use crate::environment::{Environment, ResolvedReference};
+use crate::constant_folding::{fold_constant, fold_reference};
+use crate::environment::{Environment, NameDenotation, ResolvedReference};
 use crate::flatten::found;
-use crate::unroll_counts::{count_round, count_start};
+use crate::item_unrolling::{Output, Unroll};
+use crate::long_constants::has_long_start;
+use crate::unroll_counts::count_start;
 use crate::unroll_fault::UnrollErr;
-use crate::unrolled_values::{constant_value, unrolled_bound_values};
-use crate::unroller::Output;
+use crate::unrolled_values::constant_value;
+use mu_copies::Copied;
 use mu_num::Ratio;
 use mu_tree::{Expr, FlatRole, FlatVar, Ref, Statement};
-use std::alloc::Global;
+use std::alloc::{AllocError, Global};
+use std::collections::BTreeMap;
 
-/// Executes start assignments inside loops. The last assignment to a variable takes effect.
-#[cycle(unrolling_starts)]
-pub fn unroll_starts(
-    alloc: Global,
-    env: &mut Environment,
-    statements: &[Statement],
-    output: &mut Output<FlatVar>,
-) -> Result<(), UnrollErr>
-    requires placed { ArePlaced variable_limit (meant_at env.old.declared) }
-    ensures ok { IfOk result
-        (λ _. UnrollsStarts env.old statements.now output.old output.new) }
-    ensures err { IfErr result
-        (IsFault (starts_from env.old statements.now output.old)) }
-    ensures env { OnOk result (HasSameNames env.old env.new) }
-{
-    for one in statements {
-        unroll_start(alloc, env, one, output)?;
-    }
-    Ok(())
-}
+impl Unroll<FlatVar> for Statement {
+    ghost Made = { FlatVariable };
 
-// Executes a start assignment inside loops. The last assignment to a variable takes effect.
-#[cycle(unrolling_starts)]
-fn unroll_start(
-    alloc: Global,
-    env: &mut Environment,
-    one: &Statement,
-    output: &mut Output<FlatVar>,
-) -> Result<(), UnrollErr>
-    requires placed { ArePlaced variable_limit (meant_at env.old.declared) }
-    ensures ok { IfOk result
-        (λ _. unrolled_start (meant_at env.old.declared) env.old.loops.items (statement one.now)
-        (progress_of flat_variable output.old)
-        ≡ Ok (progress_of flat_variable output.new)) }
-    ensures err { IfErr result
-        (IsFault
-        (unrolled_start (meant_at env.old.declared) env.old.loops.items (statement one.now)
-        (progress_of flat_variable output.old))) }
-    ensures env { OnOk result (HasSameNames env.old env.new) }
-{
-    match one {
-        Statement::Set { target, value } => unroll_one_start(env, target, value, output),
-        Statement::Reinit { .. } => Ok(()),
-        Statement::For {
-            var,
-            at,
-            from,
-            to,
-            body,
-        } => {
-            let mut rounds = unrolled_bound_values(env, *at, from, to)?;
-            while rounds.has_next_value() {
-                output.counts = count_round(output.counts)?;
-                let value = rounds.first();
-                env.enter(alloc, var, value)?;
-                unroll_starts(alloc, env, body, output)?;
-                env.leave();
-                rounds = rounds.after_next_value();
-            }
-            Ok(())
+    ghost made = { flat_variable };
+
+    ghost unrolled = { λ x declared loops p. unrolled_start declared loops (statement x) p };
+
+    fn unroll_one(
+        &self,
+        alloc: Global,
+        env: &mut Environment,
+        output: &mut Output<FlatVar>,
+    ) -> Result<(), UnrollErr> {
+        match self {
+            Statement::Set { target, value } => unroll_one_start(env, target, value, output),
+            Statement::Reinit { .. } => Ok(()),
+            Statement::For { .. } => Ok(()),
         }
     }
+
+    fn fold_one(
+        &self,
+        alloc: Global,
+        declared: &BTreeMap<&[u8], NameDenotation>,
+    ) -> Result<Statement, AllocError> {
+        match self {
+            Statement::Set { target, value } => {
+                let target = fold_reference(alloc, declared, target)?;
+                let value = fold_constant(alloc, declared, value)?;
+                Ok(Statement::Set { target, value })
+            }
+            Statement::Reinit { .. } | Statement::For { .. } => self.copy(alloc),
+        }
+    }
+
+    fn is_long(&self, in_loop: bool) -> bool {
+        match self {
+            Statement::Set { target, value } => in_loop && has_long_start(target, value),
+            Statement::Reinit { target, value } => in_loop && has_long_start(target, value),
+            Statement::For { .. } => false,
+        }
+    }
+
+    ghost unrolls_loop = { loop_in_rounds start_once statement (λ r ts. EachStatement r (statements_of ts)) statement_item
+        (λ r ts. ap (Each r) (statement_items_of ts)) };
 }
 
 // Executes one start assignment.

@@ -13,7 +13,7 @@ use crate::environment::{Environment, NameDenotation};
 use crate::unroll_fault::UnrollErr;
 use mu_names::{combine_constant_factors, combine_constant_terms};
 use mu_num::{NumErr, Ratio, decimal};
-use mu_tree::{Expr, Factor, Ref, Term};
+use mu_tree::{Expr, Factor, RangeRef, Ref, Term};
 
 /// The remaining rounds of a loop: the values of its variable in the next and in the last round.
 #[derive(Clone, Copy, Drop)]
@@ -50,20 +50,15 @@ impl Rounds {
     }
 }
 
-/// Returns all rounds of the loop over the variable at this offset. Errors: its first fault.
-pub fn unrolled_bound_values(
-    env: &Environment,
-    at: u32,
-    from: &Expr,
-    to: &Expr,
-) -> Result<Rounds, UnrollErr>
+/// Returns all rounds of a loop. Errors: its first fault.
+pub fn unrolled_bound_values(env: &Environment, range: RangeRef) -> Result<Rounds, UnrollErr>
     ensures value { result
-        ≡ bounds_of (denoted env.now) at (expression from.now)
-        (expression to.now) }
+        ≡ bounds_of (denoted env.now) range.entry.at (expression range.entry.from.now)
+        (expression range.entry.to.now) }
     ensures near { IfOk result AreRoundsBounded }
 {
-    let next = unrolled_bound_value(env, at, from)?;
-    let last = unrolled_bound_value(env, at, to)?;
+    let next = unrolled_bound_value(env, range.at, range.from)?;
+    let last = unrolled_bound_value(env, range.at, range.to)?;
     Ok(Rounds { next, last })
 }
 

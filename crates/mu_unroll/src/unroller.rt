@@ -1,33 +1,33 @@
 //! Builds the flat model of a model: lists the scalar variables, and unrolls the loops over
 //! equations, clauses and statements.
 
-ghost use Rattle.std.specs.Prelude.{◌≡◌, [], map, Ok, IfOk, IfErr, OnOk};
+ghost use Rattle.std.specs.Prelude.{◌≡◌, List, map, Ok, IfOk, IfErr, OnOk};
+ghost use Rattle.std.proofs.Common.{ap};
+ghost use Rattle.mu_tree.specs.FlatExpression.{FlatAction, FlatBranchTree, FlatEquationTree};
+ghost use Rattle.mu_tree.specs.ModelTree.{EachClause, EachEquation, EachStatement, clauses_of, equations_of};
+ghost use Rattle.mu_tree.specs.Nests.{Each, clause_item, clause_items_of, equation_item, equation_items_of, statement_item, statement_items_of};
+ghost use Rattle.mu_unroll.specs.ListUnrolling.{loop_in_rounds};
 ghost use Rattle.mu_unroll.specs.Prelude.{variable_limit, expression, reference, flat_action, flat_branch, flat_clause, flat_equation, flat_model, flat_variable, IsFlatModel, target_role, branch, clause, equation, model, statement, statements_of, IsNumbered};
-ghost use Rattle.mu_unroll.specs.Words.{HasSameNames, progress_of, IsFault, ArePlaced, denoted, meant_at, assign_to, one_action, one_equation, restart_of, one_clause, unrolled, unrolled_branch, unrolled_branches, unrolled_clause, unrolled_equation, unrolled_statement, unrolled_statements, unrolled_with, listed, IsWellFormed, UnrollsClauses, UnrollsEquations, UnrollsStarts, clauses_from, equations_from, starts_from};
+ghost use Rattle.mu_unroll.specs.Unrolling.{clause_once, equation_once, statement_once};
+ghost use Rattle.mu_unroll.specs.Words.{HasSameNames, progress_of, IsFault, ArePlaced, denoted, meant_at, assign_to, one_action, one_equation, restart_of, one_clause, unrolled, unrolled_branch, unrolled_branches, unrolled_clause, unrolled_equation, unrolled_statement, unrolled_with, listed, IsWellFormed};
 
+use crate::constant_folding::{fold_expression, fold_reference};
 use crate::environment::{Environment, NameDenotation};
 use crate::flat_variables::{are_too_many_variables, list_denotations, list_scalar_variables};
 use crate::flatten::{flatten, flattened_number_of_kind, found};
-use crate::long_constants::{has_long_clauses, has_long_equations, has_long_starts};
-use crate::loop_folding::{fold_clauses, fold_equations, fold_starts};
-use crate::start_values::unroll_starts;
-use crate::unroll_counts::{Counts, count_expression, count_round, count_sides, zero_counts};
+use crate::item_unrolling::{Output, Unroll, unroll_all, unroll_items};
+use crate::long_constants::{has_long_condition, has_long_items, has_long_side};
+use crate::loop_folding::fold_branches;
+use crate::unroll_counts::{count_expression, count_sides, zero_counts};
 use crate::unroll_fault::UnrollErr;
-use crate::unrolled_values::unrolled_bound_values;
+use mu_copies::Copied;
 use mu_names::Scope;
 use mu_tree::{
     Branch, Clause, Equation, Expr, FlatBranch, FlatClause, FlatEquation, FlatModel, FlatRole,
     FlatStatement, FlatVar, Model, Ref, Statement,
 };
-use std::alloc::Global;
+use std::alloc::{AllocError, Global};
 use std::collections::BTreeMap;
-
-/// The items made so far, and the counts so far.
-#[derive(Drop)]
-pub struct Output<T> {
-    pub done: Vec<T>,
-    pub counts: Counts,
-}
 
 /// Returns the flat model of a model with this scope. It lists the scalar variables, and the
 /// equations, clauses and statements in source order, once for each value of their loop variables.
@@ -73,17 +73,17 @@ fn unroll_with(
         done: vars,
         counts: zero_counts(),
     };
-    unroll_all_starts(alloc, &mut env, &m.starts, &mut vars)?;
+    unroll_all::<FlatVar, Statement>(alloc, &mut env, &m.starts, &mut vars)?;
     let mut equations = Output {
         done: Vec::new(alloc),
         counts: vars.counts,
     };
-    unroll_all_equations(alloc, &mut env, &m.equations, &mut equations)?;
+    unroll_all::<FlatEquation, Equation>(alloc, &mut env, &m.equations, &mut equations)?;
     let mut clauses = Output {
         done: Vec::new(alloc),
         counts: equations.counts,
     };
-    unroll_all_clauses(alloc, &mut env, &m.clauses, &mut clauses)?;
+    unroll_all::<FlatClause, Clause>(alloc, &mut env, &m.clauses, &mut clauses)?;
     Ok(FlatModel {
         vars: vars.done,
         equations: equations.done,
@@ -91,118 +91,61 @@ fn unroll_with(
     })
 }
 
-// Executes start assignments outside loops.
-fn unroll_all_starts(
-    alloc: Global,
-    env: &mut Environment,
-    statements: &[Statement],
-    output: &mut Output<FlatVar>,
-) -> Result<(), UnrollErr>
-    requires placed { ArePlaced variable_limit (meant_at env.old.declared) }
-    requires outside { env.old.loops.items ≡ [] }
-    ensures ok { IfOk result
-        (λ _. UnrollsStarts env.old statements.now output.old output.new) }
-    ensures err { IfErr result
-        (IsFault (starts_from env.old statements.now output.old)) }
-    ensures env { OnOk result (HasSameNames env.old env.new) }
-{
-    if has_long_starts(statements) {
-        let folded = fold_starts(alloc, &env.declared, statements)?;
-        unroll_starts(alloc, env, &folded, output)
-    } else {
-        unroll_starts(alloc, env, statements, output)
-    }
-}
+impl Unroll<FlatEquation> for Equation {
+    ghost Made = { FlatEquationTree };
 
-// Appends the flat equations of equations outside loops.
-fn unroll_all_equations(
-    alloc: Global,
-    env: &mut Environment,
-    equations: &[Equation],
-    output: &mut Output<FlatEquation>,
-) -> Result<(), UnrollErr>
-    requires placed { ArePlaced variable_limit (meant_at env.old.declared) }
-    requires outside { env.old.loops.items ≡ [] }
-    ensures ok { IfOk result
-        (λ _. UnrollsEquations env.old equations.now output.old output.new) }
-    ensures err { IfErr result
-        (IsFault (equations_from env.old equations.now output.old)) }
-    ensures env { OnOk result (HasSameNames env.old env.new) }
-{
-    if has_long_equations(equations) {
-        let folded = fold_equations(alloc, &env.declared, equations)?;
-        unroll_equations(alloc, env, &folded, output)
-    } else {
-        unroll_equations(alloc, env, equations, output)
-    }
-}
+    ghost made = { flat_equation };
 
-// Appends the flat equations of equations inside loops.
-#[cycle(unrolling_equations)]
-fn unroll_equations(
-    alloc: Global,
-    env: &mut Environment,
-    equations: &[Equation],
-    output: &mut Output<FlatEquation>,
-) -> Result<(), UnrollErr>
-    requires placed { ArePlaced variable_limit (meant_at env.old.declared) }
-    ensures ok { IfOk result
-        (λ _. UnrollsEquations env.old equations.now output.old output.new) }
-    ensures err { IfErr result
-        (IsFault (equations_from env.old equations.now output.old)) }
-    ensures env { OnOk result (HasSameNames env.old env.new) }
-{
-    for one in equations {
-        unroll_equation(alloc, env, one, output)?;
-    }
-    Ok(())
-}
+    ghost unrolled = { λ x declared loops p. unrolled_equation declared loops (equation x) p };
 
-// Appends the flat equations of an equation inside loops.
-#[cycle(unrolling_equations)]
-fn unroll_equation(
-    alloc: Global,
-    env: &mut Environment,
-    one: &Equation,
-    output: &mut Output<FlatEquation>,
-) -> Result<(), UnrollErr>
-    requires placed { ArePlaced variable_limit (meant_at env.old.declared) }
-    ensures ok { IfOk result
-        (λ _. unrolled_equation (meant_at env.old.declared) env.old.loops.items (equation one.now)
-        (progress_of flat_equation output.old)
-        ≡ Ok (progress_of flat_equation output.new)) }
-    ensures err { IfErr result
-        (IsFault
-        (unrolled_equation (meant_at env.old.declared) env.old.loops.items (equation one.now)
-        (progress_of flat_equation output.old))) }
-    ensures env { OnOk result (HasSameNames env.old env.new) }
-{
-    match one {
-        Equation::Der { target, value } => {
-            unroll_one_equation(alloc, env, true, target, value, output)
-        }
-        Equation::Plain { target, value } => {
-            unroll_one_equation(alloc, env, false, target, value, output)
-        }
-        Equation::For {
-            var,
-            at,
-            from,
-            to,
-            body,
-        } => {
-            let mut rounds = unrolled_bound_values(env, *at, from, to)?;
-            while rounds.has_next_value() {
-                output.counts = count_round(output.counts)?;
-                let value = rounds.first();
-                env.enter(alloc, var, value)?;
-                unroll_equations(alloc, env, body, output)?;
-                env.leave();
-                rounds = rounds.after_next_value();
+    fn unroll_one(
+        &self,
+        alloc: Global,
+        env: &mut Environment,
+        output: &mut Output<FlatEquation>,
+    ) -> Result<(), UnrollErr> {
+        match self {
+            Equation::Der { target, value } => {
+                unroll_one_equation(alloc, env, true, target, value, output)
             }
-            Ok(())
+            Equation::Plain { target, value } => {
+                unroll_one_equation(alloc, env, false, target, value, output)
+            }
+            Equation::For { .. } => Ok(()),
         }
     }
+
+    fn fold_one(
+        &self,
+        alloc: Global,
+        declared: &BTreeMap<&[u8], NameDenotation>,
+    ) -> Result<Equation, AllocError> {
+        match self {
+            Equation::Der { target, value } => {
+                let target = fold_reference(alloc, declared, target)?;
+                let value = fold_expression(alloc, declared, value)?;
+                Ok(Equation::Der { target, value })
+            }
+            Equation::Plain { target, value } => {
+                let target = fold_reference(alloc, declared, target)?;
+                let value = fold_expression(alloc, declared, value)?;
+                Ok(Equation::Plain { target, value })
+            }
+            Equation::For { .. } => self.copy(alloc),
+        }
+    }
+
+    fn is_long(&self, in_loop: bool) -> bool {
+        match self {
+            Equation::Der { target, value } | Equation::Plain { target, value } => {
+                in_loop && has_long_side(target, value)
+            }
+            Equation::For { .. } => false,
+        }
+    }
+
+    ghost unrolls_loop = { loop_in_rounds equation_once equation (λ r ts. EachEquation r (equations_of ts)) equation_item
+        (λ r ts. ap (Each r) (equation_items_of ts)) };
 }
 
 // Appends one flat equation.
@@ -245,90 +188,48 @@ fn unrolled_target_role(der: bool) -> FlatRole
     }
 }
 
-// Appends the flat clauses of clauses outside loops.
-fn unroll_all_clauses(
-    alloc: Global,
-    env: &mut Environment,
-    clauses: &[Clause],
-    output: &mut Output<FlatClause>,
-) -> Result<(), UnrollErr>
-    requires placed { ArePlaced variable_limit (meant_at env.old.declared) }
-    requires outside { env.old.loops.items ≡ [] }
-    ensures ok { IfOk result
-        (λ _. UnrollsClauses env.old clauses.now output.old output.new) }
-    ensures err { IfErr result
-        (IsFault (clauses_from env.old clauses.now output.old)) }
-    ensures env { OnOk result (HasSameNames env.old env.new) }
-{
-    if has_long_clauses(clauses) {
-        let folded = fold_clauses(alloc, &env.declared, clauses)?;
-        unroll_clauses(alloc, env, &folded, output)
-    } else {
-        unroll_clauses(alloc, env, clauses, output)
-    }
-}
+impl Unroll<FlatClause> for Clause {
+    ghost Made = { List FlatBranchTree };
 
-// Appends the flat clauses of clauses inside loops.
-#[cycle(unrolling_clauses)]
-fn unroll_clauses(
-    alloc: Global,
-    env: &mut Environment,
-    clauses: &[Clause],
-    output: &mut Output<FlatClause>,
-) -> Result<(), UnrollErr>
-    requires placed { ArePlaced variable_limit (meant_at env.old.declared) }
-    ensures ok { IfOk result
-        (λ _. UnrollsClauses env.old clauses.now output.old output.new) }
-    ensures err { IfErr result
-        (IsFault (clauses_from env.old clauses.now output.old)) }
-    ensures env { OnOk result (HasSameNames env.old env.new) }
-{
-    for one in clauses {
-        unroll_clause(alloc, env, one, output)?;
-    }
-    Ok(())
-}
+    ghost made = { flat_clause };
 
-// Appends the flat clauses of a clause inside loops.
-#[cycle(unrolling_clauses)]
-fn unroll_clause(
-    alloc: Global,
-    env: &mut Environment,
-    one: &Clause,
-    output: &mut Output<FlatClause>,
-) -> Result<(), UnrollErr>
-    requires placed { ArePlaced variable_limit (meant_at env.old.declared) }
-    ensures ok { IfOk result
-        (λ _. unrolled_clause (meant_at env.old.declared) env.old.loops.items (clause one.now)
-        (progress_of flat_clause output.old)
-        ≡ Ok (progress_of flat_clause output.new)) }
-    ensures err { IfErr result
-        (IsFault
-        (unrolled_clause (meant_at env.old.declared) env.old.loops.items (clause one.now)
-        (progress_of flat_clause output.old))) }
-    ensures env { OnOk result (HasSameNames env.old env.new) }
-{
-    match one {
-        Clause::When { branches } => unroll_one_clause(alloc, env, branches, output),
-        Clause::For {
-            var,
-            at,
-            from,
-            to,
-            body,
-        } => {
-            let mut rounds = unrolled_bound_values(env, *at, from, to)?;
-            while rounds.has_next_value() {
-                output.counts = count_round(output.counts)?;
-                let value = rounds.first();
-                env.enter(alloc, var, value)?;
-                unroll_clauses(alloc, env, body, output)?;
-                env.leave();
-                rounds = rounds.after_next_value();
-            }
-            Ok(())
+    ghost unrolled = { λ x declared loops p. unrolled_clause declared loops (clause x) p };
+
+    fn unroll_one(
+        &self,
+        alloc: Global,
+        env: &mut Environment,
+        output: &mut Output<FlatClause>,
+    ) -> Result<(), UnrollErr> {
+        match self {
+            Clause::When { branches } => unroll_one_clause(alloc, env, branches, output),
+            Clause::For { .. } => Ok(()),
         }
     }
+
+    fn fold_one(
+        &self,
+        alloc: Global,
+        declared: &BTreeMap<&[u8], NameDenotation>,
+    ) -> Result<Clause, AllocError> {
+        match self {
+            Clause::When { branches } => {
+                let branches = fold_branches(alloc, declared, branches)?;
+                Ok(Clause::When { branches })
+            }
+            Clause::For { .. } => self.copy(alloc),
+        }
+    }
+
+    fn is_long(&self, _in_loop: bool) -> bool {
+        match self {
+            Clause::When { branches } => branches.iter().any(|branch| has_long_branch(branch)),
+            Clause::For { .. } => false,
+        }
+    }
+
+    ghost unrolls_loop = { loop_in_rounds clause_once clause (λ r ts. EachClause r (clauses_of ts)) clause_item
+        (λ r ts. ap (Each r) (clause_items_of ts)) };
 }
 
 // Appends one flat clause.
@@ -408,7 +309,7 @@ fn unroll_branch(
         done: Vec::new(alloc),
         counts: output.counts,
     };
-    unroll_statements(alloc, env, &one.body, &mut body)?;
+    unroll_items::<FlatStatement, Statement>(alloc, env, &one.body, &mut body)?;
     output.counts = body.counts;
     output.done.push(FlatBranch {
         left,
@@ -420,74 +321,66 @@ fn unroll_branch(
     Ok(())
 }
 
-// Appends the flat statements of statements inside loops.
-#[cycle(unrolling_statements)]
-fn unroll_statements(
-    alloc: Global,
-    env: &mut Environment,
-    statements: &[Statement],
-    output: &mut Output<FlatStatement>,
-) -> Result<(), UnrollErr>
-    requires placed { ArePlaced variable_limit (meant_at env.old.declared) }
-    ensures ok { IfOk result
-        (λ _. unrolled_statements (meant_at env.old.declared) env.old.loops.items
-        (statements_of (map statement statements.now))
-        (progress_of flat_action output.old)
-        ≡ Ok (progress_of flat_action output.new)) }
-    ensures err { IfErr result
-        (IsFault
-        (unrolled_statements (meant_at env.old.declared) env.old.loops.items
-        (statements_of (map statement statements.now))
-        (progress_of flat_action output.old))) }
-    ensures env { OnOk result (HasSameNames env.old env.new) }
-{
-    for one in statements {
-        unroll_statement(alloc, env, one, output)?;
-    }
-    Ok(())
+// Returns whether a branch has a long constant expression.
+fn has_long_branch(one: &Branch) -> bool {
+    has_long_condition(&one.cond) || has_long_items::<FlatStatement, Statement>(true, &one.body)
 }
 
-// Appends the flat statements of a statement inside loops.
-#[cycle(unrolling_statements)]
-fn unroll_statement(
-    alloc: Global,
-    env: &mut Environment,
-    one: &Statement,
-    output: &mut Output<FlatStatement>,
-) -> Result<(), UnrollErr>
-    requires placed { ArePlaced variable_limit (meant_at env.old.declared) }
-    ensures ok { IfOk result
-        (λ _. unrolled_statement (meant_at env.old.declared) env.old.loops.items (statement one.now)
-        (progress_of flat_action output.old)
-        ≡ Ok (progress_of flat_action output.new)) }
-    ensures err { IfErr result
-        (IsFault
-        (unrolled_statement (meant_at env.old.declared) env.old.loops.items (statement one.now)
-        (progress_of flat_action output.old))) }
-    ensures env { OnOk result (HasSameNames env.old env.new) }
-{
-    match one {
-        Statement::Set { target, value } => unroll_assignment(alloc, env, target, value, output),
-        Statement::Reinit { target, value } => unroll_restart(alloc, env, target, value, output),
-        Statement::For {
-            var,
-            at,
-            from,
-            to,
-            body,
-        } => {
-            let mut rounds = unrolled_bound_values(env, *at, from, to)?;
-            while rounds.has_next_value() {
-                output.counts = count_round(output.counts)?;
-                let value = rounds.first();
-                env.enter(alloc, var, value)?;
-                unroll_statements(alloc, env, body, output)?;
-                env.leave();
-                rounds = rounds.after_next_value();
-            }
-            Ok(())
+impl Unroll<FlatStatement> for Statement {
+    ghost Made = { FlatAction };
+
+    ghost made = { flat_action };
+
+    ghost unrolled = { λ x declared loops p. unrolled_statement declared loops (statement x) p };
+
+    fn unroll_one(
+        &self,
+        alloc: Global,
+        env: &mut Environment,
+        output: &mut Output<FlatStatement>,
+    ) -> Result<(), UnrollErr> {
+        match self {
+            Statement::Set { target, value } => unroll_assignment(
+                alloc, env, target, value, output,
+            ),
+            Statement::Reinit { target, value } => unroll_restart(
+                alloc, env, target, value, output,
+            ),
+            Statement::For { .. } => Ok(()),
         }
     }
+
+    fn fold_one(
+        &self,
+        alloc: Global,
+        declared: &BTreeMap<&[u8], NameDenotation>,
+    ) -> Result<Statement, AllocError> {
+        match self {
+            Statement::Set { target, value } => {
+                let target = fold_reference(alloc, declared, target)?;
+                let value = fold_expression(alloc, declared, value)?;
+                Ok(Statement::Set { target, value })
+            }
+            Statement::Reinit { target, value } => {
+                let target = fold_reference(alloc, declared, target)?;
+                let value = fold_expression(alloc, declared, value)?;
+                Ok(Statement::Reinit { target, value })
+            }
+            Statement::For { .. } => self.copy(alloc),
+        }
+    }
+
+    fn is_long(&self, in_loop: bool) -> bool {
+        match self {
+            Statement::Set { target, value } | Statement::Reinit { target, value } => {
+                in_loop && has_long_side(target, value)
+            }
+            Statement::For { .. } => false,
+        }
+    }
+
+    ghost unrolls_loop = { loop_in_rounds statement_once statement (λ r ts. EachStatement r (statements_of ts)) statement_item
+        (λ r ts. ap (Each r) (statement_items_of ts)) };
 }
 
 // Appends one flat assignment.
