@@ -31,6 +31,8 @@ CONTROL = re.compile(r"\b(?:if|else|match|for|while|loop)\b")
 LOOP = re.compile(r"\b(?:for\b[^;{}]*\bin|while|loop)\b")
 PUBLIC = re.compile(r"^pub mod (\w+)", re.MULTILINE)
 CITED = re.compile(r"\bRattle\.(\w+)\.proofs\.(\w+)")
+# An import of a file of proofs, with all its lines.
+IMPORT = re.compile(r"^(?:unfoldable )?(?:pub )?use [^{\n]*(?:\{[^}]*\})?[^\n]*$", re.MULTILINE)
 
 Place = Tuple[int, str]
 
@@ -181,6 +183,16 @@ def file_measures(sources: Sources) -> List[Measure]:
     ]
 
 
+def proof_measures(sources: Sources) -> List[Measure]:
+    """The measures of all proofs together: their lines, and the lines of their imports."""
+    texts = [text for _, text in sources.of_files([sources.proofs])]
+    imports = [it.group().count("\n") + 1 for text in texts for it in IMPORT.finditer(text)]
+    return [
+        Measure("lines of proofs", 88000, [(sum(text.count("\n") for text in texts), "crates/*/proofs")]),
+        Measure("import lines of proofs", 12000, [(sum(imports), "crates/*/proofs")]),
+    ]
+
+
 def name_measures(sources: Sources) -> List[Measure]:
     """The measures of names, imports of definitions and literal limits."""
     code = sources.of_files([sources.code])
@@ -245,6 +257,7 @@ def measures(sources: Sources) -> List[Measure]:
         *file_measures(sources),
         *name_measures(sources),
         *body_measures(sources),
+        *proof_measures(sources),
     ]
 
 

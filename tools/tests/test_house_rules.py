@@ -92,6 +92,7 @@ class Measures(InFolder):
             "crates/qss_top/proofs/Lib.antt": "pub mod Cited\npub mod Alone\nmod Own\n",
             "crates/other/src/lib.rt": "// One.\nfn one() {}\n",
             "crates/other/proofs/Lib.antt": "use Rattle.qss_top.proofs.Cited.{a}\n" + "-- " + 98 * "x" + "\n",
+            "crates/other/proofs/Common.antt": "-- use no.\npub use std.{\n  a,\n}\nunfoldable pub use std.{b}\nmod A\n",
         }.items():
             os.makedirs(os.path.dirname(os.path.join(self.folder, path)), exist_ok=True)
             self.file(path, text)
@@ -107,6 +108,10 @@ class Measures(InFolder):
         self.assertEqual(self.past("columns of a line of proofs/"), ["crates/other/proofs/Lib.antt:2"])
         self.assertEqual(self.past("blocks inside each other"), ["crates/qss_top/src/lib.rt:5 sum"])
         self.assertEqual(self.past("functions without a comment"), ["crates/qss_top/src/lib.rt:30 side"])
+
+    def test_numbers_of_all_proofs(self):
+        self.assertEqual(self.found["lines of proofs"].greatest(), (11, "crates/*/proofs"))
+        self.assertEqual(self.found["import lines of proofs"].greatest(), (5, "crates/*/proofs"))
 
     def test_a_number_above_its_limit_is_status_1(self):
         status, out, err = run("house-rules", "--root", self.folder)

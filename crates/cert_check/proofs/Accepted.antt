@@ -1,17 +1,12 @@
 -- What it says of a certificate that these inequalities have no fault.
-use Rattle.std.proofs.Common.{◌≡◌, ℕ, ◌<◌, ◌≤◌, ◌⊎◌, inl, inr, List, [], ◌∷◌, None, ℤ, pos, ◌-ℤ◌, ◌*ℤ◌, ◌≤ℤ◌, Bool, true, false, if◌then◌else◌, refl, sym, subst, arith}
-use Rattle.std.proofs.lemmas.Bool.{cases_lt, false≢true}
-use Rattle.std.proofs.lemmas.Bool.Decides.{Decides-int_eq}
-use Rattle.std.proofs.lemmas.Int.{ints}
-use Rattle.std.specs.Ordering.{int_eq}
-use Rattle.cert_check.specs.declared.inequality_sides.Inequality.{Inequality}
-use Rattle.cert_check.specs.Inequalities.{System, CertificateData, Holds, scaled_offset, level_range}
-use Rattle.cert_check.specs.InequalityTable.{IsFaultOf, IsFirstFaultOf, inequalities, is_same_below}
-use Rattle.cert_check.specs.Pairs.{pairs, pair_of}
+use Rattle.cert_check.proofs.Common
+use Common.{[], ℕ, ℤ, ◌*ℤ◌, ◌-ℤ◌, ◌<◌, ◌∷◌, ◌≡◌, ◌≤ℤ◌, ◌≤◌, ◌⊎◌, arith, Bool, cases_lt}
+use Common.{CertificateData, Decides-int_eq, false, false≢true, form, Holds, if◌then◌else◌}
+use Common.{inequalities, Inequality, inl, inr, int_eq, ints, is_same_below, IsFaultOf}
+use Common.{IsFirstFaultOf, IsSymmetric, level_range, List, mul-≥, None, pair_of, pairs, pos, refl}
+use Common.{scaled_offset, square-≥, subst, sym, System, Table, true, Vector}
 use Rattle.cert_check.proofs.Pairs.{pair-found}
 use Rattle.cert_check.proofs.Gaps.{form-same, form-zeros, same-below, gap-one}
-use Rattle.cert_matrix.specs.Form.{Vector, Table, form, IsSymmetric}
-use Rattle.cert_matrix.proofs.Order.{mul-≥, square-≥}
 
 -- each of the inequalities has no fault
 abbrev pub AllFine : System → CertificateData → List Inequality → Type 0

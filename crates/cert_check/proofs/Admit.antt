@@ -1,33 +1,25 @@
 -- A machine's own runs keep their levels as the certificates' theorem asks.
-use Rattle.std.proofs.Common.{◌≡◌, ℕ, zero, suc, ◌+◌, ◌-◌, ◌*◌, ◌/◌, ◌%◌, ◌<◌, ◌≤◌, ◌⊎◌, inl, inr, Bool, true, false, List, [], ◌∷◌, map, length, ℤ, pos, ◌+ℤ◌, ◌-ℤ◌, ◌*ℤ◌, ◌≤ℤ◌, ◌<ℤ◌, refl, sym, ap, ◌∙◌, arith, add-one}
-use Rattle.std.proofs.lemmas.Int.{ints, clamps}
-use Rattle.std.proofs.lemmas.List.{get_or-map, length-map}
-use Rattle.std.proofs.lemmas.List.FromFn.{get_or-map-range_with_len}
-use Rattle.std.proofs.Math.Nat.{mod-add-div'}
+use Rattle.cert_check.proofs.Common
+use Common.{[], ℕ, ℤ, ◌*ℤ◌, ◌*◌, ◌+◌, ◌-ℤ◌, ◌/◌, ◌<ℤ◌, ◌<◌, ◌∙◌, ◌∷◌, ◌≡◌, ◌≤ℤ◌, ◌≤◌, ◌⊎◌, abs_of}
+use Common.{add-one, ap, arith, Bool, Certificate, certificate_data, entry_at, false}
+use Common.{get_or as slice_index_or, get_or-map, get_or-map-range_with_len, Holds, inl, inr}
+use Common.{int_at, ints, IsLegitimate, length, length-map, level_unit, List, Machine, mod-add-div'}
+use Common.{one-mul, pos, quanta, quanta_positive, refl, start_drives, start_states, state_count}
+use Common.{StateInfo, suc, system_of, tabulate, true, unit_positive, vector, zero}
+use Rattle.std.proofs.lemmas.Int.{clamps}
 use Rattle.std.proofs.Math.IntN.{pos-*ℤ-pos}
 use Rattle.std.specs.Int.RustNames.{unsigned_abs, int_lt}
 use Rattle.std.specs.Int.{int_max}
-use Rattle.std.specs.Prelude.{Ok, slice_index_or}
 use Rattle.mu_num.proofs.Tests.{int_lt-true}
 use Rattle.mu_num.proofs.Quotients.{floor_meets}
 use Rattle.mu_num.specs.Rounding.{floor_of}
-use Rattle.qss_machine.specs.declared.machine_parts.StateInfo.{StateInfo}
-use Rattle.qss_machine.specs.declared.compiled_machine.Machine.{Machine}
-use Rattle.mu_num.specs.IndexedSums.{int_at, tabulate, abs_of}
-use Rattle.mu_num.specs.Levels.{level_below, IsWithinOneLevel}
-use Rattle.qss_machine.specs.Machines.{state_count, level_unit, quanta, quantum_of, start_states}
-use Rattle.qss_machine.specs.Legitimate.{IsLegitimate, entry_at}
-use Rattle.qss_machine.specs.Ticks.{Snapshot, start_snapshot, is_within_quantum, IsFreeLevel}
+use Rattle.mu_num.specs.Levels.{level_below}
+use Rattle.qss_machine.specs.Machines.{quantum_of}
+use Rattle.qss_machine.specs.Ticks.{Snapshot, start_snapshot, IsFreeLevel}
 use Rattle.qss_machine.specs.Runs.{IsFreeExecution}
 use Rattle.qss_machine.specs.RunLaws.{AreQuantaUpTo, states_from, levels_from}
-use Rattle.qss_machine.proofs.Near.{unit_positive, quanta_positive, step_facts}
+use Rattle.qss_machine.proofs.Near.{step_facts}
 use Rattle.qss_machine.proofs.Admitted.{runs_are_legitimate}
-use Rattle.cert_matrix.specs.Matrix.{vector}
-use Rattle.mu_num.proofs.Integers.{one-mul}
-use Rattle.cert_check.specs.declared.certificate.Certificate.{Certificate}
-use Rattle.cert_check.specs.Inequalities.{Holds}
-use Rattle.cert_check.specs.CertificateData.{certificate_data}
-use Rattle.cert_check.specs.Systems.{system_of, start_drives}
 use Rattle.cert_check.specs.Bounds.{CoversOwnRuns}
 use Rattle.cert_check.proofs.Run.{IsCertifiedStart, IsQuantumAt, KeepsLevels}
 use Rattle.cert_check.proofs.Join.{run_of, slope-same}

@@ -1,14 +1,10 @@
 -- The lines of a certificate that is made of its rows.
-use Rattle.std.proofs.Common.{◌≡◌, ℕ, zero, suc, ◌+◌, ◌-◌, ◌*◌, ◌<◌, ◌≤◌, List, [], ◌∷◌, ◌++◌, length, map, take, drop, get_or, replicate, codes, ℤ, pos, negsuc, FitsSigned, to_z, of_z, to_z-of_z, refl, sym, ap, ap₂, subst, ◌∙◌, arith}
-use Rattle.std.proofs.lemmas.List.{drop_more, ext_get_or}
-use Rattle.std.proofs.lemmas.Int.{ints}
-use Rattle.std.specs.Int.{w128}
-use Rattle.std.specs.Prelude.{All}
-use Rattle.cert_matrix.specs.Matrix.{vector, table, IsSquare}
-use Rattle.cert_check.specs.CertificateLimits.{IsNumber}
-use Rattle.cert_check.specs.CertificateLines.{Line, line, row_lines}
-use Rattle.cert_check.specs.Layout.{Expected, expected, layout}
-use Rattle.cert_check.specs.MatrixRows.{lines_from}
+use Rattle.cert_check.proofs.Common
+use Common.{[], ℕ, ℤ, ◌*◌, ◌++◌, ◌+◌, ◌<◌, ◌∙◌, ◌∷◌, ◌≡◌, ◌≤◌, All, ap, arith, codes, drop}
+use Common.{drop_more, Expected, expected, FitsSigned, get_or, ints, IsNumber, IsSquare, layout}
+use Common.{length, Line, line, lines_from, List, negsuc, of_z, pos, refl, replicate, row_lines}
+use Common.{suc, sym, table, take, to_z, to_z-of_z, vector, w128, zero}
+use Rattle.std.proofs.lemmas.List.{ext_get_or}
 use Rattle.cert_check.proofs.FieldPlaces.{after_p, after_g1, after_g2}
 
 -- two matrices with the same entries

@@ -1,16 +1,14 @@
 -- Every state of a legitimate run is in the invariant set, and its slopes are bounded.
-use Rattle.std.proofs.Common.{◌≡◌, ℕ, zero, suc, ◌<◌, ◌≤◌, inl, inr, ℤ, pos, ◌+ℤ◌, ◌-ℤ◌, ◌*ℤ◌, neg_ℤ, ◌≤ℤ◌, ◌<ℤ◌, refl, ap, ap₂, ◌∙◌, arith}
+use Rattle.cert_check.proofs.Common
+use Common.{ℕ, ℤ, ◌*ℤ◌, ◌+ℤ◌, ◌-ℤ◌, ◌<ℤ◌, ◌<◌, ◌∙◌, ◌≡◌, ◌≤ℤ◌, ◌≤◌, abs_of, ap, ap₂, arith}
+use Common.{centre_disturbance, centre_slope, CertificateData, expand, form, form-same, form-times}
+use Common.{Holds, inl, inr, ints, level_error, mul-add, mul-cancel, mul-mono, mul-≥, neg_ℤ, pos}
+use Common.{product, refl, size-cancel, size-same, size-scale, slope_limit, square-≥, step, suc}
+use Common.{sum_below, System, times, times-add, times-neg, times-same, times-scale, times-times}
+use Common.{Vector, weighted-size, zero}
 use Rattle.std.proofs.Math.IntN.{+ℤ_assoc}
-use Rattle.std.proofs.lemmas.Int.{ints}
-use Rattle.mu_num.specs.IndexedSums.{sum_below, abs_of}
-use Rattle.cert_matrix.specs.Form.{Vector, times, product, form}
-use Rattle.mu_num.proofs.Integers.{mul-add, mul_assoc}
-use Rattle.cert_matrix.proofs.Ring.{expand}
-use Rattle.cert_matrix.proofs.Order.{square-≥, mul-≥, mul-mono, mul-cancel}
-use Rattle.cert_matrix.proofs.Bilinear.{form-same, form-times, times-add, times-neg, times-scale, times-same, times-times}
-use Rattle.cert_matrix.proofs.Sizes.{size-scale, size-same, size-shrink, weighted-size, root-≤, size-cancel}
-use Rattle.cert_matrix.proofs.Step.{step}
-use Rattle.cert_check.specs.Inequalities.{System, CertificateData, Holds, level_error, centre_slope, slope_limit, centre_disturbance}
+use Rattle.mu_num.proofs.Integers.{mul_assoc}
+use Rattle.cert_matrix.proofs.Sizes.{size-shrink, root-≤}
 use Rattle.cert_check.proofs.Run.{Run, IsLegitimate, IsInBasin, IsCertifiedStart}
 use Rattle.cert_check.proofs.Forms.{pm-≥, one-≤, form-decays}
 

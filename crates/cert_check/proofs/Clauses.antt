@@ -1,10 +1,9 @@
 -- A machine has at most as many clauses as conditions and statements.
-use Rattle.std.proofs.Common.{◌≡◌, ℕ, zero, suc, ◌+◌, ◌<◌, ◌≤◌, List, [], ◌∷◌, length, get_or, arith}
+use Rattle.cert_check.proofs.Common.{[], ℕ, ◌+◌, ◌∷◌, ◌≤◌, All, arith, length, List, Machine, suc}
 use Rattle.std.proofs.lemmas.List.Sums.{sum_by-cons}
-use Rattle.std.specs.Prelude.{All, sum_by}
+use Rattle.std.specs.Prelude.{sum_by}
 use Rattle.qss_machine.specs.declared.machine_parts.BranchInfo.{BranchInfo}
 use Rattle.qss_machine.specs.declared.machine_parts.ClauseInfo.{ClauseInfo}
-use Rattle.qss_machine.specs.declared.compiled_machine.Machine.{Machine}
 use Rattle.qss_machine.specs.MachineLimits.{IsClause, item_count}
 
 branches-few : (branches : List BranchInfo) → length branches ≤ sum_by (λ (branch : BranchInfo). 1 + length branch.actions) branches

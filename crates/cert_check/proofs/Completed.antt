@@ -1,21 +1,12 @@
 -- The rows of a text, with those that its form leaves out, and what the text then is.
-use Rattle.std.proofs.Common.{◌≡◌, ℕ, zero, suc, ◌+◌, ◌-◌, ◌*◌, ◌<◌, ◌≤◌, ◌⊎◌, ◌≢◌, inl, inr, List, [], ◌∷◌, ◌++◌, length, map, take, drop, get_or, codes, ℤ, pos, Option, Some, None, refl, sym, ap, ap₂, subst, ◌∙◌, arith}
-use Rattle.std.proofs.lemmas.Bool.{cases_lt}
-use Rattle.std.proofs.lemmas.Int.{ints}
-use Rattle.std.proofs.lemmas.List.{length-append, length-map, get_or-map, get_or_append_left, get_or-append_right, append-nil}
-use Rattle.std.specs.Prelude.{All, unsigned_abs}
-use Rattle.std.specs.List.{AllZip}
-use Rattle.qss_machine.specs.declared.machine_parts.StateInfo.{StateInfo}
-use Rattle.qss_machine.specs.declared.compiled_machine.Machine.{Machine}
-use Rattle.qss_machine.specs.Machines.{state_count, start_states, quanta}
-use Rattle.cert_matrix.specs.Matrix.{vector}
-use Rattle.cert_check.specs.declared.certificate.Certificate.{Certificate}
-use Rattle.cert_check.specs.CertificateLimits.{IsNumber, IsVector}
-use Rattle.cert_check.specs.FieldNumbers.{number_in}
-use Rattle.cert_check.specs.CertificateLines.{Line, line, lines, line_count, ParsesAs}
-use Rattle.cert_check.specs.Layout.{Expected, expected, layout, first_number}
-use Rattle.cert_check.specs.MatrixRows.{due_at, IsReadAs, AreReadAs, AreAllRows, lines_from, left_out}
-use Rattle.cert_check.specs.CertificateTexts.{IsCutInto, AreInForm, AreRecordsOf, IsTextOf}
+use Rattle.cert_check.proofs.Common
+use Common.{[], ℕ, ℤ, ◌*◌, ◌++◌, ◌+◌, ◌-◌, ◌<◌, ◌∙◌, ◌∷◌, ◌≡◌, ◌≤◌, ◌⊎◌, All, AllZip, ap}
+use Common.{AreAllRows, AreInForm, AreReadAs, AreRecordsOf, arith, cases_lt, Certificate, drop}
+use Common.{due_at, Expected, first_number, get_or, get_or-append_right, get_or-map}
+use Common.{get_or_append_left, inl, inr, ints, IsReadAs, IsVector, layout, left_out, length}
+use Common.{length-append, length-map, Line, line_count, lines, lines_from, List, Machine, ParsesAs}
+use Common.{pos, quanta, refl, start_states, state_count, StateInfo, subst, suc, sym, take, vector}
+use Common.{zero}
 use Rattle.cert_check.proofs.FieldPlaces.{none, due-after-g2, length-layout}
 use Rattle.cert_check.proofs.Spelt.{one-number}
 

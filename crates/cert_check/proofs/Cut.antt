@@ -1,15 +1,14 @@
 -- How many fields the records of a text have.
-use Rattle.std.proofs.Common.{◌≡◌, ℕ, zero, suc, ◌+◌, ◌<◌, ◌≤◌, ◌^◌, Bool, true, false, List, [], ◌∷◌, ◌++◌, length, map, get_or, Option, Some, None, refl, sym, ap, subst, ◌∙◌, arith}
-use Rattle.std.proofs.lemmas.List.{length-append}
-use Rattle.std.specs.Prelude.{All, if◌then◌else◌}
-use Rattle.csv.specs.Machine.{Read, next_record, step, is_end, fields_after, field_after, ends_at_end}
-use Rattle.csv.specs.Reading.{Reached, AreRecords, default_config, strip_bom, is_bom}
-use Rattle.csv.specs.declared.parser.Config.{Config}
-use Rattle.csv.specs.declared.parser.State.{State}
-use Rattle.csv.specs.declared.parser.State.TheVariants as st
+use Rattle.cert_check.proofs.Common
+use Common.{[], ℕ, ◌++◌, ◌+◌, ◌<◌, ◌^◌, ◌∷◌, ◌≡◌, ◌≤◌, All, ap, arith, Bool, Config, default_config}
+use Common.{ends_at_end, false, field_after, fields_after, if◌then◌else◌, is_end, IsCutInto, length}
+use Common.{length-append, List, next_record, None, Reached, Read, Some, State, strip_bom, suc}
+use Common.{true, zero}
+use Rattle.csv.specs.Machine.{step}
+use Rattle.csv.specs.Reading.{is_bom}
 use Rattle.csv.specs.declared.parser.Action.{Action}
+use Rattle.csv.specs.declared.parser.State.TheVariants as st
 use Rattle.csv.specs.declared.parser.Action.TheVariants as act
-use Rattle.cert_check.specs.CertificateTexts.{IsCutInto}
 
 -- a byte adds at most one field
 fields-more : (a : Action) (fields : List (List ℕ)) (field : List ℕ) → length (fields_after a fields field) ≤ length fields + 1

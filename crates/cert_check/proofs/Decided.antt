@@ -1,18 +1,23 @@
 -- Whether the sums of a place are in range is decided.
-use Rattle.std.proofs.Common.{◌≡◌, ℕ, zero, suc, ◌+◌, ◌*◌, ◌^◌, ◌<◌, ◌≤◌, Bool, true, false, ◌⊎◌, inl, inr, ℤ, pos, ◌*ℤ◌, ◌≤ℤ◌, refl, sym, arith}
-use Rattle.std.specs.Prelude.{unsigned_abs, int_lt}
-use Rattle.std.specs.Ordering.{int_eq}
-use Rattle.std.proofs.lemmas.Bool.{cases_lt}
-use Rattle.std.proofs.lemmas.Bool.Decides.{Decides-int_eq}
+use Rattle.cert_check.proofs.Common
+use Common.{ℕ, ℤ, ◌*ℤ◌, ◌*◌, ◌+◌, ◌<◌, ◌^◌, ◌≡◌, ◌≤ℤ◌, ◌≤◌, ◌⊎◌, arith, Bool, Bound, BoundParts}
+use Common.{cases_lt, centre_disturbance, centre_slope, CentreGain, CentreSum, CertificateData}
+use Common.{Decay, DecayParts, DecayProducts, Decides-int_eq, Distance, false, FirstStart}
+use Common.{Inequality, inl, inr, int_eq, int_lt, is_same_below, IsFormInRange, IsPartInRange}
+use Common.{IsPlaceInRange, IsRowInRange, level_error, level_range, matrix_of, pair_disturbance}
+use Common.{PairGain, PairSum, pos, product, Quantum, Reach, refl, scaled_offset, SecondStart}
+use Common.{Share, SignC, SignE, SignH1, SignH2, SignLambda, SignMu, SignP, SignR, SignS}
+use Common.{SignSigmaC, SignSigmaR, SignZ, Slope, StartsApart, suc, sym, Symmetric, System, Table}
+use Common.{times, true, unsigned_abs, Vector, weight, zero}
 use Rattle.mu_num.proofs.Tests.{int_lt-false, int_lt-no}
-use Rattle.cert_matrix.specs.Matrix.{weight, IsInRange, IsFormInRange}
-use Rattle.cert_matrix.specs.Form.{Vector, Table, times, product}
-use Rattle.cert_matrix.specs.Gram.{IsRowInRange}
-use Rattle.cert_check.specs.Inequalities.{System, CertificateData, scaled_offset, level_error, weighted_level_error, centre_slope, centre_disturbance, pair_disturbance, level_range}
-use Rattle.cert_check.specs.Ranges.{IsProductInRange, IsSquareInRange, IsSumBoundInRange, IsSlopeInRange, IsWeightedRestInRange, IsWidthSumInRange, IsCentreGainInRange, IsPairGainInRange, IsSlopeSidesInRange, IsCentreSidesInRange, IsPairSidesInRange, IsShareInRange, IsDecayPartInRange, IsPartInRange, ArePartsInRange, IsStageInRange, IsGapInRange, matrix_of, factor_of, root_of}
-use Rattle.cert_check.specs.InequalityTable.{IsPlaceInRange, is_same_below}
-use Rattle.cert_check.specs.declared.inequality_sides.Inequality.{Inequality}
-use Rattle.cert_check.specs.declared.inequality_sides.Inequality.TheVariants.{SignP, SignMu, SignLambda, SignH1, SignH2, SignR, SignZ, SignS, SignSigmaR, SignC, SignSigmaC, SignE, Symmetric, BoundParts, Bound, DecayProducts, DecayParts, Decay, FirstStart, SecondStart, StartsApart, Reach, Slope, CentreGain, CentreSum, PairGain, PairSum, Distance, Quantum, Share}
+use Rattle.cert_matrix.specs.Matrix.{IsInRange}
+use Rattle.cert_check.specs.Inequalities.{weighted_level_error}
+use Rattle.cert_check.specs.Ranges.{IsProductInRange, IsSquareInRange, IsSumBoundInRange}
+use Rattle.cert_check.specs.Ranges.{IsSlopeInRange, IsWeightedRestInRange, IsWidthSumInRange}
+use Rattle.cert_check.specs.Ranges.{IsCentreGainInRange, IsPairGainInRange, IsSlopeSidesInRange}
+use Rattle.cert_check.specs.Ranges.{IsCentreSidesInRange, IsPairSidesInRange, IsShareInRange}
+use Rattle.cert_check.specs.Ranges.{IsDecayPartInRange, ArePartsInRange, IsStageInRange}
+use Rattle.cert_check.specs.Ranges.{IsGapInRange, factor_of, root_of}
 use Rattle.cert_check.specs.declared.inequality_sides.Stage.{Stage}
 use Rattle.cert_check.specs.declared.inequality_sides.Stage.TheVariants.{Bounded, Decaying}
 

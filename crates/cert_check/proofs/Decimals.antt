@@ -1,15 +1,11 @@
 -- A number's text parses as it.
-use Rattle.std.proofs.Common.{◌≡◌, ◌≢◌, ℕ, zero, suc, ◌+◌, ◌<◌, ◌≤◌, ◌^◌, Bool, true, false, List, [], ◌∷◌, length, map, get_or, drop, ℤ, pos, negsuc, neg_ℤ, Option, Some, None, le-leb, refl, sym, ap, ap₂, ◌∙◌, arith}
-use Rattle.std.specs.Prelude.{All, unsigned_abs, decimal, ◌==◌}
-use Rattle.std.specs.Fmt.{signed_decimal}
-use Rattle.std.specs.Str.{all_ascii_digits}
-use Rattle.std.specs.Str.Parse.{IsNumeral, AllDigits, digits_value, starts_with_minus}
-use Rattle.std.proofs.lemmas.Bool.{ne_eqb}
+use Rattle.cert_check.proofs.Common
+use Common.{[], ℕ, ℤ, ◌<◌, ◌^◌, ◌∷◌, ◌≡◌, ◌≤◌, All, all_ascii_digits, ap₂, arith, digit_at}
+use Common.{digits_value, false, get_or, ints, IsNumber, le-leb, length, List, magnitude_in, map}
+use Common.{ne_eqb, negsuc, number_in, numerals_by_value, Option, pos, refl, signed_decimal, Some}
+use Common.{starts_with_minus, suc, tells_all_ascii_digits, true}
+use Rattle.std.specs.Prelude.{decimal}
 use Rattle.std.proofs.lemmas.Fmt.{decimal_is_IsNumeral_wide, length-decimal-le_wide}
-use Rattle.std.proofs.lemmas.Int.{ints}
-use Rattle.std.proofs.lemmas.Str.Parse.{numerals_by_value, tells_all_ascii_digits, digit_at}
-use Rattle.cert_check.specs.CertificateLimits.{IsNumber}
-use Rattle.cert_check.specs.FieldNumbers.{magnitude_in, number_in}
 
 magnitude-decimal : (n : ℕ) → n ≤ 2 ^ 126 → magnitude_in (decimal n) ≡ Some n
 magnitude-decimal n h =

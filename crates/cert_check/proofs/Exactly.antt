@@ -1,23 +1,20 @@
 -- A certificate is accepted exactly where its inequalities hold and its sums are in range.
-use Rattle.std.proofs.Common.{◌≡◌, ℕ, ◌+◌, ◌<◌, ◌≤◌, ◌⊎◌, inl, inr, List, [], ◌∷◌, Option, Some, None, ℤ, pos, ◌-ℤ◌, ◌*ℤ◌, ◌≤ℤ◌, Bool, true, false, if◌then◌else◌, refl, sym, subst, arith}
-use Rattle.std.proofs.lemmas.Int.{ints}
-use Rattle.std.specs.Ordering.{int_eq}
-use Rattle.cert_check.specs.declared.inequality_checker.Fault.{Fault}
-use Rattle.cert_check.specs.declared.inequality_checker.Fault.TheVariants.{Rejected, Range}
-use Rattle.cert_check.specs.declared.inequality_checker.Relation.{Relation}
-use Rattle.cert_check.specs.declared.inequality_checker.Relation.TheVariants.{AtLeast}
-use Rattle.cert_check.specs.declared.inequality_checker.Verdict.{Verdict}
-use Rattle.cert_check.specs.declared.inequality_checker.Verdict.TheVariants.{Accepted, Rejected as VRejected, Range as VRange}
-use Rattle.cert_check.specs.declared.inequality_sides.Inequality.{Inequality}
-use Rattle.cert_check.specs.declared.inequality_sides.Inequality.TheVariants.{SignP, SignMu, SignLambda, SignH1, SignH2, SignR, SignZ, SignS, SignSigmaR, SignC, SignSigmaC, SignE, Symmetric, BoundParts, Bound, DecayProducts, DecayParts, Decay, FirstStart, SecondStart, StartsApart, Reach, Slope, CentreGain, CentreSum, PairGain, PairSum, Distance, Quantum, Share}
-use Rattle.cert_check.specs.Inequalities.{System, CertificateData, Holds, scaled_offset, level_range}
-use Rattle.cert_check.specs.FirstFailures.{IsMet, AllPass, IsFirstFault}
-use Rattle.cert_check.specs.InequalityTable.{IsFaultOf, IsFirstFaultOf, AreSumsInRange, inequalities, fault_of, is_same_below, number_of, start_of, places_of, relation_of, left_of, right_of, IsPlaceInRange}
-use Rattle.cert_check.specs.Pairs.{pairs, pair_of}
-use Rattle.cert_check.proofs.Accepted.{AllFine, all-fine}
+use Rattle.cert_check.proofs.Common
+use Common.{[], ℕ, ℤ, ◌*ℤ◌, ◌-ℤ◌, ◌<◌, ◌∷◌, ◌≡◌, ◌≤ℤ◌, Accepted, arith, Bool, Bound, BoundParts}
+use Common.{CentreGain, CentreSum, CertificateData, Decay, DecayParts, DecayProducts, Distance}
+use Common.{false, Fault, fault_of, FirstStart, form, Holds, if◌then◌else◌, inequalities}
+use Common.{Inequality, inl, inr, int_eq, ints, is_same_below, IsFaultOf, IsFirstFaultOf, IsMet}
+use Common.{IsPlaceInRange, left_of, level_range, List, None, pair_of, PairGain, PairSum, places_of}
+use Common.{pos, Quantum, Range, Reach, refl, Rejected, relation_of, right_of, scaled_offset}
+use Common.{SecondStart, Share, SignC, SignE, SignH1, SignH2, SignLambda, SignMu, SignP, SignR}
+use Common.{SignS, SignSigmaC, SignSigmaR, SignZ, Slope, Some, StartsApart, subst, sym, Symmetric}
+use Common.{System, Table, true, Vector, Verdict}
+use Rattle.cert_check.specs.declared.inequality_checker.Verdict.TheVariants.{Rejected as VRejected}
+use Rattle.cert_check.specs.declared.inequality_checker.Verdict.TheVariants.{Range as VRange}
+use Rattle.cert_check.specs.InequalityTable.{AreSumsInRange}
+use Rattle.cert_check.proofs.Accepted.{all-fine}
 use Rattle.cert_check.proofs.Gaps.{form-same, gap-one}
 use Rattle.cert_check.proofs.Pairs.{pair-inside}
-use Rattle.cert_matrix.specs.Form.{Vector, Table, form}
 
 -- where no inequality has a fault, all sums are in range
 pub accepted-ranges : (m : System) (x : CertificateData) → IsFirstFaultOf m x inequalities None → AreSumsInRange m x

@@ -1,24 +1,17 @@
 -- Records without a fault are read as rows of numbers.
-use Rattle.std.proofs.Common.{◌≡◌, ℕ, zero, suc, ◌+◌, ◌^◌, ◌<◌, ◌≤◌, ◌==◌, Bool, true, false, List, [], ◌∷◌, length, map, take, drop, get_or, codes, ℤ, pos, neg_ℤ, Option, Some, None, refl, sym, ap, ap₂, subst, ◌∙◌, arith, nat_le}
-use Rattle.std.specs.Prelude.{All, bytes_eq, if◌then◌else◌, ◌&&◌, not}
-use Rattle.std.specs.List.{position_from}
-use Rattle.std.specs.Option.{option_map, option_or}
-use Rattle.std.specs.Ordering.{int_eq}
-use Rattle.std.specs.Str.{all_ascii_digits}
-use Rattle.std.specs.Str.Parse.{digits_value, starts_with_minus}
+use Rattle.cert_check.proofs.Common
+use Common.{[], ℕ, ℤ, ◌&&◌, ◌+◌, ◌<◌, ◌==◌, ◌^◌, ◌∙◌, ◌∷◌, ◌≡◌, ◌≤◌, All, all_ascii_digits, ap, ap₂}
+use Common.{AreReadAs, arith, Bool, bytes_eq, bytes_eq-Decides, codes, Decides-int_eq, digits_value}
+use Common.{drop, Expected, expected, false, fault_in_form, first_fault, first_number, form_in}
+use Common.{get_or, get_or-take, if◌then◌else◌, int_eq, ints, is_no_number, IsNumber, IsReadAs}
+use Common.{Keyword, keyword_of, layout, length, length-map, line_count, List, magnitude_in, map}
+use Common.{nat_le, neg_ℤ, None, Number, number_in, Option, option_map, option_or, pos}
+use Common.{position_from, record_fault, refl, Some, starts_with_minus, subst, suc, sym, take}
+use Common.{text_fault, TextErr, true, zero}
+use Rattle.std.specs.Prelude.{not}
 use Rattle.std.proofs.lemmas.Bool.{eqb-true}
-use Rattle.std.proofs.lemmas.Bool.Decides.{Decides-int_eq}
-use Rattle.std.proofs.lemmas.Int.{ints}
-use Rattle.std.proofs.lemmas.List.{length-map, get_or-take}
 use Rattle.std.proofs.lemmas.List.Elements.{All-nil, All-cons}
-use Rattle.std.proofs.lemmas.Slice.Eq.{bytes_eq-Decides}
-use Rattle.cert_check.specs.CertificateLimits.{IsNumber}
-use Rattle.cert_check.specs.declared.text_err.TextErr.{TextErr}
-use Rattle.cert_check.specs.declared.text_err.TextErr.TheVariants.{Keyword, Shape, Number}
-use Rattle.cert_check.specs.FieldNumbers.{number_in, magnitude_in}
-use Rattle.cert_check.specs.CertificateLines.{line_count}
-use Rattle.cert_check.specs.Layout.{Expected, expected, layout, keyword_of, is_no_number, record_fault, first_fault, first_number, form_in, fault_in_form, text_fault}
-use Rattle.cert_check.specs.MatrixRows.{IsReadAs, AreReadAs}
+use Rattle.cert_check.specs.declared.text_err.TextErr.TheVariants.{Shape}
 use Rattle.cert_check.proofs.FieldPlaces.{none}
 use Rattle.cert_check.proofs.Completed.{line-count}
 use Rattle.cert_check.proofs.Turns.{length-due}

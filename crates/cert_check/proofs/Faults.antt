@@ -1,10 +1,8 @@
 -- The first fault of records, from one of them on.
-use Rattle.std.proofs.Common.{◌≡◌, ℕ, zero, suc, ◌+◌, ◌<◌, ◌≤◌, List, [], ◌∷◌, length, get_or, drop, Option, Some, None, refl, sym, ap, ap₂, subst, ◌∙◌, arith, add-one}
-use Rattle.std.proofs.lemmas.List.{drop_more}
-use Rattle.std.specs.Option.{option_or}
-use Rattle.cert_check.specs.declared.text_err.TextErr.{TextErr}
-use Rattle.cert_check.specs.declared.text_err.TextErr.TheVariants.{Keyword, Missing}
-use Rattle.cert_check.specs.Layout.{Expected, expected, record_fault, first_fault}
+use Rattle.cert_check.proofs.Common
+use Common.{[], ℕ, ◌+◌, ◌<◌, ◌∙◌, ◌∷◌, ◌≡◌, ◌≤◌, ap, ap₂, arith, drop, drop_more, Expected}
+use Common.{first_fault, get_or, Keyword, length, List, Missing, None, option_or, record_fault}
+use Common.{refl, Some, suc, TextErr, zero}
 use Rattle.cert_check.proofs.FieldPlaces.{none}
 
 -- what is left after k records

@@ -1,8 +1,9 @@
 -- What is due at the places of a text with all lines.
-use Rattle.std.proofs.Common.{◌≡◌, ℕ, suc, ◌+◌, ◌-◌, ◌*◌, ◌<◌, ◌≤◌, List, [], ◌∷◌, ◌++◌, length, get_or, replicate, codes, refl, sym, ap, ◌∙◌, arith}
-use Rattle.std.proofs.lemmas.List.{length-append, length-replicate, get_or-replicate, get_or_append_left, get_or-append-add}
-use Rattle.cert_check.specs.Layout.{Expected, expected, layout}
-use Rattle.cert_check.specs.MatrixRows.{due_at}
+use Rattle.cert_check.proofs.Common
+use Common.{[], ℕ, ◌*◌, ◌++◌, ◌+◌, ◌-◌, ◌<◌, ◌∙◌, ◌∷◌, ◌≡◌, ◌≤◌, ap, arith, codes, due_at, Expected}
+use Common.{expected, get_or, get_or-replicate, get_or_append_left, layout, length, length-append}
+use Common.{length-replicate, List, replicate, suc, sym}
+use Rattle.std.proofs.lemmas.List.{get_or-append-add}
 
 abbrev pub none : Expected
 none = expected [] 0

@@ -1,13 +1,11 @@
 -- The fields of a record, and the first that is not a number.
-use Rattle.std.proofs.Common.{◌≡◌, ℕ, zero, suc, ◌+◌, ◌-◌, ◌<◌, ◌≤◌, ◌⊎◌, inl, inr, List, [], ◌∷◌, ◌++◌, length, map, take, drop, get_or, ℤ, Option, Some, None, Bool, true, false, refl, sym, ap, ap₂, subst, ◌∙◌, arith, add-one}
-use Rattle.std.proofs.lemmas.List.{take_more, drop_more, map-append, get_or-drop, length-drop, length-append, get_or_append_left, get_or_at}
-use Rattle.std.proofs.lemmas.Bool.{cases_lt, ne_eqb}
-use Rattle.std.specs.List.{position_from}
-use Rattle.cert_check.specs.CertificateLimits.{IsNumber, IsVector}
-use Rattle.std.specs.Prelude.{◌==◌, bytes_eq, is_none}
+use Rattle.cert_check.proofs.Common
+use Common.{[], ℕ, ℤ, ◌++◌, ◌+◌, ◌-◌, ◌<◌, ◌==◌, ◌∙◌, ◌∷◌, ◌≡◌, ◌≤◌, ◌⊎◌, ap, ap₂, arith, bytes_eq}
+use Common.{cases_lt, drop, drop_more, false, get_or, get_or-drop, get_or_append_left, get_or_at}
+use Common.{inl, inr, is_no_number, is_none, IsNumber, IsVector, keyword_of, length, length-append}
+use Common.{length-drop, List, map, map-append, ne_eqb, None, number_in, Option, position_from}
+use Common.{refl, Some, subst, suc, sym, take, take_more, zero}
 use Rattle.csv.specs.Records.{field_at}
-use Rattle.cert_check.specs.FieldNumbers.{number_in}
-use Rattle.cert_check.specs.Layout.{is_no_number, keyword_of}
 
 pub field-at : (fields : List (List ℕ)) (i : ℕ) → i < length fields → field_at fields i ≡ Some (get_or fields i [])
 unfolding field_at

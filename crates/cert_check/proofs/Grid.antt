@@ -1,17 +1,12 @@
 -- A run on a finer tick.
-use Rattle.std.proofs.Common.{◌≡◌, ℕ, suc, ◌+◌, ◌-◌, ◌*◌, ◌/◌, ◌%◌, ◌<◌, ◌≤◌, ◌⊎◌, inl, inr, ℤ, pos, ◌+ℤ◌, ◌-ℤ◌, ◌*ℤ◌, ◌≤ℤ◌, ◌<ℤ◌, refl, sym, ap, ap₂, ◌∙◌, arith}
-use Rattle.std.proofs.Math.Nat.{div-lt_iff_lt-mul, mod-add-div', mod-lt}
+use Rattle.cert_check.proofs.Common
+use Common.{ℕ, ℤ, ◌*ℤ◌, ◌*◌, ◌+ℤ◌, ◌+◌, ◌-ℤ◌, ◌-◌, ◌/◌, ◌<ℤ◌, ◌<◌, ◌∙◌, ◌≡◌, ◌≤ℤ◌, ◌≤◌, ◌⊎◌, abs_of}
+use Common.{add-mul, ap, ap₂, arith, cases_lt, CertificateData, expand, form, Holds, inl, inr, ints}
+use Common.{level_error, mod-add-div', mul-add, mul-≥, one-mul, pos, refl, size-scale, suc, sym}
+use Common.{System, times, times-scale, Vector}
+use Rattle.std.proofs.Common.{◌%◌}
+use Rattle.std.proofs.Math.Nat.{div-lt_iff_lt-mul, mod-lt}
 use Rattle.std.proofs.lemmas.Nat.{div-mul-add, mod-mul-add}
-use Rattle.std.proofs.lemmas.Bool.{cases_lt}
-use Rattle.std.proofs.lemmas.Int.{ints}
-use Rattle.mu_num.specs.IndexedSums.{abs_of}
-use Rattle.cert_matrix.specs.Form.{Vector, times, form}
-use Rattle.mu_num.proofs.Integers.{mul-add, add-mul, one-mul}
-use Rattle.cert_matrix.proofs.Ring.{expand}
-use Rattle.cert_matrix.proofs.Order.{mul-≥}
-use Rattle.cert_matrix.proofs.Bilinear.{times-scale}
-use Rattle.cert_matrix.proofs.Sizes.{size-scale}
-use Rattle.cert_check.specs.Inequalities.{System, CertificateData, Holds, level_error}
 use Rattle.cert_check.proofs.Run.{Run, IsLegitimate}
 use Rattle.cert_check.proofs.Basin.{basin, miss-≤, positive_pos}
 

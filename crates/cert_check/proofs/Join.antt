@@ -1,21 +1,14 @@
 -- A machine's legitimate runs are those of its affine system.
-use Rattle.std.proofs.Common.{◌≡◌, ℕ, zero, suc, ◌+◌, ◌-◌, ◌*◌, ◌<◌, ◌≤◌, ◌⊎◌, inl, inr, List, [], length, ℤ, pos, ◌+ℤ◌, ◌-ℤ◌, ◌*ℤ◌, ◌≤ℤ◌, ◌<ℤ◌, refl, sym, ap, ap₂, subst, ◌∙◌, arith, add-one}
-use Rattle.std.proofs.lemmas.Int.{ints}
-use Rattle.std.proofs.lemmas.List.FromFn.{length-map-range_with_len, get_or-map-range_with_len}
-use Rattle.std.specs.Prelude.{slice_index_or}
-use Rattle.qss_machine.proofs.Near.{unit_positive}
-use Rattle.qss_machine.specs.declared.compiled_machine.Machine.{Machine}
-use Rattle.mu_num.specs.IndexedSums.{int_at, sum_below, tabulate, abs_of}
-use Rattle.qss_machine.specs.Machines.{state_count, level_unit}
-use Rattle.qss_machine.specs.Legitimate.{IsLegitimate, entry_at, start_coefficient, start_constant_part, scaled_slope}
-use Rattle.cert_matrix.specs.Form.{Vector, times}
-use Rattle.cert_matrix.specs.Matrix.{table, vector}
-use Rattle.mu_num.proofs.Sums.{sum_below-same}
-use Rattle.cert_check.specs.declared.certificate.Certificate.{Certificate}
-use Rattle.cert_check.specs.Inequalities.{Holds, slope_limit}
-use Rattle.cert_check.specs.CertificateData.{certificate_data}
-use Rattle.cert_check.specs.Systems.{system_of, start_matrix, start_drives}
-use Rattle.cert_check.specs.Bounds.{IsCertifiedRun, BoundsAreGuaranteed}
+use Rattle.cert_check.proofs.Common
+use Common.{[], ℕ, ℤ, ◌*ℤ◌, ◌+ℤ◌, ◌+◌, ◌-◌, ◌<◌, ◌∙◌, ◌≡◌, ◌≤ℤ◌, ◌≤◌, ◌⊎◌, abs_of, add-one, ap, ap₂}
+use Common.{arith, Certificate, certificate_data, entry_at, get_or as slice_index_or}
+use Common.{get_or-map-range_with_len, Holds, inl, inr, int_at, IsLegitimate, length, List, Machine}
+use Common.{pos, refl, slope_limit, start_coefficient, start_constant_part, start_drives}
+use Common.{state_count, subst, suc, sum_below, sum_below-same, sym, system_of, table, tabulate}
+use Common.{times, unit_positive, vector, zero}
+use Rattle.qss_machine.specs.Legitimate.{scaled_slope}
+use Rattle.cert_check.specs.Systems.{start_matrix}
+use Rattle.cert_check.specs.Bounds.{BoundsAreGuaranteed}
 use Rattle.cert_check.proofs.Run.{Run, IsCertifiedStart, IsLegitimate as IsRunOf}
 use Rattle.cert_check.proofs.Theorem.{promises}
 

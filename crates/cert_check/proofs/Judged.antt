@@ -1,16 +1,10 @@
 -- Any bytes are a text of one certificate, or have one fault.
-use Rattle.std.proofs.Common.{◌≡◌, ℕ, ◌⊎◌, inl, inr, List, ◌++◌, Option, Some, None, refl, subst}
-use Rattle.qss_machine.specs.declared.compiled_machine.Machine.{Machine}
-use Rattle.qss_machine.specs.Machines.{state_count}
-use Rattle.cert_check.specs.CertificateLimits.{IsSize}
+use Rattle.cert_check.proofs.Common
+use Common.{ℕ, ◌++◌, ◌≡◌, ◌⊎◌, AreRecordsOf, Certificate, inl, inr, IsCutInto, IsSize, IsTextOf}
+use Common.{left_out, List, Machine, None, Option, refl, Some, state_count, subst, text_fault}
+use Common.{TextErr}
 use Rattle.cert_check.specs.Scope.{IsInScope}
-use Rattle.cert_check.specs.declared.certificate.Certificate.{Certificate}
-use Rattle.cert_check.specs.declared.text_err.TextErr.{TextErr}
-use Rattle.cert_check.specs.TextFaults.{TextsAreJudged}
-use Rattle.cert_check.specs.Layout.{text_fault}
-use Rattle.cert_check.specs.MatrixRows.{left_out}
-use Rattle.cert_check.specs.TextFaults.{IsFaultOf}
-use Rattle.cert_check.specs.CertificateTexts.{IsTextOf, AreRecordsOf, IsCutInto}
+use Rattle.cert_check.specs.TextFaults.{TextsAreJudged, IsFaultOf}
 use Rattle.cert_check.proofs.Completed.{all-rows, text-read}
 use Rattle.cert_check.proofs.Faultless.{IsReadInForm, fine-text}
 use Rattle.cert_check.proofs.Made.{fields_in, sound, made_in}

@@ -1,14 +1,10 @@
 -- Which records take memory.
-use Rattle.std.proofs.Common.{◌≡◌, ℕ, zero, suc, ◌+◌, ◌<◌, ◌⊎◌, inl, inr, List, [], ◌∷◌, length, map, drop, get_or, ℤ, Some, false, ap, subst, ◌∙◌, arith}
-use Rattle.std.proofs.lemmas.List.{length-map}
-use Rattle.std.specs.Option.{option_or}
-use Rattle.std.specs.Prelude.{codes, is_none}
-use Rattle.csv.specs.Records.{Row, fields_of}
-use Rattle.cert_check.specs.declared.text_err.TextErr.{TextErr}
-use Rattle.cert_check.specs.declared.text_err.TextErr.TheVariants.{Memory}
-use Rattle.cert_check.specs.FieldNumbers.{number_in}
-use Rattle.cert_check.specs.Layout.{expected, keyword_of, is_no_number, record_fault, fault_in_form, first_number, form_in, text_fault}
-use Rattle.cert_check.specs.MatrixRows.{due_at, IsReadAs, TakesMemory, FirstTakesMemory}
+use Rattle.cert_check.proofs.Common
+use Common.{[], ℕ, ℤ, ◌<◌, ◌∙◌, ◌∷◌, ◌≡◌, ◌⊎◌, ap, arith, codes, drop, due_at, expected, false}
+use Common.{fault_in_form, fields_of, first_number, FirstTakesMemory, form_in, get_or, inl, inr}
+use Common.{is_no_number, is_none, IsReadAs, keyword_of, length, length-map, List, map, Memory}
+use Common.{number_in, option_or, record_fault, Row, Some, subst, suc, TakesMemory, text_fault}
+use Common.{TextErr, zero}
 
 -- a first field that is a number
 first-spelt : (numerals : List (List ℕ)) (row : List ℤ) → map number_in numerals ≡ map (λ z. Some z) row → length row ≡ 1 → is_no_number (get_or numerals 0 []) ≡ false

@@ -1,3 +1,4 @@
+mod Common
 pub mod Forms
 pub mod Run
 pub mod Basin

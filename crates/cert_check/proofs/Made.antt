@@ -1,14 +1,12 @@
 -- A certificate of rows.
-use Rattle.std.proofs.Common.{◌≡◌, ℕ, ◌+◌, ◌*◌, ◌<◌, ◌≤◌, List, [], ◌∷◌, length, take, drop, get_or, ℤ, pos, refl, arith}
-use Rattle.std.proofs.lemmas.List.{length-take, length-drop}
-use Rattle.cert_matrix.specs.Matrix.{vector}
-use Rattle.cert_check.specs.CertificateLimits.{IsSize, IsNumber}
-use Rattle.cert_check.specs.CertificateLines.{lines}
-use Rattle.cert_check.specs.Layout.{layout}
-use Rattle.cert_check.specs.MatrixRows.{due_at, AreAllRows, lines_from}
+use Rattle.cert_check.proofs.Common
+use Common.{[], ℕ, ℤ, ◌*◌, ◌+◌, ◌<◌, ◌∷◌, ◌≡◌, ◌≤◌, AreAllRows, arith, drop, due_at, get_or}
+use Common.{IsNumber, IsSize, layout, length, length-drop, length-take, lines, lines_from, List}
+use Common.{pos, refl, take, vector}
 use Rattle.cert_check.proofs.Assembled.{Fields, IsMadeOf, made-lines, one-row}
 use Rattle.cert_check.proofs.Same.{AreSound, certificate_of}
-use Rattle.cert_check.proofs.Wanted.{count-p, count-after-p, count-h2, count-c, count-after-g2, row-fits, p-fits, g1-fits, g2-fits}
+use Rattle.cert_check.proofs.Wanted.{count-p, count-after-p, count-h2, count-c, count-after-g2}
+use Rattle.cert_check.proofs.Wanted.{row-fits, p-fits, g1-fits, g2-fits}
 
 module _ (n : ℕ) (rows : List (List ℤ)) where
   -- the numbers of the rows

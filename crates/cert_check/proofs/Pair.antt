@@ -1,17 +1,13 @@
 -- Two legitimate runs stay close.
-use Rattle.std.proofs.Common.{◌≡◌, ℕ, zero, suc, ◌*◌, ◌<◌, ◌≤◌, inl, inr, ℤ, pos, negsuc, ◌+ℤ◌, ◌-ℤ◌, ◌*ℤ◌, neg_ℤ, ◌≤ℤ◌, ◌<ℤ◌, refl, sym, ap, ap₂, ◌∙◌, arith}
+use Rattle.cert_check.proofs.Common
+use Common.{ℕ, ℤ, ◌*ℤ◌, ◌*◌, ◌+ℤ◌, ◌-ℤ◌, ◌<ℤ◌, ◌<◌, ◌∙◌, ◌≡◌, ◌≤ℤ◌, ◌≤◌, abs_of, add-mul, ap, ap₂}
+use Common.{arith, CertificateData, expand, form, form-same, form-times, Holds, inl, inr, ints}
+use Common.{level_error, mul-cancel, mul-le-mul_right, mul-mono, mul-≥, neg_ℤ, negsuc}
+use Common.{pair_disturbance, pos, product, refl, size-scale, square-≥, step, suc, sym, System}
+use Common.{Table, times, times-add, times-neg, times-same, times-scale, times-times, Vector}
+use Common.{weighted-size, zero}
 use Rattle.std.proofs.Math.IntN.{*ℤ_comm}
-use Rattle.std.proofs.Math.Nat.{mul-le-mul_right}
-use Rattle.std.proofs.lemmas.Int.{ints}
-use Rattle.mu_num.specs.IndexedSums.{abs_of}
-use Rattle.cert_matrix.specs.Form.{Vector, Table, times, product, form}
-use Rattle.mu_num.proofs.Integers.{add-mul}
-use Rattle.cert_matrix.proofs.Ring.{expand}
-use Rattle.cert_matrix.proofs.Order.{square-≥, mul-≥, mul->, mul-mono, mul-cancel}
-use Rattle.cert_matrix.proofs.Bilinear.{form-same, form-times, times-add, times-neg, times-scale, times-same, times-times}
-use Rattle.cert_matrix.proofs.Sizes.{size-scale, weighted-size}
-use Rattle.cert_matrix.proofs.Step.{step}
-use Rattle.cert_check.specs.Inequalities.{System, CertificateData, Holds, level_error, pair_disturbance}
+use Rattle.cert_matrix.proofs.Order.{mul->}
 use Rattle.cert_check.proofs.Run.{Run, IsLegitimate, IsCertifiedStart, IsCommonTick, IsInside}
 use Rattle.cert_check.proofs.Forms.{pm-≥, form-decays}
 use Rattle.cert_check.proofs.Basin.{certified-≤, positive_pos}

@@ -1,7 +1,7 @@
 -- The pairs of two different numbers, by their places.
-use Rattle.std.proofs.Common.{◌≡◌, ℕ, zero, suc, ◌+◌, ◌-◌, ◌*◌, ◌<◌, ◌≤◌, ◌⊎◌, inl, inr, true, false, nat_lt, lt-ltb, le-ltb, refl, ap, ◌∙◌, arith, add-one}
-use Rattle.std.proofs.lemmas.Bool.{cases_lt}
-use Rattle.cert_check.specs.Pairs.{pairs, pair_from, pair_of}
+use Rattle.cert_check.proofs.Common
+use Common.{ℕ, ◌*◌, ◌+◌, ◌-◌, ◌<◌, ◌∙◌, ◌≡◌, ◌≤◌, ◌⊎◌, add-one, ap, arith, cases_lt, false, inl}
+use Common.{inr, le-ltb, lt-ltb, nat_lt, pair_from, pair_of, pairs, refl, suc, true, zero}
 
 pub pair-here : (b n k w : ℕ) → n ≡ suc w → k < w → pair_from b n k ≡ (b, b + 1 + k)
 pair-here b n k w e h =

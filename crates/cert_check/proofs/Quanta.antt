@@ -1,10 +1,6 @@
 -- A run with smaller quanta is legitimate with greater ones.
-use Rattle.std.proofs.Common.{ℕ, ◌<◌, ◌≤◌, ℤ, pos, ◌*ℤ◌, ◌≤ℤ◌, ◌<ℤ◌, arith}
-use Rattle.std.proofs.lemmas.Int.{ints}
-use Rattle.qss_machine.proofs.Near.{unit_positive}
-use Rattle.mu_num.specs.IndexedSums.{int_at}
-use Rattle.qss_machine.specs.Machines.{level_unit}
-use Rattle.cert_matrix.proofs.Order.{mul-≥, mul-mono}
+use Rattle.cert_check.proofs.Common
+use Common.{◌*ℤ◌, ◌≤ℤ◌, arith, int_at, ints, level_unit, mul-mono, mul-≥, pos, unit_positive}
 use Rattle.cert_check.specs.Bounds.{SmallerQuantaAreLegitimate}
 
 pub smaller-quanta : SmallerQuantaAreLegitimate

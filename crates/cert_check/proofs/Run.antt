@@ -1,8 +1,7 @@
 -- Runs of an affine system, and the guarantee of an accepted certificate about them.
-use Rattle.std.specs.Prelude.{◌≡◌, ℕ, suc, ◌*◌, ◌<◌, ◌≤◌, ◌⊎◌, ℤ, pos, ◌+ℤ◌, ◌-ℤ◌, ◌*ℤ◌, ◌≤ℤ◌, ◌<ℤ◌}
-use Rattle.mu_num.specs.IndexedSums.{abs_of}
-use Rattle.cert_matrix.specs.Form.{Vector, times, form}
-use Rattle.cert_check.specs.Inequalities.{System, CertificateData, Holds, slope_limit}
+use Rattle.cert_check.proofs.Common
+use Common.{ℕ, ℤ, ◌*ℤ◌, ◌*◌, ◌+ℤ◌, ◌-ℤ◌, ◌<ℤ◌, ◌<◌, ◌≡◌, ◌≤ℤ◌, ◌≤◌, ◌⊎◌, abs_of, CertificateData}
+use Common.{form, Holds, pos, slope_limit, suc, System, times, Vector}
 
 -- a run: its states and levels at the places 0 to last, in units `scale` times finer and on a grid of `refinement` places to a tick
 pub record Run : Type 0 where

@@ -1,19 +1,15 @@
 -- Records parse as at most one certificate.
-use Rattle.std.proofs.Common.{◌≡◌, ℕ, zero, suc, ◌+◌, ◌*◌, ◌≤◌, ◌⊎◌, inl, inr, List, [], ◌∷◌, ◌++◌, length, map, take, get_or, codes, ℤ, pos, Some, refl, sym, ap, ap₂, subst, ◌∙◌, arith, append_assoc}
+use Rattle.cert_check.proofs.Common
+use Common.{[], ℕ, ℤ, ◌*◌, ◌++◌, ◌+◌, ◌∙◌, ◌∷◌, ◌≡◌, ◌≤◌, ◌⊎◌, AllZip, ap, append_assoc, ap₂}
+use Common.{AreInForm, AreRecordsOf, arith, Certificate, codes, first_number, get_or, inl, inr}
+use Common.{IsNumber, IsSize, IsSquareTable, IsVector, length, length-append, length-map, Line}
+use Common.{line, line_count, lines, List, Machine, map, number_in, ParsesAs, pos, quanta, refl}
+use Common.{row_lines, Some, start_states, subst, suc, sym, take, zero}
 use Rattle.std.proofs.Math.Bridge.{le_prop}
 use Rattle.std.proofs.Math.Dec.{T_prop}
 use Rattle.std.proofs.Math.Nat.{ℕ_set}
 use Rattle.std.proofs.Math.Bool.{Bool-set}
-use Rattle.std.proofs.lemmas.List.{length-append, length-map, take_at}
-use Rattle.std.specs.List.{AllZip}
-use Rattle.qss_machine.specs.declared.compiled_machine.Machine.{Machine}
-use Rattle.qss_machine.specs.Machines.{start_states, quanta}
-use Rattle.cert_check.specs.CertificateLimits.{IsSize, IsNumber, IsVector, IsSquareTable}
-use Rattle.cert_check.specs.declared.certificate.Certificate.{Certificate}
-use Rattle.cert_check.specs.FieldNumbers.{number_in}
-use Rattle.cert_check.specs.CertificateLines.{Line, line, lines, line_count, row_lines, ParsesAs}
-use Rattle.cert_check.specs.Layout.{first_number}
-use Rattle.cert_check.specs.CertificateTexts.{AreInForm, AreRecordsOf}
+use Rattle.std.proofs.lemmas.List.{take_at}
 use Rattle.cert_check.proofs.Assembled.{Fields}
 use Rattle.cert_check.proofs.FieldPlaces.{length-layout}
 use Rattle.cert_check.proofs.Spelt.{due_of, line-dues, spelt-number}

@@ -1,15 +1,10 @@
 -- A run whose quanta grow with its levels is legitimate with the quanta of an accepted certificate.
-use Rattle.std.proofs.Common.{◌≡◌, ℕ, zero, suc, ◌<◌, ◌≤◌, ◌⊎◌, inl, inr, ℤ, pos, ◌+ℤ◌, ◌-ℤ◌, ◌*ℤ◌, ◌≤ℤ◌, ◌<ℤ◌, sym, ap, ◌∙◌, arith}
-use Rattle.std.proofs.lemmas.Int.{ints}
-use Rattle.std.proofs.lemmas.Bool.{cases_lt}
-use Rattle.mu_num.specs.IndexedSums.{abs_of}
-use Rattle.cert_matrix.specs.Form.{Vector}
-use Rattle.mu_num.proofs.Integers.{one-mul}
-use Rattle.cert_matrix.proofs.Ring.{expand}
-use Rattle.cert_matrix.proofs.Order.{mul-≥, mul-mono, mul-cancel}
-use Rattle.cert_matrix.proofs.Sizes.{size-cancel, size-scale, size-same}
-use Rattle.cert_check.specs.Inequalities.{System, CertificateData, Holds}
-use Rattle.cert_check.proofs.Run.{Run, IsLegitimate, IsCertifiedStart, IsQuantumAt, KeepsLevels, AdmitsShares}
+use Rattle.cert_check.proofs.Common
+use Common.{ℕ, ℤ, ◌*ℤ◌, ◌+ℤ◌, ◌-ℤ◌, ◌<ℤ◌, ◌<◌, ◌∙◌, ◌≡◌, ◌≤ℤ◌, ◌≤◌, ◌⊎◌, abs_of, ap, arith}
+use Common.{cases_lt, CertificateData, expand, Holds, inl, inr, ints, mul-cancel, mul-mono, mul-≥}
+use Common.{one-mul, pos, size-cancel, size-same, size-scale, suc, sym, System, Vector, zero}
+use Rattle.cert_check.proofs.Run.{Run, IsLegitimate, IsCertifiedStart, IsQuantumAt, KeepsLevels}
+use Rattle.cert_check.proofs.Run.{AdmitsShares}
 use Rattle.cert_check.proofs.Basin.{basin, certified-≤, place-≤, offset}
 
 -- within one level is within a quantum that is at least 1

@@ -1,19 +1,13 @@
 -- Records that parse as lines have no fault.
-use Rattle.std.proofs.Common.{◌≡◌, ℕ, zero, suc, ◌+◌, ◌*◌, ◌<◌, ◌≤◌, ◌==◌, if◌then◌else◌, ◌⊎◌, inl, inr, Bool, true, false, List, [], ◌∷◌, ◌++◌, length, map, take, drop, get_or, replicate, codes, ℤ, pos, Option, Some, None, refl, sym, ap, ap₂, subst, ◌∙◌, arith}
-use Rattle.std.proofs.lemmas.List.{length-map, map-append, take-map}
-use Rattle.std.proofs.lemmas.Slice.Eq.{bytes_eq-Decides}
+use Rattle.cert_check.proofs.Common
+use Common.{[], ℕ, ℤ, ◌*◌, ◌+◌, ◌==◌, ◌∙◌, ◌∷◌, ◌≡◌, ◌≤◌, All, AllZip, ap, ap₂, AreInForm, arith}
+use Common.{Bool, bytes_eq, bytes_eq-Decides, Certificate, codes, Expected, expected, false}
+use Common.{fault_in_form, first_fault, first_number, form_in, get_or, if◌then◌else◌, is_no_number}
+use Common.{IsVector, layout, length, length-map, Line, line, line_count, lines, List, map}
+use Common.{map-append, None, number_in, option_or, ParsesAs, pos, position_from, record_fault}
+use Common.{refl, replicate, row_lines, Some, subst, suc, sym, take, text_fault, true, zero}
+use Rattle.std.proofs.lemmas.List.{take-map}
 use Rattle.std.proofs.lemmas.Bool.{eq-eqb}
-use Rattle.std.specs.Prelude.{All, bytes_eq}
-use Rattle.std.specs.List.{AllZip}
-use Rattle.std.specs.List.{position_from}
-use Rattle.std.specs.Option.{option_or}
-use Rattle.cert_check.specs.declared.certificate.Certificate.{Certificate}
-use Rattle.cert_check.specs.CertificateLimits.{IsVector}
-use Rattle.cert_check.specs.declared.text_err.TextErr.{TextErr}
-use Rattle.cert_check.specs.FieldNumbers.{number_in}
-use Rattle.cert_check.specs.CertificateLines.{Line, line, lines, line_count, row_lines, ParsesAs}
-use Rattle.cert_check.specs.Layout.{Expected, expected, layout, is_no_number, record_fault, first_fault, first_number, form_in, fault_in_form, text_fault}
-use Rattle.cert_check.specs.CertificateTexts.{AreInForm}
 
 abbrev pub due_of : Line → Expected
 due_of l = expected l.keyword (length l.numbers)

@@ -1,25 +1,19 @@
 -- Sums over the rows of a machine at the start values of discrete variables.
-use Rattle.std.proofs.Common.{◌≡◌, ℕ, ◌+◌, ◌-◌, ◌*◌, ◌^◌, ◌≤◌, ◌<◌, List, [], ◌++◌, length}
-use Rattle.std.proofs.Common.{get_or, take, replicate, ℤ, pos, ◌+ℤ◌, ◌*ℤ◌, ap, sym, ◌∙◌, arith, length-append}
-use Rattle.std.proofs.Math.Nat.{mul-le-mul_right}
-use Rattle.std.proofs.Math.IntN.{*ℤ-zero, +ℤ_idl, +ℤ_idr}
-use Rattle.std.proofs.lemmas.Int.{ints, to_z-of_z}
-use Rattle.std.proofs.lemmas.List.{length-replicate, get_or-replicate, get_or_append_left}
-use Rattle.std.proofs.lemmas.List.{get_or-append_right, get_or_default}
+use Rattle.cert_check.proofs.Common
+use Common.{*ℤ-zero, [], ℕ, ℤ, ◌*ℤ◌, ◌*◌, ◌++◌, ◌+ℤ◌, ◌+◌, ◌-◌, ◌<◌, ◌^◌, ◌∙◌, ◌≡◌, ◌≤◌, ap, arith}
+use Common.{constant_part, discrete_count, Entry, fits_below, get_or, get_or-append_right}
+use Common.{get_or-replicate, get_or_append_left, get_or_default, int_at, ints, IsRow, length}
+use Common.{length-append, length-replicate, List, Machine, mul-le-mul_right, of_z, pos, replicate}
+use Common.{row_at, SlopeRow, start_discretes, state_count, sum_below, sum_below-same}
+use Common.{sum_below-zero, sum_over, sym, take, to_z}
+use Rattle.std.proofs.Math.IntN.{+ℤ_idl, +ℤ_idr}
+use Rattle.std.proofs.lemmas.Int.{to_z-of_z}
 use Rattle.std.specs.Int.RustNames.{unsigned_abs, FitsSigned}
-use Rattle.mu_num.specs.IndexedSums.{int_at, sum_below, sum_over}
-use Rattle.mu_num.proofs.Sums.{sum_below-same, sum_below-split, sum_below-zero, sum_over_more}
-use Rattle.qss_machine.specs.declared.machine_parts.Entry.{Entry}
-use Rattle.qss_machine.specs.declared.machine_parts.SlopeRow.{SlopeRow}
-use Rattle.qss_machine.specs.declared.compiled_machine.Machine.{Machine}
-use Rattle.qss_machine.specs.MachineLimits.{IsRow}
-use Rattle.qss_machine.specs.Machines.{state_count, discrete_count, start_discretes, row_at}
-use Rattle.qss_machine.specs.Slopes.{coefficient_of, constant_part}
+use Rattle.mu_num.proofs.Sums.{sum_below-split, sum_over_more}
+use Rattle.qss_machine.specs.Slopes.{coefficient_of}
 use Rattle.qss_machine.proofs.Few.{entries_few, products_few}
-use Rattle.qss_machine.proofs.Loops.{fits_below}
 use Rattle.qss_machine.proofs.SumLaws.{weighted_sum-entries}
 use mir.Syntax.{w128}
-use mir.Val.{to_z, of_z}
 
 -- ---- partial sums
 

@@ -1,15 +1,13 @@
 -- A machine's start values keep the limits that its sums ask for.
-use Rattle.std.proofs.Common.{◌≡◌, ℕ, zero, suc, ◌+◌, ◌<◌, List, [], length, map, take, replicate, get_or, ℤ, pos, ◌+ℤ◌, ◌*ℤ◌, refl, ap, ap₂, ◌∙◌, arith}
-use Rattle.std.proofs.lemmas.Int.{ints}
-use Rattle.std.proofs.lemmas.List.{length-map}
+use Rattle.cert_check.proofs.Common
+use Common.{[], ℕ, ℤ, ◌*ℤ◌, ◌+ℤ◌, ◌<◌, ◌∙◌, ◌≡◌, ap₂, arith, constant_part, discrete_count, get_or}
+use Common.{int_at, ints, length, length-map, List, Machine, mode_coefficient, pos, refl, replicate}
+use Common.{row_at, SlopeRow, start_constant_part, start_discretes, state_count, suc, sum_below}
+use Common.{take, zero}
 use Rattle.std.specs.Prelude.{IsTrue}
 use Rattle.qss_machine.specs.declared.machine_parts.DiscreteInfo.{DiscreteInfo}
-use Rattle.qss_machine.specs.declared.machine_parts.SlopeRow.{SlopeRow}
-use Rattle.qss_machine.specs.declared.compiled_machine.Machine.{Machine}
-use Rattle.mu_num.specs.IndexedSums.{int_at, sum_below}
-use Rattle.qss_machine.specs.Slopes.{mode_coefficient, mode_fits, constant_part}
-use Rattle.qss_machine.specs.Machines.{state_count, discrete_count, start_discretes, row_at, slope_at}
-use Rattle.qss_machine.specs.Legitimate.{start_constant_part}
+use Rattle.qss_machine.specs.Slopes.{mode_fits}
+use Rattle.qss_machine.specs.Machines.{slope_at}
 
 pub starts-count : (m : Machine) → length (start_discretes m) ≡ discrete_count m
 starts-count m = length-map m.discretes (λ (d : DiscreteInfo). d.d0)

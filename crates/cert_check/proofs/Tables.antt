@@ -1,9 +1,9 @@
 -- Matrices that are written row by row.
-use Rattle.std.proofs.Common.{◌≡◌, ◌≢◌, ℕ, ◌<◌, List, [], length, get_or, ℤ, pos, get_or-set_other, ap, ◌∙◌, arith}
+use Rattle.cert_check.proofs.Common
+use Common.{[], ℕ, ℤ, ◌<◌, ◌∙◌, ◌≡◌, ◌≢◌, ap, arith, get_or, get_or-set_other, IsSquare, length}
+use Common.{List, map, pos, table, vector, with_entry}
 use Rattle.std.proofs.lemmas.List.FromFn.{fill_by_all}
 use Rattle.std.specs.List.{range_with_len}
-use Rattle.std.specs.Prelude.{map}
-use Rattle.cert_matrix.specs.Matrix.{table, vector, with_entry, IsSquare}
 
 -- another row is as before
 pub changed-elsewhere : (rows : List (List ℤ)) (i j h k : ℕ) (value : ℤ) → h ≢ i → table (with_entry rows i j value) h k ≡ table rows h k

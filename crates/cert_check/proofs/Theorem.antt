@@ -1,8 +1,5 @@
 -- A certificate whose inequalities hold guarantees its bounds.
-use Rattle.std.proofs.Common.{◌*◌, pos, ◌*ℤ◌, ◌≤ℤ◌, ◌<ℤ◌, arith}
-use Rattle.std.proofs.lemmas.Int.{ints}
-use Rattle.cert_matrix.proofs.Order.{mul-≥}
-use Rattle.cert_check.specs.Inequalities.{System}
+use Rattle.cert_check.proofs.Common.{◌*ℤ◌, ◌*◌, ◌<ℤ◌, ◌≤ℤ◌, arith, ints, mul-≥, pos, System}
 use Rattle.cert_check.proofs.Run.{Run, KeepsPromises, difference, common_unit}
 use Rattle.cert_check.proofs.Basin.{basin, slope-≤, certified-≤, place-≤}
 use Rattle.cert_check.proofs.Pair.{inside-≤}

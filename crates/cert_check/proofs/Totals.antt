@@ -1,13 +1,12 @@
 -- Any bytes are cut into records.
-use Rattle.std.proofs.Common.{◌≡◌, ℕ, zero, suc, ◌≤◌, Bool, true, false, List, [], ◌∷◌, ◌++◌, length, Option, Some, None, refl, ap, ap₂, ◌∙◌, arith}
-use Rattle.std.specs.Prelude.{if◌then◌else◌}
-use Rattle.csv.specs.Machine.{Read, next_record, step, is_end, fields_after, field_after, ends_at_end}
-use Rattle.csv.specs.Reading.{Reached, AreRecords, default_config, strip_bom}
-use Rattle.csv.specs.declared.parser.Config.{Config}
-use Rattle.csv.specs.declared.parser.State.{State}
-use Rattle.csv.specs.declared.parser.State.TheVariants as st
-use Rattle.cert_check.specs.CertificateTexts.{IsCutInto}
+use Rattle.cert_check.proofs.Common
+use Common.{[], ℕ, ◌++◌, ◌∙◌, ◌∷◌, ◌≡◌, ◌≤◌, ap, ap₂, AreRecords, arith, Bool, Config}
+use Common.{default_config, ends_at_end, false, field_after, fields_after, if◌then◌else◌, is_end}
+use Common.{IsCutInto, length, List, next_record, None, Option, Reached, Read, refl, Some, State}
+use Common.{strip_bom, suc, true, zero}
+use Rattle.csv.specs.Machine.{step}
 use Rattle.cert_check.proofs.Cut.{record-few}
+use Rattle.csv.specs.declared.parser.State.TheVariants as st
 
 -- a record of some bytes leaves fewer
 pub record-shorter : (cfg : Config) (s : State) (fields : List (List ℕ)) (field : List ℕ) (c : ℕ) (rest : List ℕ) (p : Read) → next_record cfg s fields field (c ∷ rest) ≡ Some p

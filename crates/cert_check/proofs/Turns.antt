@@ -1,12 +1,11 @@
 -- A turn of the loop that reads records.
-use Rattle.std.proofs.Common.{◌≡◌, ℕ, ◌+◌, ◌*◌, ◌<◌, ◌≤◌, ◌⊎◌, inl, inr, List, [], ◌∷◌, ◌++◌, length, map, take, get_or, ℤ, Option, Some, None, refl, sym, ap, subst, ◌∙◌, arith}
-use Rattle.std.proofs.lemmas.List.{get_or-map, get_or-take, length-take, length-map, length-append, get_or_append_left, get_or_at}
-use Rattle.std.proofs.lemmas.Bool.{cases_lt}
-use Rattle.std.specs.Prelude.{Result, Ok, Err, IsErrAnd, IfErr, All}
-use Rattle.csv.specs.Records.{Row, fields_of}
-use Rattle.cert_check.specs.declared.text_err.TextErr.{TextErr}
-use Rattle.cert_check.specs.Layout.{Expected, expected, layout, record_fault, first_fault}
-use Rattle.cert_check.specs.MatrixRows.{due_at, IsReadAs, TakesMemory}
+use Rattle.cert_check.proofs.Common
+use Common.{[], ℕ, ℤ, ◌*◌, ◌++◌, ◌+◌, ◌<◌, ◌∙◌, ◌∷◌, ◌≡◌, ◌≤◌, ◌⊎◌, All, ap, arith, cases_lt}
+use Common.{due_at, Expected, expected, fields_of, first_fault, get_or, get_or-map, get_or-take}
+use Common.{get_or_append_left, get_or_at, inl, inr, IsReadAs, layout, length, length-map}
+use Common.{length-take, List, map, None, record_fault, Row, Some, subst, sym, take, TakesMemory}
+use Common.{TextErr}
+use Rattle.std.specs.Prelude.{Result, Ok, Err, IsErrAnd, IfErr}
 use Rattle.cert_check.proofs.FieldPlaces.{none, length-layout}
 use Rattle.cert_check.proofs.Faults.{LeftAt, left-more, refused-here}
 

@@ -1,18 +1,11 @@
 -- A text has one list of records, and so one answer.
-use Rattle.std.proofs.Common.{◌≡◌, ◌≢◌, ℕ, ◌⊎◌, inl, inr, List, [], ◌∷◌, Option, Some, None, pos, refl, sym, ap, ap₂, subst, ◌∙◌}
-use Rattle.csv.specs.Machine.{Read, next_record}
-use Rattle.csv.specs.Reading.{Reached, AreRecords, default_config, strip_bom}
-use Rattle.csv.specs.declared.parser.Config.{Config}
-use Rattle.csv.specs.declared.parser.State.{State}
-use Rattle.csv.specs.declared.parser.State.TheVariants as st
-use Rattle.qss_machine.specs.declared.compiled_machine.Machine.{Machine}
-use Rattle.qss_machine.specs.Machines.{state_count, start_states, quanta}
-use Rattle.cert_check.specs.declared.certificate.Certificate.{Certificate}
-use Rattle.cert_check.specs.declared.text_err.TextErr.{TextErr}
-use Rattle.cert_check.specs.declared.text_err.TextErr.TheVariants.{Memory}
-use Rattle.cert_check.specs.Layout.{text_fault}
-use Rattle.cert_check.specs.CertificateTexts.{IsCutInto, AreInForm, AreRecordsOf, IsTextOf, IsRefusedFor}
+use Rattle.cert_check.proofs.Common
+use Common.{[], ℕ, ◌∙◌, ◌∷◌, ◌≡◌, ◌≢◌, ◌⊎◌, ap, ap₂, AreInForm, AreRecordsOf, Certificate, Config}
+use Common.{default_config, inl, inr, IsCutInto, IsRefusedFor, IsTextOf, List, Machine, Memory}
+use Common.{next_record, None, quanta, Reached, Read, refl, Some, start_states, State, state_count}
+use Common.{strip_bom, subst, sym, text_fault, TextErr}
 use Rattle.cert_check.proofs.Spelt.{form-fine}
+use Rattle.csv.specs.declared.parser.State.TheVariants as st
 
 -- two lists of all records of a text are the same
 reached-same : (cfg : Config) (s : State) (xs : List ℕ) (rows rows' : List (List (List ℕ))) (s2 s3 : State) (ys zs : List ℕ)

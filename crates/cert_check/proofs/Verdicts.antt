@@ -1,17 +1,13 @@
 -- A certificate has one verdict.
-use Rattle.std.proofs.Common.{◌≡◌, ℕ, zero, suc, ◌+◌, ◌<◌, ◌≤◌, Bool, true, false, ◌⊎◌, inl, inr, List, [], ◌∷◌, Option, Some, None, ℤ, refl, sym, ap, subst, ◌∙◌, arith}
-use Rattle.std.specs.Prelude.{IsSome}
-use Rattle.std.proofs.lemmas.Bool.{cases_lt}
-use Rattle.cert_check.specs.Inequalities.{System, CertificateData}
-use Rattle.cert_check.specs.FirstFailures.{IsMet, fails_by, AllPass, IsFirstFault}
-use Rattle.cert_check.specs.InequalityTable.{IsPlaceInRange, IsFaultOf, IsFirstFaultOf, inequalities, fault_of, number_of, start_of, places_of, relation_of, left_of, right_of}
+use Rattle.cert_check.proofs.Common
+use Common.{[], ℕ, ℤ, ◌+◌, ◌<◌, ◌∙◌, ◌∷◌, ◌≡◌, ◌≤◌, ◌⊎◌, Accepted, AllPass, ap, arith, Bool}
+use Common.{cases_lt, CertificateData, fails_by, false, Fault, fault_of, inequalities, Inequality}
+use Common.{inl, inr, IsFaultOf, IsFirstFault, IsFirstFaultOf, IsMet, IsPlaceInRange, IsSome}
+use Common.{left_of, List, None, number_of, Option, places_of, Range, refl, Rejected, Relation}
+use Common.{relation_of, right_of, Some, start_of, subst, suc, sym, System, true, Verdict, zero}
 use Rattle.cert_check.specs.CheckVerdicts.{VerdictsAreOne}
-use Rattle.cert_check.specs.declared.inequality_checker.Fault.{Fault}
-use Rattle.cert_check.specs.declared.inequality_checker.Fault.TheVariants.{Rejected, Range}
-use Rattle.cert_check.specs.declared.inequality_checker.Relation.{Relation}
-use Rattle.cert_check.specs.declared.inequality_sides.Inequality.{Inequality}
-use Rattle.cert_check.specs.declared.inequality_checker.Verdict.{Verdict}
-use Rattle.cert_check.specs.declared.inequality_checker.Verdict.TheVariants.{Accepted, Rejected as VRejected, Range as VRange}
+use Rattle.cert_check.specs.declared.inequality_checker.Verdict.TheVariants.{Rejected as VRejected}
+use Rattle.cert_check.specs.declared.inequality_checker.Verdict.TheVariants.{Range as VRange}
 use Rattle.cert_check.proofs.Decided.{IsDecided, place-decided}
 use Rattle.cert_check.proofs.Places.{fails-not, passes-met}
 

@@ -1,12 +1,11 @@
 -- Each row of a text with all lines has the expected number of numbers.
-use Rattle.std.proofs.Common.{◌≡◌, ℕ, ◌+◌, ◌-◌, ◌*◌, ◌<◌, ◌≤◌, List, [], ◌∷◌, length, take, drop, get_or, ℤ, pos, refl, sym, ap, subst, ◌∙◌, arith}
-use Rattle.std.proofs.lemmas.List.{get_or-take, get_or-drop, get_or_default, length-take, length-drop}
-use Rattle.std.specs.Prelude.{All}
-use Rattle.cert_check.specs.CertificateLimits.{IsNumber, IsVector, IsSquareTable}
-use Rattle.cert_check.specs.Layout.{Expected, expected}
-use Rattle.cert_check.specs.MatrixRows.{AreAllRows, due_at}
-use Rattle.cert_check.specs.CertificateParts.{IsRow, IsSingle, IsBlock}
-use Rattle.cert_check.proofs.FieldPlaces.{none, after_p, after_g1, after_g2, due-p, due-g1, due-g2, due-after-p, due-after-g1, due-after-g2}
+use Rattle.cert_check.proofs.Common
+use Common.{[], ℕ, ℤ, ◌*◌, ◌+◌, ◌<◌, ◌∙◌, ◌∷◌, ◌≡◌, ◌≤◌, All, ap, AreAllRows, arith, drop, due_at}
+use Common.{Expected, get_or, get_or-drop, get_or-take, get_or_default, IsSingle, IsSquareTable}
+use Common.{IsVector, length, length-drop, length-take, List, pos, subst, sym, take}
+use Rattle.cert_check.specs.CertificateParts.{IsBlock}
+use Rattle.cert_check.proofs.FieldPlaces.{none, after_p, after_g2, due-p, due-g1, due-g2}
+use Rattle.cert_check.proofs.FieldPlaces.{due-after-p, due-after-g1, due-after-g2}
 
 pub count-after-p : (n i : ℕ) → (due_at n (n + 1 + i)).count ≡ (get_or (after_p n) i none).count
 count-after-p n i = ap (λ (d : Expected). d.count) (due-after-p n i)

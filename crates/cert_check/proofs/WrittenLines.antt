@@ -1,24 +1,19 @@
 -- The text that is written of a certificate reads as its lines.
-use Rattle.std.proofs.Common.{◌≡◌, ℕ, zero, suc, ◌+◌, ◌*◌, ◌<◌, ◌≤◌, inl, inr, List, [], ◌∷◌, ◌++◌, length, map, take, get_or, codes, ℤ, pos, None, refl, sym, ap, subst, ◌∙◌, append_assoc, arith}
-use Rattle.std.proofs.lemmas.List.{length-map, take_all, take_more, map-append, append-nil}
-use Rattle.std.specs.Prelude.{All}
-use Rattle.std.specs.List.{AllZip}
-use Rattle.std.specs.Fmt.{signed_decimal}
-use Rattle.csv.specs.Machine.{next_record}
-use Rattle.csv.specs.Reading.{Reached, AreRecords, default_config, strip_bom}
+use Rattle.cert_check.proofs.Common
+use Common.{[], ℕ, ℤ, ◌*◌, ◌++◌, ◌+◌, ◌<◌, ◌∙◌, ◌∷◌, ◌≡◌, All, AllZip, ap, append_assoc, AreRecords}
+use Common.{arith, basin_lines, bound_lines, Certificate, codes, default_config, ellipsoid_lines}
+use Common.{form_lines, get_or, inr, IsNumber, IsTextOf, IsVector, length, length-map, Line, line}
+use Common.{line_count, lines, lines_text, List, Machine, map, map-append, next_record, None}
+use Common.{ParsesAs, pos, Reached, refl, root_lines, row_lines, signed_decimal, state_count}
+use Common.{strip_bom, subst, suc, sym, take, take_all, take_more, zero}
+use Rattle.std.proofs.lemmas.List.{append-nil}
 use Rattle.csv.specs.Writing.{default_writer, row_text}
-use Rattle.csv.specs.declared.parser.State.TheVariants as st
 use Rattle.csv.proofs.RoundTrip.{read-write}
-use Rattle.qss_machine.specs.declared.compiled_machine.Machine.{Machine}
-use Rattle.qss_machine.specs.Machines.{state_count}
-use Rattle.cert_check.specs.declared.certificate.Certificate.{Certificate}
-use Rattle.cert_check.specs.CertificateLimits.{IsNumber, IsVector}
-use Rattle.cert_check.specs.CertificateLines.{Line, line, row_lines, lines, line_count, ParsesAs}
-use Rattle.cert_check.specs.Written.{fields_of_line, line_text, lines_text, form_lines, bound_lines, root_lines, basin_lines, ellipsoid_lines}
-use Rattle.cert_check.specs.CertificateTexts.{IsTextOf}
+use Rattle.cert_check.specs.Written.{fields_of_line, line_text}
 use Rattle.cert_check.proofs.Decimals.{numbers-decimal}
 use Rattle.cert_check.proofs.FieldPlaces.{length-layout}
 use Rattle.cert_check.proofs.Spelt.{due_of, line-dues}
+use Rattle.csv.specs.declared.parser.State.TheVariants as st
 
 pub text-append : (xs ys : List Line) → lines_text (xs ++ ys) ≡ lines_text xs ++ lines_text ys
 text-append [] ys = refl

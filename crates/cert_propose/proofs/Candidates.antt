@@ -1,40 +1,29 @@
 -- The numbers of a candidate are at most 2^126 in size, and its divisors are at least 1.
-use Rattle.std.proofs.Common.{◌≡◌, ℕ, zero, suc, ◌+◌, ◌*◌, ◌^◌, ◌<◌, ◌≤◌, List, [], length, ℤ, pos}
-use Rattle.std.proofs.Common.{neg_ℤ, ◌+ℤ◌, ◌*ℤ◌, ◌≤ℤ◌, ◌<ℤ◌, unsigned_abs, Option, Some, None, refl}
-use Rattle.std.proofs.Common.{sym, ap, subst, ◌∙◌, arith}
-use Rattle.std.specs.Prelude.{Ok}
-use Rattle.std.specs.Int.{int_max}
-use Rattle.std.specs.Option.{option_and_then, option_map}
-use Rattle.std.proofs.lemmas.Int.{ints, int_max_is}
-use Rattle.std.proofs.lemmas.List.FromFn.{get_or-map-range_with_len}
-use Rattle.mu_num.specs.Rounding.{ceiling_of, nearest_of}
-use Rattle.mu_num.specs.IndexedSums.{tabulate, sum_below, abs_of}
-use Rattle.cert_matrix.specs.Form.{Vector, Table}
-use Rattle.cert_matrix.specs.Matrix.{vector, table, zeros, weight}
+use Rattle.cert_propose.proofs.Common
+use Common.{[], ℕ, ℤ, ◌*ℤ◌, ◌*◌, ◌+ℤ◌, ◌+◌, ◌<◌, ◌^◌, ◌∙◌, ◌≡◌, ◌≤ℤ◌, ◌≤◌, abs_of, ap, arith, Basin}
+use Common.{basin_of, Bounds, bounds_of, candidate, ceiling_of, centre, centre_round, Ellipsoid}
+use Common.{ellipsoid_of, exponent, form_matrix, form_round, get_or-map-range_with_len, int_max}
+use Common.{ints, IsBound, IsNumber, IsSquareTable, IsVector, least, length, List, neg_ℤ, None}
+use Common.{Numbers, Ok, on_diagonal, Option, option_and_then, option_map, pos, quotient_at, ranged}
+use Common.{ranged_less, ranged_product, ranged_sizes, ranged_sum, refl, repeated, root_up_of}
+use Common.{shifted, Some, subst, suc, sum_below, sym, System, Table, table, tabulate, unsigned_abs}
+use Common.{Vector, vector, vector_by, weight, zero, zeros}
+use Rattle.std.proofs.lemmas.Int.{int_max_is}
+use Rattle.mu_num.specs.Rounding.{nearest_of}
 use Rattle.cert_matrix.proofs.Order.{square-≥, mul-mono}
 use Rattle.cert_matrix.proofs.Totals.{total-≥}
-use Rattle.cert_check.specs.Inequalities.{System}
-use Rattle.cert_check.specs.CertificateLimits.{IsNumber, IsVector, IsSquareTable}
-use Rattle.cert_propose.specs.declared.candidate_bounds.Bounds.{Bounds}
 use Rattle.cert_propose.specs.declared.candidate_basin.Reach.{Reach}
-use Rattle.cert_propose.specs.declared.candidate_basin.Basin.{Basin}
-use Rattle.cert_propose.specs.declared.candidate_ellipsoid.Ellipsoid.{Ellipsoid}
-use Rattle.cert_propose.specs.declared.certificate_proposal.Numbers.{Numbers}
-use Rattle.cert_propose.specs.ProposalLimits.{IsBound, ArePositive, AreBounds, AreKept, IsReach}
-use Rattle.cert_propose.specs.ProposalLimits.{IsBasin, IsEllipsoid, AreFit}
-use Rattle.cert_propose.specs.RangedSums.{ranged, ranged_sizes, ranged_sum, ranged_product}
-use Rattle.cert_propose.specs.RangedSums.{ranged_less, products, differences, sums, rows_times}
-use Rattle.cert_propose.specs.RangedSums.{sizes_times, product_of, vector_by, repeated, root_up_of}
-use Rattle.cert_propose.specs.Candidate.{raised, at_least_one, quotient_at, rate_of, least}
-use Rattle.cert_propose.specs.Candidate.{remaining_decrease, doubled, over_sizes, beside_diagonal}
-use Rattle.cert_propose.specs.Candidate.{decrease_of, falls_over, row_sizes, decrease_bounds}
-use Rattle.cert_propose.specs.Candidate.{bounds_from, bounds_of, rest_slopes, nearest_each, centre}
-use Rattle.cert_propose.specs.Candidate.{centre_round, on_diagonal, turned, next_form, form_matrix}
-use Rattle.cert_propose.specs.Candidate.{form_round, shifted, start_value, start_basin, roots_over}
-use Rattle.cert_propose.specs.Candidate.{ceiling_each, gains_over, moves_of, centre_gains}
-use Rattle.cert_propose.specs.Candidate.{reach_from, reach_of, sum_of, basin_round, basin_of}
-use Rattle.cert_propose.specs.Candidate.{grown_radius, pair_gains, ellipsoid_of, after_step}
-use Rattle.cert_propose.specs.Candidate.{candidate, exponent}
+use Rattle.cert_propose.specs.ProposalLimits.{ArePositive, AreBounds, AreKept, IsReach, IsBasin}
+use Rattle.cert_propose.specs.ProposalLimits.{IsEllipsoid, AreFit}
+use Rattle.cert_propose.specs.RangedSums.{products, differences, sums, rows_times, sizes_times}
+use Rattle.cert_propose.specs.RangedSums.{product_of}
+use Rattle.cert_propose.specs.Candidate.{raised, at_least_one, rate_of, remaining_decrease, doubled}
+use Rattle.cert_propose.specs.Candidate.{over_sizes, beside_diagonal, decrease_of, falls_over}
+use Rattle.cert_propose.specs.Candidate.{row_sizes, decrease_bounds, bounds_from, rest_slopes}
+use Rattle.cert_propose.specs.Candidate.{nearest_each, turned, next_form, start_value, start_basin}
+use Rattle.cert_propose.specs.Candidate.{roots_over, ceiling_each, gains_over, moves_of}
+use Rattle.cert_propose.specs.Candidate.{centre_gains, reach_from, reach_of, sum_of, basin_round}
+use Rattle.cert_propose.specs.Candidate.{grown_radius, pair_gains, after_step}
 use Rattle.cert_propose.proofs.Collected.{collected-length, collected-at}
 use Rattle.cert_propose.proofs.Small.{ranged-number, ranged_sizes-number, sum-number}
 use Rattle.cert_propose.proofs.Small.{product-number, less-number, floor-number, ceiling-number}

@@ -1,13 +1,9 @@
 -- Lists of elements that are all there.
-use Rattle.std.proofs.Common.{◌≡◌, ℕ, zero, suc, ◌+◌, ◌<◌, ◌≤◌, List, [], ◌∷◌, ◌++◌, length, map}
-use Rattle.std.proofs.Common.{get_or, ℤ, pos, Option, Some, None, All, refl, sym, ap, ◌∙◌, subst}
-use Rattle.std.proofs.Common.{arith}
-use Rattle.std.specs.Option.{option_map, option_and_then}
-use Rattle.std.specs.List.{range_with_len}
-use Rattle.std.proofs.lemmas.List.FromFn.{length-map-range_with_len, map-range_with_len_more}
-use Rattle.mu_num.specs.IndexedSums.{tabulate}
-use Rattle.cert_matrix.specs.Matrix.{table, vector, IsSquare}
-use Rattle.cert_propose.specs.RangedSums.{collected, vector_by, table_by}
+use Rattle.cert_propose.proofs.Common
+use Common.{[], ℕ, ℤ, ◌++◌, ◌+◌, ◌<◌, ◌∙◌, ◌∷◌, ◌≡◌, ap, arith, collected, get_or, IsSquare, length}
+use Common.{length-map-range_with_len, List, map, map-range_with_len_more, None, Option}
+use Common.{option_and_then, option_map, pos, range_with_len, refl, Some, subst, suc, sym, table}
+use Common.{table_by, tabulate, vector_by, zero}
 
 -- one more at the end
 snoc : {X : Type 0} (os : List (Option X)) (o : Option X) (xs : List X) (x : X) → collected os ≡ Some xs → o ≡ Some x → collected (os ++ o ∷ []) ≡ Some (xs ++ x ∷ [])

@@ -1,8 +1,9 @@
 -- Rows of a matrix that are written entry by entry.
-use Rattle.std.proofs.Common.{◌≡◌, ◌≢◌, ℕ, ◌+◌, ◌<◌, ◌⊎◌, inl, inr, List, length, ℤ, Option, Some}
-use Rattle.std.proofs.Common.{refl, sym, ap, ◌∙◌, arith}
+use Rattle.cert_propose.proofs.Common
+use Common.{ℕ, ℤ, ◌+◌, ◌<◌, ◌∙◌, ◌≡◌, ◌≢◌, ◌⊎◌, ap, arith, inl, inr, IsSquare, length, List, Option}
+use Common.{Some, sym, table}
 use Rattle.std.proofs.lemmas.Bool.{cases_eq}
-use Rattle.cert_matrix.specs.Matrix.{table, with_entry, IsSquare}
+use Rattle.cert_matrix.specs.Matrix.{with_entry}
 use Rattle.cert_matrix.proofs.Rows.{changed-at, changed-beside}
 
 -- one more entry, which is there

@@ -1,17 +1,12 @@
 -- The first number that passes.
-use Rattle.std.proofs.Common.{◌≡◌, ℕ, zero, suc, ◌+◌, ◌*◌, ◌^◌, ◌<◌, ◌≤◌, Bool, true, false, not}
-use Rattle.std.proofs.Common.{◌&&◌, List, [], ◌∷◌, length, ℤ, pos, ◌+ℤ◌, ◌*ℤ◌, ◌≤ℤ◌, ◌<ℤ◌, ◌⊎◌, inl}
-use Rattle.std.proofs.Common.{inr, Option, Some, None, refl, sym, ap, ap₂, subst, ◌∙◌, arith}
-use Rattle.std.specs.Prelude.{position, int_le}
-use Rattle.std.specs.List.{list_all, range_with_len, position_or_len}
-use Rattle.std.proofs.lemmas.Bool.{cases_lt, lt-ltb, le-ltb}
-use Rattle.std.proofs.lemmas.Int.{ints}
-use Rattle.std.proofs.lemmas.Nat.{pow_below}
+use Rattle.cert_propose.proofs.Common
+use Common.{[], ℕ, ℤ, ◌*ℤ◌, ◌+ℤ◌, ◌+◌, ◌<ℤ◌, ◌<◌, ◌^◌, ◌≡◌, ◌≤◌, ◌⊎◌, abs_of, arith, Bool, cases_lt}
+use Common.{false, inl, inr, int_le, ints, le-ltb, lt-ltb, None, pos, pow_below, range_with_len}
+use Common.{ranged_sizes, refl, Some, subst, suc, sum_below, true, Vector, weight, zero}
+use Rattle.std.proofs.Common.{◌&&◌}
+use Rattle.std.specs.Prelude.{position}
+use Rattle.std.specs.List.{list_all, position_or_len}
 use Rattle.std.proofs.lemmas.List.FromFn.{length-range_with_len}
-use Rattle.mu_num.specs.IndexedSums.{sum_below, abs_of}
-use Rattle.cert_matrix.specs.Form.{Vector, Table}
-use Rattle.cert_matrix.specs.Matrix.{weight}
-use Rattle.cert_propose.specs.RangedSums.{ranged_sizes}
 use Rattle.cert_propose.proofs.Ranges.{within}
 
 pub all-pass : (test : ℕ → Bool) (a n : ℕ) → ((k : ℕ) → k < n → test (a + k) ≡ true) → list_all test (range_with_len a n) ≡ true

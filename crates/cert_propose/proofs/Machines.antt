@@ -1,7 +1,5 @@
 -- What is known of the numbers of a machine.
-use Rattle.std.proofs.Common.{◌≡◌, ℕ, ◌<◌, ◌≤◌, List, [], length, ℤ, pos, ◌≤ℤ◌, refl, sym, ap, ◌∙◌}
-use Rattle.std.proofs.Common.{arith}
-use Rattle.std.proofs.lemmas.Int.{ints}
+use Rattle.cert_propose.proofs.Common.{[], ◌<◌, ◌≤ℤ◌, AreSmall, arith, ints, IsVector, length, pos}
 use Rattle.std.proofs.lemmas.List.{length-map, get_or-map}
 use Rattle.mu_num.specs.Sizes.{IsWithin}
 use Rattle.qss_machine.specs.declared.machine_parts.StateInfo.{StateInfo}
@@ -10,13 +8,9 @@ use Rattle.qss_machine.specs.Machines.{state_count, start_states, quanta, start_
 use Rattle.qss_machine.specs.Slopes.{mode_coefficient}
 use Rattle.qss_machine.proofs.ModeTests.{fits_at}
 use Rattle.qss_machine.proofs.Near.{unit_positive}
-use Rattle.cert_matrix.specs.Matrix.{table}
-use Rattle.cert_check.specs.Inequalities.{System}
-use Rattle.cert_check.specs.CertificateLimits.{IsVector}
-use Rattle.cert_check.specs.Systems.{system_of, start_matrix}
+use Rattle.cert_check.specs.Systems.{system_of}
 use Rattle.cert_check.proofs.Join.{entry-at}
 use Rattle.cert_check.proofs.Starts as Starts
-use Rattle.cert_propose.specs.ProposalLimits.{AreSmall}
 
 pub starts-fit : (m : Machine) → IsVector (state_count m) (start_states m)
 starts-fit m = record {

@@ -1,7 +1,7 @@
 -- What made an answer of steps that may give nothing.
-use Rattle.std.proofs.Common.{◌≡◌, Option, Some, None, refl}
-use Rattle.std.specs.Prelude.{Result, Ok, Err, IfErr}
-use Rattle.std.specs.Option.{option_map, option_and_then}
+use Rattle.cert_propose.proofs.Common
+use Common.{◌≡◌, None, Ok, Option, option_and_then, option_map, refl, Some}
+use Rattle.std.specs.Prelude.{Result, Err, IfErr}
 
 pub then-of : {X Y : Type 0} (f : X → Option Y) (o : Option X) (r : Y) → option_and_then f o ≡ Some r → (x : X) × (o ≡ Some x) × (f x ≡ Some r)
 then-of f None r h = absurd (cc)

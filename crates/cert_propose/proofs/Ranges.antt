@@ -1,13 +1,7 @@
 -- Sums in range and out of range.
-use Rattle.std.proofs.Common.{◌≡◌, ℕ, ◌+◌, ◌*◌, ◌^◌, ◌<◌, ◌≤◌, Bool, true, false, nat_le, le-leb}
-use Rattle.std.proofs.Common.{if◌then◌else◌, ℤ, pos, ◌+ℤ◌, ◌*ℤ◌, unsigned_abs, Option, Some, None}
-use Rattle.std.proofs.Common.{refl, ap, ◌∙◌, arith}
-use Rattle.std.proofs.lemmas.Bool.{lt-leb}
-use Rattle.std.proofs.lemmas.Int.{ints}
-use Rattle.mu_num.specs.IndexedSums.{abs_of}
-use Rattle.cert_matrix.specs.Form.{Vector}
-use Rattle.cert_matrix.specs.Matrix.{weight}
-use Rattle.cert_propose.specs.RangedSums.{where_in_range, ranged, ranged_sizes}
+use Rattle.cert_propose.proofs.Common
+use Common.{ℕ, ℤ, ◌<◌, ◌^◌, ◌≡◌, ◌≤◌, arith, Bool, false, if◌then◌else◌, le-leb, lt-leb, nat_le}
+use Common.{None, refl, Some, true, where_in_range}
 
 pub within : (w : ℕ) (z : ℤ) → w ≤ 2 ^ 126 → where_in_range w z ≡ Some z
 within w z h = rw (le-leb w (2 ^ 126) h) refl

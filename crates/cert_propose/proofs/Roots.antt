@@ -1,12 +1,11 @@
 -- The root that is found bit by bit.
-use Rattle.std.proofs.Common.{◌≡◌, ℕ, zero, suc, ◌+◌, ◌*◌, ◌^◌, ◌<◌, ◌≤◌, ◌⊎◌, inl, inr, nat_lt}
-use Rattle.std.proofs.Common.{nat_le, le-leb, if◌then◌else◌, ℤ, pos, ◌≤ℤ◌, unsigned_abs, refl, sym}
-use Rattle.std.proofs.Common.{ap, subst, ◌∙◌, arith}
+use Rattle.cert_propose.proofs.Common
+use Common.{ℕ, ℤ, ◌*◌, ◌+◌, ◌<◌, ◌^◌, ◌≡◌, ◌≤ℤ◌, ◌≤◌, ◌⊎◌, arith, cases_lt, if◌then◌else◌, inl, inr}
+use Common.{ints, le-leb, le-ltb, lt-leb, lt-ltb, nat_le, pos, root_below, root_up_of, suc}
+use Common.{unsigned_abs, zero}
+use Rattle.std.proofs.Common.{nat_lt}
 use Rattle.std.proofs.Math.Nat.{pow-suc, mul-le-mul}
-use Rattle.std.proofs.lemmas.Bool.{cases_lt, lt-ltb, le-ltb, lt-leb}
-use Rattle.std.proofs.lemmas.Int.{ints}
 use Rattle.mu_num.specs.Roots.{IsRootUp}
-use Rattle.cert_propose.specs.RangedSums.{root_below, root_up_of}
 
 square-≤ : (a b : ℕ) → a ≤ b → a * a ≤ b * b
 square-≤ a b h = mul-le-mul h h

@@ -1,26 +1,21 @@
 -- Numbers that are at most 2^126 in size.
-use Rattle.std.proofs.Common.{◌≡◌, ℕ, zero, suc, ◌+◌, ◌*◌, ◌^◌, ◌<◌, ◌≤◌, ◌⊎◌, inl, inr, Bool, true}
-use Rattle.std.proofs.Common.{false, List, [], length, get_or, replicate, ℤ, pos, neg_ℤ, ◌+ℤ◌, ◌-ℤ◌}
-use Rattle.std.proofs.Common.{◌*ℤ◌, ◌≤ℤ◌, ◌<ℤ◌, unsigned_abs, Option, Some, All, refl, sym, ap}
-use Rattle.std.proofs.Common.{subst, ◌∙◌, arith}
+use Rattle.cert_propose.proofs.Common
+use Common.{[], ℕ, ℤ, ◌*ℤ◌, ◌*◌, ◌+ℤ◌, ◌+◌, ◌-ℤ◌, ◌<ℤ◌, ◌<◌, ◌≡◌, ◌≤ℤ◌, ◌≤◌, abs_of, arith, Bool}
+use Common.{ceiling_of, false, get_or, get_or-map-range_with_len, int_max, ints, IsNumber}
+use Common.{IsSquareTable, IsVector, least, length-map-range_with_len, List, neg_ℤ, Option, pos}
+use Common.{ranged, ranged_less, ranged_product, ranged_sizes, ranged_sum, refl, Some, subst, suc}
+use Common.{sum_below, sym, table_by, tabulate, true, unsigned_abs, Vector, vector, vector_by}
+use Common.{weight, where_in_range, zero, zeros}
+use Rattle.std.proofs.Common.{replicate}
 use Rattle.std.specs.Prelude.{int_lt, cond}
-use Rattle.std.specs.Int.{int_max, int_min}
-use Rattle.std.proofs.lemmas.Int.{ints, by_lt_z, unsigned_abs-mul}
+use Rattle.std.specs.Int.{int_min}
+use Rattle.std.proofs.lemmas.Int.{by_lt_z, unsigned_abs-mul}
 use Rattle.std.proofs.lemmas.List.{length-replicate, get_or-replicate}
-use Rattle.std.proofs.lemmas.List.FromFn.{length-map-range_with_len, get_or-map-range_with_len}
 use Rattle.std.proofs.lemmas.List.FromFn.{fill_by_all}
-use Rattle.mu_num.specs.Rounding.{floor_of, ceiling_of}
+use Rattle.mu_num.specs.Rounding.{floor_of}
 use Rattle.mu_num.proofs.Quotients.{floor_meets}
-use Rattle.mu_num.specs.IndexedSums.{tabulate, sum_below, abs_of}
-use Rattle.cert_matrix.specs.Form.{Vector}
-use Rattle.cert_matrix.specs.Matrix.{weight, vector, table, zeros}
 use Rattle.cert_matrix.proofs.Order.{mul-≥}
 use Rattle.cert_matrix.proofs.Ring.{expand}
-use Rattle.cert_check.specs.CertificateLimits.{IsNumber, IsVector, IsSquareTable}
-use Rattle.cert_propose.specs.RangedSums.{where_in_range, ranged, ranged_sizes, ranged_sum}
-use Rattle.cert_propose.specs.RangedSums.{ranged_product, ranged_less, collected, vector_by}
-use Rattle.cert_propose.specs.RangedSums.{table_by}
-use Rattle.cert_propose.specs.Candidate.{least}
 use Rattle.cert_propose.proofs.Collected.{collected-at, collected-length}
 use Rattle.cert_propose.proofs.Ranges.{kept}
 

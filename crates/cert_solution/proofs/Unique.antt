@@ -1,26 +1,15 @@
 -- The initial value problem of a machine has one solution only.
-use Rattle.std.proofs.Common.{◌≡◌, ℕ, zero, suc, ◌+◌, ◌*◌, ◌^◌, ◌<◌, ◌≤◌, List, ℤ, pos, ◌+ℤ◌, ◌-ℤ◌}
-use Rattle.std.proofs.Common.{◌*ℤ◌, ◌≤ℤ◌, ◌<ℤ◌, refl, subst, sym, ap, ◌∙◌, arith, add-one}
-use Rattle.std.proofs.Math.Nat.{pow-suc, pow-zero, one-le-pow, pow-le-pow_left, mul-le-mul_left}
-use Rattle.std.proofs.Math.Nat.{mul-le-mul_right}
-use Rattle.std.proofs.Math.IntN.{zero-*ℤ}
-use Rattle.std.proofs.lemmas.Int.{ints}
-use Rattle.std.proofs.lemmas.Nat.{mul-le, pow_pos}
-use Rattle.mu_num.specs.Fraction.{Fraction, IsSameValue, whole, sum, difference, product}
-use Rattle.qss_machine.specs.declared.compiled_machine.Machine.{Machine}
-use Rattle.mu_num.specs.IndexedSums.{int_at, abs_of}
-use Rattle.qss_machine.specs.Machines.{state_count, level_unit}
-use Rattle.qss_machine.specs.Legitimate.{scaled_slope}
-use Rattle.cert_matrix.proofs.Ring.{expand}
-use Rattle.cert_matrix.proofs.Order.{mul-≥, mul->, mul-mono, mul-cancel}
-use Rattle.mu_num.proofs.Integers.{one-mul}
-use Rattle.cert_solution.specs.Euler.{unit_of, step_refinement, euler}
-use Rattle.cert_solution.specs.StateValues.{DifferByAtMost, reciprocal, euler_value, euler_slope}
-use Rattle.cert_solution.specs.Solutions.{SolutionIsWithin, TimeFunction, approximation}
-use Rattle.cert_solution.specs.Solutions.{approximate_slope}
-use Rattle.cert_solution.specs.Solutions.{SolvesInitialValueProblem, SolutionIsUnique, steps_for}
-use Rattle.cert_solution.specs.Solutions.{solution}
-use Rattle.cert_solution.specs.Rates.{stiffness, growth, slope_rate}
+use Rattle.cert_solution.proofs.Common
+use Common.{ℕ, ℤ, ◌*ℤ◌, ◌*◌, ◌+ℤ◌, ◌+◌, ◌-ℤ◌, ◌<ℤ◌, ◌<◌, ◌^◌, ◌∙◌, ◌≡◌, ◌≤ℤ◌, ◌≤◌, abs_of, add-one}
+use Common.{ap, approximation, arith, DifferByAtMost, difference, euler, euler_slope, euler_value}
+use Common.{expand, Fraction, growth, int_at, ints, level_unit, List, Machine, mul->, mul-cancel}
+use Common.{mul-le, mul-le-mul_left, mul-le-mul_right, mul-mono, mul-≥, one-le-pow, one-mul, pos}
+use Common.{pow-le-pow_left, pow-suc, pow-zero, pow_pos, product, reciprocal, refl, scaled_slope}
+use Common.{slope_rate, SolutionIsWithin, state_count, step_refinement, steps_for, stiffness, subst}
+use Common.{suc, sum, sym, unit_of, whole, zero, zero-*ℤ}
+use Rattle.mu_num.specs.Fraction.{IsSameValue}
+use Rattle.cert_solution.specs.Solutions.{TimeFunction, approximate_slope}
+use Rattle.cert_solution.specs.Solutions.{SolvesInitialValueProblem, SolutionIsUnique, solution}
 use Rattle.cert_solution.proofs.Growth.{growth_positive, power_growth}
 use Rattle.cert_solution.proofs.Within.{size-product, triangle, turned, wider}
 use Rattle.cert_solution.proofs.Affine.{nat-≥}

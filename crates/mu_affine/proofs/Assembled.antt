@@ -1,19 +1,10 @@
 -- The computed lists are the lists of the machine of a flat model.
-use Rattle.std.proofs.Common.{◌≡◌, ℕ, List, length, take, map, ℤ, pos, sym, ◌∙◌, ap, subst, None}
-use Rattle.std.specs.Prelude.{All}
-use Rattle.mu_affine.specs.declared.exact_form.ExactForm.{ExactForm}
-use Rattle.mu_tree.specs.declared.flat.Settings.{Settings}
-use Rattle.mu_tree.specs.FlatExpression.{FlatModelTree}
-use Rattle.qss_machine.specs.declared.machine_parts.StateInfo.{StateInfo}
-use Rattle.qss_machine.specs.declared.machine_parts.DiscreteInfo.{DiscreteInfo}
-use Rattle.qss_machine.specs.declared.machine_parts.SlopeRow.{SlopeRow}
-use Rattle.qss_machine.specs.declared.machine_parts.ClauseInfo.{ClauseInfo}
-use Rattle.qss_machine.specs.declared.compiled_machine.Machine.{Machine}
-use Rattle.qss_machine.specs.MachineLimits.{AreVariables, AreRows, AreClauses}
-use Rattle.mu_affine.specs.Rounded.{rounded_row, rounded_state, rounded_discrete}
-use Rattle.mu_affine.specs.FormPlaces.{state_count, states_of, discretes_of, clauses_of}
-use Rattle.mu_affine.specs.MachineChecks.{bits_of, last_of, machine_fault}
-use Rattle.mu_affine.specs.RoundedMachines.{IsRightSide, IsMachineOf}
+use Rattle.mu_affine.proofs.Common
+use Common.{ℕ, ℤ, ◌∙◌, ◌≡◌, All, ap, AreClauses, AreRows, AreVariables, bits_of, ClauseInfo}
+use Common.{clauses_of, DiscreteInfo, discretes_of, ExactForm, FlatModelTree, IsMachineOf}
+use Common.{IsRightSide, last_of, length, List, Machine, machine_fault, map, None, pos}
+use Common.{rounded_discrete, rounded_row, rounded_state, Settings, SlopeRow, state_count}
+use Common.{StateInfo, states_of, subst, sym, take}
 
 -- right sides with a states and b discrete variables
 pub right_sides_for : (n g a b : ℕ) (xs ys : List ExactForm) → a ≡ n → b ≡ g → xs ≡ ys → All (IsRightSide n g) ys → All (IsRightSide a b) xs

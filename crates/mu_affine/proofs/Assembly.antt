@@ -1,35 +1,20 @@
 -- Where no check fails, the numbers are those of a machine.
-use Rattle.std.proofs.Common.{◌≡◌, ℕ, ◌+◌, ◌^◌, ◌≤◌, ◌<◌, Bool, true, false, not, ◌&&◌, ◌-◌, List}
-use Rattle.std.proofs.Common.{[], length, get_or, drop, map, ℤ, pos, ◌≤ℤ◌, sym, ◌∙◌, ap, subst}
-use Rattle.std.proofs.Common.{arith, inl, inr}
-use Rattle.std.proofs.lemmas.Int.{ints}
-use Rattle.std.proofs.lemmas.Bool.{and_parts, and_from, or_cases, le-leb, lt-ltb}
-use Rattle.std.proofs.lemmas.List.{length-map, length-drop, get_or-drop}
-use Rattle.std.proofs.lemmas.List.Elements.{All-map}
-use Rattle.std.specs.Int.RustNames.{int_le}
-use Rattle.std.specs.Prelude.{All, IsTrue, sum_by, nat_lt, nat_le}
-use Rattle.std.specs.List.Sorted.{IsNonDecreasing}
-use Rattle.mu_num.specs.Fraction.{whole}
-use Rattle.mu_num.specs.Sizes.{IsWithin, exceeds}
-use Rattle.mu_affine.specs.declared.exact_form.ExactForm.{ExactForm}
-use Rattle.mu_tree.specs.FlatExpression.{FlatVariable, FlatAction, Assign, Restart, FlatBranchTree}
-use Rattle.mu_tree.specs.FlatModels.{rank, IsFlatAction, IsFlatBranch, IsFlatClause}
-use Rattle.qss_machine.specs.declared.machine_parts.SlopeRow.{SlopeRow}
-use Rattle.qss_machine.specs.declared.machine_parts.StateInfo.{StateInfo}
-use Rattle.qss_machine.specs.declared.machine_parts.DiscreteInfo.{DiscreteInfo}
-use Rattle.qss_machine.specs.declared.machine_parts.BranchInfo.{BranchInfo}
-use Rattle.qss_machine.specs.declared.machine_parts.ClauseInfo.{ClauseInfo}
-use Rattle.qss_machine.specs.MachineLimits.{IsRow, IsForm, IsAction, IsBranch, IsClause, AreClauses}
-use Rattle.qss_machine.specs.MachineLimits.{AreRows, AreVariables, IsStateInfo}
+use Rattle.mu_affine.proofs.Common
+use Common.{[], ℕ, ℤ, ◌&&◌, ◌+◌, ◌-◌, ◌<◌, ◌^◌, ◌∙◌, ◌≡◌, ◌≤ℤ◌, ◌≤◌, action_of, All, All-map}
+use Common.{and_from, and_parts, ap, AreClauses, AreNamed, AreRows, AreVariables, arith, Assign}
+use Common.{Bool, branch_forms, branch_of, BranchInfo, clause_forms, clause_of, ClauseInfo}
+use Common.{clauses_of, discrete_count, DiscreteInfo, drop, ExactForm, exceeds, false, FlatAction}
+use Common.{FlatBranchTree, FlatVariable, form_at, form_fits, get_or, inl, inr, int_le, ints}
+use Common.{is_quantum, is_start, is_value, IsFlatAction, IsFlatBranch, IsFlatClause, IsForm}
+use Common.{IsNonDecreasing, IsRightSide, IsRow, IsTrue, IsWithin, length, length-drop, length-map}
+use Common.{List, map, nat_le, nat_lt, not, pos, rank, Restart, rounded, rounded_discrete}
+use Common.{rounded_down, rounded_form, rounded_row, rounded_state, row_fits, row_fits_at_start}
+use Common.{SlopeRow, start_level, state_count, StateInfo, subst, sum_by, sym, true, whole}
+use Rattle.std.proofs.lemmas.Bool.{or_cases, le-leb, lt-ltb}
+use Rattle.std.proofs.lemmas.List.{get_or-drop}
+use Rattle.qss_machine.specs.MachineLimits.{IsAction, IsBranch, IsClause, IsStateInfo}
 use Rattle.mu_num.specs.Levels.{level_below}
 use Rattle.qss_machine.specs.Slopes.{mode_fits, weight_of}
-use Rattle.mu_affine.specs.Rounded.{rounded, rounded_down, rounded_row, rounded_form, rounded_state}
-use Rattle.mu_affine.specs.Rounded.{rounded_discrete}
-use Rattle.mu_affine.specs.FormPlaces.{state_count, discrete_count, branch_forms, clause_forms}
-use Rattle.mu_affine.specs.FormPlaces.{form_at, action_of, branch_of, clause_of, clauses_of}
-use Rattle.mu_affine.specs.MachineChecks.{is_start, is_value, is_quantum, start_level, row_fits}
-use Rattle.mu_affine.specs.MachineChecks.{row_fits_at_start, form_fits}
-use Rattle.mu_affine.specs.RoundedMachines.{AreNamed, IsRightSide}
 use Rattle.mu_affine.proofs.Turns.{map_twice}
 use Rattle.mu_affine.proofs.RowLaws.{row_is, form_is, within}
 use Rattle.mu_affine.proofs.Placing.{ones, placed_all, placed_length, placed_sum}

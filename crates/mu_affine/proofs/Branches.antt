@@ -1,15 +1,11 @@
 -- Branches and clauses, field by field.
-use Rattle.std.proofs.Common.{◌≡◌, ℕ, ◌+◌, List, ◌∙◌, ap}
-use Rattle.mu_affine.specs.declared.exact_form.ExactForm.{ExactForm}
-use Rattle.mu_tree.specs.FlatExpression.{FlatBranchTree}
+use Rattle.mu_affine.proofs.Common
+use Common.{ℕ, ◌+◌, ◌∙◌, ◌≡◌, actions_of, ap, branch_forms, branch_of, BranchInfo, clause_of}
+use Common.{ClauseInfo, ExactForm, FlatBranchTree, form_at, List, placed, rounded_form}
 use Rattle.qss_machine.specs.declared.machine_parts.Rel.{Rel}
 use Rattle.qss_machine.specs.declared.machine_parts.Form.{Form}
 use Rattle.qss_machine.specs.declared.machine_parts.Action.{Action}
-use Rattle.qss_machine.specs.declared.machine_parts.BranchInfo.{BranchInfo}
-use Rattle.qss_machine.specs.declared.machine_parts.ClauseInfo.{ClauseInfo}
-use Rattle.mu_affine.specs.Rounded.{rounded_form}
-use Rattle.mu_affine.specs.FormPlaces.{form_at, rel_of, actions_of, branch_of, branch_forms}
-use Rattle.mu_affine.specs.FormPlaces.{clause_of, placed}
+use Rattle.mu_affine.specs.FormPlaces.{rel_of}
 
 abbrev branch_with : Form → Rel → List Action → BranchInfo
 branch_with form rel actions = record { condition = record { form = form; rel = rel }; actions = actions }

@@ -1,20 +1,15 @@
 -- What a flat model gives for the walk of its expressions: its variables in order, and their numbers.
-use Rattle.std.proofs.Common.{◌≡◌, ◌+◌, ◌^◌, ◌<◌, ◌≤◌, ℕ, List, [], ◌∷◌, length, map, refl, ap, sym}
-use Rattle.std.proofs.Common.{subst, arith, Bool, true, false}
-use Rattle.std.specs.Prelude.{Some, IsTrue, slice_get, slice_index_or}
-use Rattle.std.specs.List.Sorted.{IsNonDecreasing}
-use Prim.Native.Nat.{zero, suc}
-use Rattle.mu_tree.specs.declared.flat.FlatRole.TheVariants.{State, Discrete, Algebraic}
-use Rattle.mu_tree.specs.FlatExpression.{FlatExpression, Constant, Variable, Previous, Now, Sum}
-use Rattle.mu_tree.specs.FlatExpression.{Product, Power, FlatTerms, no_terms, term, FlatFactors}
-use Rattle.mu_tree.specs.FlatExpression.{no_factors, factor, FlatVariable, FlatEquationTree}
-use Rattle.mu_tree.specs.FlatExpression.{FlatAction, Assign, Restart, FlatBranchTree, FlatModelTree}
-use Rattle.mu_tree.specs.FlatModels.{HasRole, IsFlatExpression, AreFlatTerms, AreFlatFactors}
-use Rattle.mu_tree.specs.FlatModels.{IsFlatEquation, IsFlatAction, IsFlatBranch, IsFlatModel, rank}
-use Rattle.mu_affine.specs.declared.exact_form.Place.{Place}
-use Rattle.mu_affine.specs.Solution.{count_of_role, sizes_of}
-use Rattle.mu_affine.specs.KeptForms.{equation_place, clause_place}
-use Rattle.mu_affine.specs.Walks.{IsNumbered, AreNumbered, AreNumberedFactors, IsNumberedAction}
+use Rattle.mu_affine.proofs.Common
+use Common.{[], ℕ, ◌+◌, ◌<◌, ◌^◌, ◌∷◌, ◌≡◌, ◌≤◌, Algebraic, ap, AreFlatFactors, AreFlatTerms}
+use Common.{AreNumbered, AreNumberedFactors, arith, Assign, Bool, clause_place, Constant}
+use Common.{count_of_role, Discrete, equation_place, factor, false, FlatAction, FlatBranchTree}
+use Common.{FlatEquationTree, FlatExpression, FlatFactors, FlatModelTree, FlatTerms, FlatVariable}
+use Common.{get_or as slice_index_or, IsFlatAction, IsFlatBranch, IsFlatEquation, IsFlatExpression}
+use Common.{IsFlatModel, IsNonDecreasing, IsNumbered, IsNumberedAction, IsTrue, length, List, map}
+use Common.{no_factors, no_terms, Now, Place, Power, Previous, rank, refl, Restart, sizes_of}
+use Common.{slice_get, Some, State, subst, suc, Sum, sym, term, true, Variable, zero}
+use Rattle.mu_tree.specs.FlatExpression.{Product}
+use Rattle.mu_tree.specs.FlatModels.{HasRole}
 
 -- the rank of a variable
 abbrev rank_of : FlatVariable → ℕ

@@ -1,16 +1,10 @@
 -- When a form is in range, and when one of its numbers is not.
-use Rattle.std.proofs.Common.{◌≡◌, ◌∙◌, ◌<◌, ◌≤◌, ◌+◌, ℕ, refl, ap, arith, inl, inr, Bool, true}
-use Rattle.std.proofs.Common.{false}
-use Rattle.std.specs.Prelude.{not, ◌&&◌, ◌||◌, Ok, Err}
-use Prim.Native.Nat.{zero, suc}
-use Rattle.std.proofs.Math.Path.{fun_ext}
-use Rattle.std.proofs.lemmas.Bool.{cases_Bool, cases_eq}
-use Rattle.mu_num.specs.declared.NumErr.{NumErr}
-use Rattle.mu_num.specs.declared.NumErr.TheVariants.{Range}
-use Rattle.mu_num.specs.Fraction.{Fraction, lowest, checked, is_small}
-use Rattle.mu_affine.specs.declared.exact_form.Sizes.{Sizes}
-use Rattle.mu_affine.specs.AffineForm.{AffineForm, any_from, is_in_range, lowest_form, checked_form}
-use Rattle.mu_affine.specs.FinishedForms.{IsName, IsPair}
+use Rattle.mu_affine.proofs.Common
+use Common.{ℕ, ◌&&◌, ◌+◌, ◌<◌, ◌||◌, ◌∙◌, ◌≡◌, ◌≤◌, AffineForm, any_from, ap, arith, Bool}
+use Common.{cases_Bool, cases_eq, checked, checked_form, Err, false, Fraction, fun_ext, inl, inr}
+use Common.{is_small, IsName, IsPair, lowest, lowest_form, not, NumErr, Ok, Range, refl, Sizes, suc}
+use Common.{true, zero}
+use Rattle.mu_affine.specs.AffineForm.{is_in_range}
 use Rattle.mu_affine.proofs.Fractions.{passed, failed}
 
 -- a test that passes nowhere

@@ -1,16 +1,10 @@
 -- In a flat model the states come first and the discrete variables next.
-use Rattle.std.proofs.Common.{◌≡◌, ℕ, zero, suc, ◌+◌, ◌≤◌, ◌<◌, Bool, cond, List, [], ◌∷◌, length}
-use Rattle.std.proofs.Common.{get_or, map, refl, ◌∙◌, ap, arith, Some}
-use Rattle.std.proofs.lemmas.List.{get_or-map, length-map}
-use Rattle.std.proofs.lemmas.List.Elements.{All-head, All-tail}
-use Rattle.std.proofs.lemmas.List.Sums.{sum_by-cons}
-use Rattle.std.specs.Prelude.{All, slice_get}
-use Rattle.std.specs.List.Sorted.{IsNonDecreasing}
-use Rattle.mu_tree.specs.declared.flat.FlatRole.{FlatRole}
-use Rattle.mu_tree.specs.declared.flat.FlatRole.TheVariants.{State, Discrete, Algebraic}
-use Rattle.mu_tree.specs.FlatExpression.{FlatVariable}
-use Rattle.mu_tree.specs.FlatModels.{rank}
-use Rattle.mu_affine.specs.FormPlaces.{is_state, is_discrete, state_count, discrete_count}
+use Rattle.mu_affine.proofs.Common
+use Common.{[], ℕ, ◌+◌, ◌<◌, ◌∙◌, ◌∷◌, ◌≡◌, ◌≤◌, Algebraic, All, All-head, All-tail, ap, arith}
+use Common.{Bool, cond, Discrete, discrete_count, FlatRole, FlatVariable, get_or, get_or-map}
+use Common.{IsNonDecreasing, length, length-map, List, map, rank, refl, slice_get, Some, State}
+use Common.{state_count, suc, sum_by-cons, zero}
+use Rattle.mu_affine.specs.FormPlaces.{is_state, is_discrete}
 
 abbrev one_if : Bool → ℕ
 one_if b = cond b 1 0

@@ -1,15 +1,10 @@
 -- The form of a condition: a sum that begins with the left side, from which the right side is taken.
-use Rattle.std.proofs.Common.{◌≡◌, ◌∙◌, ℕ, refl, sym, ap, arith, false, map}
-use Rattle.std.specs.Prelude.{Ok, Err}
-use Rattle.std.specs.Ordering.{nat_cmp}
-use Rattle.mu_num.specs.Fraction.{Fraction, IsReduced, sum, checked}
-use Rattle.mu_affine.specs.declared.exact_form.Place.{Place}
-use Rattle.mu_affine.specs.declared.exact_form.ExactForm.{ExactForm}
-use Rattle.mu_affine.specs.AffineForm.{AffineForm, none, constant_form, combined}
-use Rattle.mu_affine.specs.FormRows.{named, paired, pair_cmp, joined, AreReduced}
-use Rattle.mu_affine.specs.FinishedForms.{form_meaning, IsFinished}
-use Rattle.mu_affine.specs.FormParts.{placed, join_forms}
-use Rattle.mu_affine.specs.declared.affine_fault.AffineErr.{AffineErr}
+use Rattle.mu_affine.proofs.Common
+use Common.{ℕ, ◌∙◌, ◌≡◌, AffineErr, AffineForm, ap, AreReduced, arith, checked, combined}
+use Common.{constant_form, Err, ExactForm, false, form_meaning, Fraction, IsFinished, IsReduced}
+use Common.{join_forms, joined, map, named, nat_cmp, none, Ok, pair_cmp, paired, Place, refl, sum}
+use Common.{sym}
+use Rattle.mu_affine.specs.FormParts.{placed}
 use Rattle.mu_affine.proofs.Fractions.{checked_same, checked-reduced, lowest-zero_sum}
 use Rattle.mu_affine.proofs.Checks.{PassesAs, checked_form-passes}
 use Rattle.mu_affine.proofs.Sums.{AreReduced-finished}

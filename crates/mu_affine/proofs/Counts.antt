@@ -1,31 +1,14 @@
 -- How many coefficients a finished form has.
-use Rattle.std.proofs.Common.{◌≡◌, ◌∙◌, ◌<◌, ◌≤◌, ◌+◌, ◌^◌, ℕ, List, [], ◌∷◌, length, map, refl}
-use Rattle.std.proofs.Common.{sym, ap, cond, arith, inl, inr, Bool, true, false}
-use Rattle.std.specs.Prelude.{Some, unwrap_or, ◌≢◌, nat_lt, if◌then◌else◌, Ok, Err}
-use Rattle.std.specs.Ordering.{nat_cmp, is_eq}
-use Rattle.std.specs.declared.cmp.Ordering.{Ordering}
-use Rattle.std.specs.declared.cmp.Ordering.TheVariants.{Less, Equal, Greater}
-use Rattle.std.specs.List.{AllByRecursion}
-use Rattle.std.specs.BTreeMap.{is_at}
-use Rattle.std.specs.Map.{lookup, keys_of}
-use Prim.Native.Nat.{zero, suc}
-use Rattle.std.proofs.Math.Path.{fun_ext}
-use Rattle.std.proofs.lemmas.Bool.{cases_eq, cases_lt, false≢true}
-use Rattle.std.proofs.lemmas.Bool.Decides.{nat_tests}
-use Rattle.std.proofs.lemmas.List.{length-map}
-use Rattle.std.proofs.lemmas.Map.Keys.{sorted_head, sorted_tail}
-use Rattle.mu_num.specs.Fraction.{Fraction}
-use Rattle.mu_affine.specs.declared.affine_fault.AffineErr.{AffineErr}
-use Rattle.mu_affine.specs.declared.affine_fault.AffineErr.TheVariants.{TooDense}
-use Rattle.mu_affine.specs.declared.exact_form.Sizes.{Sizes}
-use Rattle.mu_affine.specs.declared.exact_form.Place.{Place}
-use Rattle.mu_affine.specs.declared.exact_form.ExactForm.{ExactForm}
-use Rattle.mu_affine.specs.AffineForm.{none, is_nonzero, count_from, sum_from, coefficient_count}
-use Rattle.mu_affine.specs.FormRows.{named, paired, pair_cmp, value_at}
-use Rattle.mu_affine.specs.FinishedForms.{form_meaning, IsPair, AreFinished, IsFinished}
+use Rattle.mu_affine.proofs.Common
+use Common.{[], ℕ, ◌+◌, ◌<◌, ◌^◌, ◌∙◌, ◌∷◌, ◌≡◌, ◌≢◌, ◌≤◌, AffineErr, AllByRecursion, ap}
+use Common.{AreFinished, arith, Bool, cases_eq, cases_lt, coefficient_count, cond, counted, Equal}
+use Common.{Err, ExactForm, false, false≢true, form_meaning, Fraction, fun_ext, Greater}
+use Common.{if◌then◌else◌, inl, inr, is_at, is_eq, is_nonzero, IsFinished, IsPair, keys_of, length}
+use Common.{length-map, Less, List, lookup, map, named, nat_cmp, nat_lt, nat_tests, none, Ok}
+use Common.{Ordering, pair_cmp, paired, Place, refl, Sizes, Some, sorted_head, sorted_tail, suc}
+use Common.{sym, TooDense, true, unwrap_or, value_at, with_more, zero}
+use Rattle.mu_affine.specs.AffineForm.{count_from, sum_from}
 use Rattle.mu_affine.proofs.RowForms.{IsKeyOrder, nat_order, pair_order, level_self}
-use Rattle.mu_affine.specs.FormSequence.{counted}
-use Rattle.mu_affine.specs.Takings.{with_more}
 
 -- a number that counts a test
 abbrev pub one_if : Bool → ℕ

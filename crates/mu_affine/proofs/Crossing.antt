@@ -1,28 +1,15 @@
 -- The product of a form of states and a form of discrete variables.
-use Rattle.std.proofs.Common.{◌≡◌, ◌∙◌, ◌<◌, ◌≤◌, ◌+◌, ℕ, List, [], ◌∷◌, map, refl, sym, ap, subst}
-use Rattle.std.proofs.Common.{arith, inl, inr, Bool, true, false}
-use Rattle.std.specs.Prelude.{Option, Some, None, unwrap_or, Result, Ok, Err, if◌then◌else◌, pos}
-use Rattle.std.specs.Ordering.{nat_cmp, is_eq}
-use Rattle.std.specs.declared.cmp.Ordering.{Ordering}
-use Rattle.std.specs.declared.cmp.Ordering.TheVariants.{Less, Equal, Greater}
-use Rattle.std.specs.List.{AllByRecursion}
-use Rattle.std.specs.BTreeMap.{is_at}
-use Rattle.std.specs.Map.{lookup}
-use Rattle.std.proofs.lemmas.Bool.{cases_Bool, cases_lt, false≢true}
-use Rattle.std.proofs.lemmas.Bool.Decides.{nat_tests}
-use Rattle.mu_num.specs.declared.NumErr.{NumErr}
-use Rattle.mu_num.specs.Fraction.{Fraction, product, sum, checked, lowest}
-use Rattle.mu_affine.specs.declared.exact_form.Sizes.{Sizes}
-use Rattle.mu_affine.specs.declared.exact_form.Place.{Place}
-use Rattle.mu_affine.specs.declared.exact_form.ExactForm.{ExactForm}
-use Rattle.mu_affine.specs.declared.form_sum.RunningForm.{RunningForm}
-use Rattle.mu_affine.specs.AffineForm.{none, is_nonzero, is_pair, product_form, checked_form}
-use Rattle.mu_affine.specs.FormRows.{named, paired, pair_cmp, value_at}
-use Rattle.mu_affine.specs.FinishedForms.{form_meaning, sum_meaning, IsPair, IsOver, IsFinished}
-use Rattle.mu_affine.specs.FinishedForms.{IsReducedSum}
-use Rattle.mu_affine.specs.Kinds.{IsOfStates, IsOfDiscretes}
-use Rattle.mu_affine.specs.ProductRows.{IsSet, IsPairSet, IsCrossed, ListFails, TableFails}
-use Rattle.mu_affine.specs.ProductRows.{CrossFails, OfStates, OfDiscretes, OfPairs, OfConstants}
+use Rattle.mu_affine.proofs.Common
+use Common.{[], ℕ, ◌+◌, ◌<◌, ◌∙◌, ◌∷◌, ◌≡◌, ◌≤◌, AllByRecursion, ap, arith, Bool, cases_Bool}
+use Common.{cases_lt, checked, checked_form, Equal, Err, ExactForm, false, false≢true, form_meaning}
+use Common.{Fraction, Greater, if◌then◌else◌, inl, inr, is_at, is_eq, is_nonzero, is_pair}
+use Common.{IsFinished, IsOfDiscretes, IsOfStates, IsOver, IsPair, IsPairSet, IsReducedSum, IsSet}
+use Common.{Less, List, ListFails, lookup, lowest, map, named, nat_cmp, nat_tests, None, none}
+use Common.{NumErr, Ok, Option, Ordering, pair_cmp, paired, Place, pos, product, product_form, refl}
+use Common.{Result, RunningForm, Sizes, Some, subst, sum, sum_meaning, sym, TableFails, true}
+use Common.{unwrap_or, value_at}
+use Rattle.mu_affine.specs.ProductRows.{IsCrossed, CrossFails, OfStates, OfDiscretes, OfPairs}
+use Rattle.mu_affine.specs.ProductRows.{OfConstants}
 use Rattle.mu_affine.proofs.Fractions.{positive_product, product-comm, lowest-zero, lowest-zero_sum}
 use Rattle.mu_affine.proofs.Fractions.{lowest-sum_zero, checked_same, checked-reduced}
 use Rattle.mu_affine.proofs.Fractions.{IsReduced-none, IsReduced-checked, zero_num}

@@ -1,20 +1,15 @@
 -- The right sides of equations by their variables.
-use Rattle.std.proofs.Common.{◌≡◌, ◌∙◌, ◌<◌, ◌≤◌, ◌+◌, ℕ, List, [], ◌∷◌, length, get_or, drop, map}
-use Rattle.std.proofs.Common.{set, replicate, add-one, refl, sym, ap, subst, arith, inl, inr, true}
-use Rattle.std.proofs.Common.{false}
-use Rattle.std.specs.Prelude.{option_map, Some, slice_get, ◌≢◌, All, nat_eq, if◌then◌else◌}
-use Prim.Native.Nat.{zero, suc}
-use Rattle.std.proofs.Math.Seq.{drop-cons, drop-length}
-use Rattle.std.proofs.lemmas.Bool.{cases_eq}
-use Rattle.std.proofs.lemmas.Bool.Decides.{nat_tests}
-use Rattle.std.proofs.lemmas.List.{length-map}
-use Rattle.std.proofs.lemmas.Option.{slice_get-get_or, slice_get-map, slice_get_within}
-use Rattle.std.proofs.lemmas.Option.{slice_get_past}
-use Rattle.mu_tree.specs.declared.flat.FlatEquation.{FlatEquation}
-use Rattle.mu_tree.specs.FlatExpression.{Constant, FlatEquationTree, flat_equation, flat_expression}
-use Rattle.mu_affine.specs.AffineForm.{none}
-use Rattle.mu_affine.specs.FormSequence.{right_side}
-use Rattle.mu_affine.specs.Takings.{side_at, AreFirsts}
+use Rattle.mu_affine.proofs.Common
+use Common.{[], ℕ, ◌+◌, ◌<◌, ◌∙◌, ◌∷◌, ◌≡◌, ◌≢◌, ◌≤◌, add-one, All, ap, arith, cases_eq, Constant}
+use Common.{drop, drop-cons, false, flat_equation, flat_expression, FlatEquation, FlatEquationTree}
+use Common.{get_or, if◌then◌else◌, inl, inr, length, length-map, List, map, nat_eq, nat_tests, none}
+use Common.{refl, right_side, set, side_at, slice_get, slice_get-get_or, slice_get_within, Some}
+use Common.{subst, suc, sym, true, zero}
+use Rattle.std.proofs.Common.{replicate}
+use Rattle.std.specs.Prelude.{option_map}
+use Rattle.std.proofs.Math.Seq.{drop-length}
+use Rattle.std.proofs.lemmas.Option.{slice_get-map, slice_get_past}
+use Rattle.mu_affine.specs.Takings.{AreFirsts}
 
 -- past the last equation there is no right side
 pub past_side : (es : List FlatEquationTree) (i : ℕ) → length es ≤ i → side_at es i ≡ Constant none 0

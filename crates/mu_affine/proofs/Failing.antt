@@ -1,12 +1,10 @@
 -- The first check that fails.
-use Rattle.std.proofs.Common.{◌≡◌, ℕ, suc, ◌+◌, ◌≤◌, ◌<◌, Bool, true, false, List, [], ◌∷◌, ◌++◌}
-use Rattle.std.proofs.Common.{length, get_or, take, drop, map, refl, sym, ◌∙◌, ap, arith, add-zero}
-use Rattle.std.proofs.Common.{inl, inr, Option, Some, None}
-use Rattle.std.proofs.lemmas.List.{take_more, take_all, take-append-drop, drop_more, length-take-le}
-use Rattle.std.proofs.lemmas.List.Elements.{All-nil, All-cons}
-use Rattle.std.specs.Prelude.{All, if◌then◌else◌}
-use Rattle.mu_affine.specs.declared.machine_fault.MachineErr.{MachineErr}
-use Rattle.mu_affine.specs.MachineChecks.{Check, first_failed, checks, IsRefusal}
+use Rattle.mu_affine.proofs.Common
+use Common.{[], ℕ, ◌++◌, ◌+◌, ◌<◌, ◌∙◌, ◌∷◌, ◌≡◌, ◌≤◌, add-zero, All, All-cons, All-nil, ap, arith}
+use Common.{Bool, Check, checks, drop, drop_more, false, first_failed, get_or, if◌then◌else◌, inl}
+use Common.{inr, IsRefusal, length, length-take-le, List, MachineErr, map, None, Option, refl, Some}
+use Common.{suc, sym, take, take_all, take_more, true}
+use Rattle.std.proofs.lemmas.List.{take-append-drop}
 
 -- where the first checks hold, the others decide
 pub first_failed-after : (front back : List Check) → first_failed front ≡ None → first_failed (front ++ back) ≡ first_failed back

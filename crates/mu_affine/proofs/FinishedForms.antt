@@ -1,44 +1,22 @@
 -- What the forms of a flat model have in common: how many there are, and which names stand in each.
-use Rattle.std.proofs.Common.{◌≡◌, ◌∙◌, ◌<◌, ◌≤◌, ◌+◌, ◌*◌, ℕ, List, [], ◌∷◌, ◌++◌, length, get_or}
-use Rattle.std.proofs.Common.{take, drop, map, refl, sym, ap, subst, arith, inl, inr, Bool, true}
-use Rattle.std.proofs.Common.{false}
-use Rattle.std.specs.Prelude.{Some, slice_get, ◌⊎◌, All, sum_by, count_by, nat_eq, if◌then◌else◌}
-use Rattle.std.specs.Prelude.{Result, Ok}
-use Rattle.std.specs.List.{AllByRecursion}
-use Rattle.std.specs.List.Sorted.{IsStrictlySortedBy, IsStrictlyIncreasing}
-use Rattle.std.specs.Ordering.{nat_cmp, ordering_then}
-use Rattle.std.specs.declared.cmp.Ordering.{Ordering}
-use Rattle.std.specs.declared.cmp.Ordering.TheVariants.{Less, Equal, Greater}
-use Rattle.std.specs.Cmp.{ranked}
-use Rattle.std.specs.Map.{keys_of}
-use Prim.Native.Nat.{zero, suc}
+use Rattle.mu_affine.proofs.Common
+use Common.{[], ℕ, ◌*◌, ◌++◌, ◌+◌, ◌<◌, ◌∙◌, ◌∷◌, ◌≡◌, ◌≤◌, ◌⊎◌, action_form, AffineErr, AffineForm}
+use Common.{Algebraic, All, AllByRecursion, ap, AreForms, arith, Bool, clause_context, clause_place}
+use Common.{condition_form, count_of_role, counted, Discrete, drop, Equal, equation_context}
+use Common.{equation_place, ExactEntry, ExactForm, ExactProduct, false, FlatAction, FlatBranchTree}
+use Common.{FlatModelTree, FlatRole, FlatVariable, form_meaning, form_of, Forms, FormsSoFar, get_or}
+use Common.{get_or_default, Greater, if◌then◌else◌, inl, inr, is_nonzero, IsFinished, IsPair}
+use Common.{IsStrictlyIncreasing, IsStrictlyIncreasing-from_sorted, IsStrictlySortedBy, keep}
+use Common.{keep_actions, keep_branches, keep_clauses, keep_states, keys_of, length, length-map}
+use Common.{length_push, Less, List, map, MayStand, named, nat_cmp, nat_eq, nothing_taken, Ok}
+use Common.{Ordering, ordering_then, pair_cmp, paired, Place, ranked, refl, Result, right_side}
+use Common.{Sizes, sizes_of, slice_get, slice_get-get_or, solve, solve_all, Some, State, subst, suc}
+use Common.{sum_by, sum_by-cons, sym, take, then_take, true, zero}
+use Rattle.std.specs.Prelude.{count_by}
 use Rattle.std.proofs.Math.Nat.{mul-le-mul_left}
-use Rattle.std.proofs.lemmas.List.{get_or_default, length-map, length_push}
 use Rattle.std.proofs.lemmas.List.Elements.{recursion_from_All}
-use Rattle.std.proofs.lemmas.List.Sums.{sum_by-cons}
-use Rattle.std.proofs.lemmas.Map.Keys.{IsStrictlyIncreasing-from_sorted}
-use Rattle.std.proofs.lemmas.Option.{slice_get-get_or}
-use Rattle.mu_tree.specs.declared.flat.FlatRole.{FlatRole}
-use Rattle.mu_tree.specs.declared.flat.FlatRole.TheVariants.{State, Discrete, Algebraic}
-use Rattle.mu_tree.specs.FlatExpression.{FlatVariable, FlatAction, FlatBranchTree, FlatModelTree}
-use Rattle.mu_affine.specs.declared.affine_fault.AffineErr.{AffineErr}
-use Rattle.mu_affine.specs.declared.exact_form.Sizes.{Sizes}
-use Rattle.mu_affine.specs.declared.exact_form.Place.{Place}
-use Rattle.mu_affine.specs.declared.exact_form.ExactEntry.{ExactEntry}
-use Rattle.mu_affine.specs.declared.exact_form.ExactProduct.{ExactProduct}
-use Rattle.mu_affine.specs.declared.exact_form.ExactForm.{ExactForm}
-use Rattle.mu_affine.specs.declared.exact_form.Forms.{Forms}
-use Rattle.mu_affine.specs.AffineForm.{AffineForm, is_nonzero}
-use Rattle.mu_affine.specs.FormRows.{named, paired, pair_cmp}
-use Rattle.mu_affine.specs.FinishedForms.{form_meaning, MayStand, IsPair, IsFinished}
 use Rattle.mu_affine.proofs.RowForms.{nat_order, pair_order, entry_at}
 use Rattle.mu_affine.proofs.Sums.{nonzero_at}
-use Rattle.mu_affine.specs.FormOf.{form_of}
-use Rattle.mu_affine.specs.Solution.{count_of_role, sizes_of, equation_context, clause_context}
-use Rattle.mu_affine.specs.FormSequence.{FormsSoFar, then_take, counted, right_side, solve}
-use Rattle.mu_affine.specs.FormSequence.{solve_all, keep, keep_states, condition_form, action_form}
-use Rattle.mu_affine.specs.FormSequence.{keep_actions, keep_branches, keep_clauses, nothing_taken}
-use Rattle.mu_affine.specs.KeptForms.{equation_place, clause_place, AreForms}
 use Rattle.mu_affine.proofs.Counts.{one_if}
 use Rattle.mu_affine.proofs.Steps.{parts_of, same_ok}
 

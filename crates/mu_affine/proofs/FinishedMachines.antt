@@ -1,26 +1,15 @@
 -- Finished forms are laid out as a machine requires.
-use Rattle.std.proofs.Common.{◌≡◌, ℕ, ◌+◌, ◌*◌, ◌≤◌, ◌<◌, true, List, length, get_or, map, refl}
-use Rattle.std.proofs.Common.{sym, ◌∙◌, ap, subst, arith, Some}
+use Rattle.mu_affine.proofs.Common
+use Common.{ℕ, ◌*◌, ◌+◌, ◌<◌, ◌∙◌, ◌≡◌, ◌≤◌, All, ap, AreFinished, AreNamed, arith, Equal}
+use Common.{ExactEntry, ExactForm, ExactProduct, Fraction, get_or, get_or-map, get_or_default}
+use Common.{Greater, is_nonzero, IsCoefficient, IsFinished, IsRightSide, IsRising}
+use Common.{IsStrictlyIncreasing, IsStrictlyIncreasing-from_sorted, IsStrictlySortedBy, length}
+use Common.{length-map, Less, List, map, named, nat_cmp, none, Ordering, ordering_then, pair_cmp}
+use Common.{paired, Place, ranked, refl, slice_get, Some, subst, sym, true, unwrap_or, value_at}
 use Rattle.std.proofs.Math.Nat.{mul-le-mul_right}
-use Rattle.std.proofs.lemmas.List.{get_or-map, length-map, get_or_default}
 use Rattle.std.proofs.lemmas.List.Elements.{All-from_recursion}
-use Rattle.std.proofs.lemmas.Map.Keys.{Less-from_sorted, IsStrictlyIncreasing-from_sorted}
-use Rattle.std.specs.Prelude.{All, slice_get, unwrap_or}
-use Rattle.std.specs.Ordering.{nat_cmp, ordering_then}
-use Rattle.std.specs.Cmp.{ranked}
-use Rattle.std.specs.declared.cmp.Ordering.{Ordering}
-use Rattle.std.specs.declared.cmp.Ordering.TheVariants.{Less, Equal, Greater}
-use Rattle.std.specs.List.Sorted.{IsStrictlySortedBy, IsStrictlyIncreasing}
-use Rattle.mu_num.specs.Fraction.{Fraction}
-use Rattle.mu_affine.specs.declared.exact_form.ExactEntry.{ExactEntry}
-use Rattle.mu_affine.specs.declared.exact_form.ExactProduct.{ExactProduct}
-use Rattle.mu_affine.specs.declared.exact_form.ExactForm.{ExactForm}
-use Rattle.mu_affine.specs.declared.exact_form.Place.{Place}
-use Rattle.mu_affine.specs.AffineForm.{none, is_nonzero}
-use Rattle.mu_affine.specs.FormRows.{named, paired, pair_cmp, value_at, IsRising}
-use Rattle.mu_affine.specs.FinishedForms.{IsCoefficient, AreFinished, IsFinished}
+use Rattle.std.proofs.lemmas.Map.Keys.{Less-from_sorted}
 use Rattle.mu_affine.proofs.RowForms.{IsKeyOrder, nat_order, pair_order, found, entry_at}
-use Rattle.mu_affine.specs.RoundedMachines.{AreNamed, IsRightSide}
 use Rattle.mu_affine.proofs.Turns.{map_twice}
 
 -- what holds of each key whose value is not 0 holds of each entry of a finished list

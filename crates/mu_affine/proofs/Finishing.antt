@@ -1,26 +1,14 @@
 -- A running sum without its zeros.
-use Rattle.std.proofs.Common.{◌≡◌, ◌∙◌, ℕ, List, [], ◌∷◌, map, refl, sym, ap, subst, true, false}
-use Rattle.std.proofs.Common.{cond}
-use Rattle.std.specs.Prelude.{Option, Some, None, unwrap_or, slice_get}
-use Rattle.std.specs.Ordering.{nat_cmp}
-use Rattle.std.specs.declared.cmp.Ordering.{Ordering}
-use Rattle.std.specs.declared.cmp.Ordering.TheVariants.{Less}
-use Rattle.std.specs.List.{AllByRecursion, filter}
-use Rattle.std.specs.List.Sorted.{IsStrictlySortedBy}
-use Rattle.std.specs.BTreeMap.{is_at}
-use Rattle.std.specs.Map.{lookup, keys_of}
-use Prim.Native.Nat.{zero, suc}
-use Rattle.std.proofs.Math.Path.{fun_ext}
+use Rattle.mu_affine.proofs.Common
+use Common.{[], ℕ, ◌∙◌, ◌∷◌, ◌≡◌, AllByRecursion, ap, AreFinished, AreReduced, cond, ExactForm}
+use Common.{false, filter, Finishes, form_meaning, Fraction, fun_ext, is_at, is_nonzero}
+use Common.{IsCoefficient, IsReduced, IsReducedSum, IsRising, IsStrictlySortedBy, keys_of, Less}
+use Common.{List, lookup, map, named, nat_cmp, None, none, Option, Ordering, pair_cmp, paired, refl}
+use Common.{RunningForm, slice_get, Some, subst, suc, sum_meaning, sym, true, unwrap_or, value_at}
+use Common.{zero}
 use Rattle.std.proofs.lemmas.Cmp.{eq_by_cmp_equiv}
 use Rattle.std.proofs.lemmas.Map.Keys.{IsDistinct-from_sorted}
 use Rattle.std.proofs.lemmas.Map.Entries.{lookup-filter-values, option_filter}
-use Rattle.mu_num.specs.Fraction.{Fraction, IsReduced}
-use Rattle.mu_affine.specs.declared.exact_form.ExactForm.{ExactForm}
-use Rattle.mu_affine.specs.declared.form_sum.RunningForm.{RunningForm}
-use Rattle.mu_affine.specs.AffineForm.{none, is_nonzero}
-use Rattle.mu_affine.specs.FormRows.{named, paired, pair_cmp, value_at, IsRising, AreReduced}
-use Rattle.mu_affine.specs.FinishedForms.{form_meaning, sum_meaning, IsCoefficient, AreFinished}
-use Rattle.mu_affine.specs.FinishedForms.{IsReducedSum, Finishes}
 use Rattle.mu_affine.proofs.Fractions.{reduced_zero}
 use Rattle.mu_affine.proofs.RowForms.{IsKeyOrder, nat_order, pair_order, found}
 

@@ -1,21 +1,21 @@
 -- What a flat expression and lists of its parts say, at each form.
-use Rattle.std.proofs.Common.{◌≡◌, ◌∙◌, ◌+◌, ◌<◌, ℕ, List, length, drop, get_or, map, add-one, refl}
-use Rattle.std.proofs.Common.{sym, ap, Box, Global}
+use Rattle.mu_affine.proofs.Common
+use Common.{ℕ, ◌+◌, ◌<◌, ◌∙◌, ◌≡◌, add-one, ap, drop, drop-cons, factor, flat_expression}
+use Common.{flat_factors_of, flat_scaled, flat_signed, flat_terms_of, FlatExpr, FlatExpression}
+use Common.{FlatFactor, FlatTerm, Fraction, get_or, length, List, map, out-FlatFactor, out-FlatTerm}
+use Common.{refl, sym, term}
+use Rattle.std.proofs.Common.{Box, Global}
 use Rattle.std.specs.declared.vec.Vec.{Vec}
-use Rattle.std.proofs.Math.Seq.{drop-cons}
-use Rattle.mu_num.specs.Fraction.{Fraction}
-use Rattle.mu_tree.specs.declared.flat.FlatExpr.{FlatExpr, Const, Var, Pre, Time, Sum, Product, Pow}
+use Rattle.mu_tree.specs.declared.flat.FlatExpr.{Const, Var, Pre, Time, Sum, Product, Pow}
 use Rattle.mu_tree.specs.declared.flat.FlatExpr.{fold-roll-FlatExpr}
 use Rattle.mu_tree.specs.declared.flat.FlatExpr.TheVariants.{rolls-Const, rolls-Var, rolls-Pre}
 use Rattle.mu_tree.specs.declared.flat.FlatExpr.TheVariants.{rolls-Time, rolls-Sum, rolls-Product}
 use Rattle.mu_tree.specs.declared.flat.FlatExpr.TheVariants.{rolls-Pow}
+use Rattle.mu_tree.specs.declared.flat.FlatTerm.{fold_out-FlatTerm}
+use Rattle.mu_tree.specs.declared.flat.FlatFactor.{fold_out-FlatFactor}
+use Rattle.mu_tree.specs.FlatExpression.{FlatScaled, FlatSigned, flat_expression_step}
+use Rattle.mu_tree.specs.FlatExpression.{flat_scaled_step, flat_signed_step}
 use Rattle.mu_tree.specs.declared.flat.FlatExpr.TheOpen as layer
-use Rattle.mu_tree.specs.declared.flat.FlatTerm.{FlatTerm, out-FlatTerm, fold_out-FlatTerm}
-use Rattle.mu_tree.specs.declared.flat.FlatFactor.{FlatFactor, out-FlatFactor, fold_out-FlatFactor}
-use Rattle.mu_tree.specs.FlatExpression.{FlatExpression, FlatScaled, FlatSigned, term, factor}
-use Rattle.mu_tree.specs.FlatExpression.{flat_expression, flat_signed, flat_scaled, flat_terms_of}
-use Rattle.mu_tree.specs.FlatExpression.{flat_factors_of, flat_expression_step, flat_scaled_step}
-use Rattle.mu_tree.specs.FlatExpression.{flat_signed_step}
 use Rattle.mu_tree.specs.FlatExpression as tree
 
 -- a constant

@@ -1,20 +1,11 @@
 -- Forms that fit come back from their bits.
-use Rattle.std.proofs.Common.{◌≡◌, ℕ, ◌+◌, ◌^◌, ◌≤◌, Bool, true, false, not, ◌&&◌, List, [], ◌∷◌, ℤ}
-use Rattle.std.proofs.Common.{refl, ◌∙◌, ap, arith}
-use Rattle.std.proofs.lemmas.Bool.{and_parts, and_from, leb-true}
-use Rattle.std.proofs.lemmas.List.Sums.{sum_by-cons}
-use Rattle.std.specs.Int.RustNames.{unsigned_abs}
-use Rattle.std.specs.List.{list_all}
-use Rattle.std.specs.Prelude.{nat_le, sum_by}
-use Rattle.mu_num.specs.Sizes.{exceeds}
+use Rattle.mu_affine.proofs.Common
+use Common.{[], ℕ, ℤ, ◌&&◌, ◌+◌, ◌^◌, ◌∙◌, ◌∷◌, ◌≡◌, ◌≤◌, and_from, and_parts, ap, arith, Bool}
+use Common.{Entry, ExactForm, exceeds, false, form_fits, leb-true, List, list_all, nat_le, not}
+use Common.{of_z, refl, rounded, rounded_entries, rounded_form, sum_by, sum_by-cons, to_z, true}
+use Common.{unsigned_abs, w128, w64}
 use Rattle.mu_num.proofs.SizeTests.{within-passes}
-use Rattle.mu_affine.specs.declared.exact_form.ExactForm.{ExactForm}
-use Rattle.qss_machine.specs.declared.machine_parts.Entry.{Entry}
-use Rattle.mu_affine.specs.Rounded.{rounded, rounded_entries, rounded_form}
-use Rattle.mu_affine.specs.MachineChecks.{form_fits}
 use Rattle.mu_affine.proofs.KeptNumbers.{cast_small}
-use mir.Syntax.{w64, w128}
-use mir.Val.{to_z, of_z}
 
 small_number : (z : ℤ) → unsigned_abs z ≤ 2 ^ 44 → not (exceeds 44 z) ≡ true
 small_number z h = ap not (within-passes 44 z h)

@@ -1,27 +1,13 @@
 -- The forms of algebraic variables, one after another.
-use Rattle.std.proofs.Common.{◌≡◌, ◌∙◌, ◌<◌, ◌≤◌, ◌+◌, ◌^◌, ℕ, List, [], ◌∷◌, length, get_or, drop}
-use Rattle.std.proofs.Common.{map, set, refl, sym, ap, subst, arith, inl, inr, true, false}
-use Rattle.std.specs.Prelude.{Option, Some, None, slice_get, ◌≢◌, nat_eq, if◌then◌else◌, Result, Ok}
-use Rattle.std.specs.Prelude.{Err}
-use Prim.Native.Nat.{zero, suc}
-use Rattle.std.proofs.Math.Path.{fun_ext}
-use Rattle.std.proofs.lemmas.Bool.{cases_eq}
-use Rattle.std.proofs.lemmas.Bool.Decides.{nat_tests}
-use Rattle.mu_tree.specs.declared.flat.FlatEquation.{FlatEquation}
-use Rattle.mu_tree.specs.FlatExpression.{FlatModelTree, flat_equation}
-use Rattle.mu_affine.specs.declared.affine_fault.AffineErr.{AffineErr}
-use Rattle.mu_affine.specs.declared.exact_form.Sizes.{Sizes}
-use Rattle.mu_affine.specs.declared.exact_form.ExactForm.{ExactForm}
-use Rattle.mu_affine.specs.AffineForm.{AffineForm, none, constant_form}
-use Rattle.mu_affine.specs.FinishedForms.{form_meaning, IsFinished}
-use Rattle.mu_affine.specs.declared.normal_forms.CountedForms.{CountedForms}
-use Rattle.mu_affine.specs.FormOf.{form_of}
-use Rattle.mu_affine.specs.Solution.{sizes_of, equation_context}
-use Rattle.mu_affine.specs.FormSequence.{FormsSoFar, then_take, counted, right_side, solve}
-use Rattle.mu_affine.specs.FormSequence.{solve_all, nothing_taken}
-use Rattle.mu_affine.specs.Walks.{forms_in, AreSolved}
-use Rattle.mu_affine.specs.Takings.{IsFaultOf, of_equations, IsZero, AreZeros, solved_so_far}
-use Rattle.mu_affine.specs.Takings.{IsSolved}
+use Rattle.mu_affine.proofs.Common
+use Common.{[], ℕ, ◌+◌, ◌<◌, ◌^◌, ◌∙◌, ◌∷◌, ◌≡◌, ◌≢◌, ◌≤◌, AffineErr, AffineForm, ap, AreSolved}
+use Common.{AreZeros, arith, cases_eq, constant_form, counted, CountedForms, drop, equation_context}
+use Common.{Err, ExactForm, false, flat_equation, FlatEquation, FlatModelTree, form_meaning}
+use Common.{form_of, forms_in, FormsSoFar, fun_ext, get_or, if◌then◌else◌, inl, inr, IsFaultOf}
+use Common.{IsFinished, IsSolved, IsZero, length, List, map, nat_eq, nat_tests, None, none}
+use Common.{nothing_taken, of_equations, Ok, Option, refl, Result, right_side, set, Sizes, sizes_of}
+use Common.{slice_get, solve, solve_all, solved_so_far, Some, subst, suc, sym, then_take, true}
+use Common.{zero}
 use Rattle.mu_affine.proofs.Equations.{one_of_all}
 use Rattle.mu_affine.proofs.Steps.{after, fault_then, fault_same, vars_from}
 

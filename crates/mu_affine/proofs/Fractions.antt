@@ -1,20 +1,15 @@
 -- Fractions whose values are 0, and lowest terms.
-use Rattle.std.proofs.Common.{◌≡◌, ℕ, ◌*◌, ◌<◌, ◌≤◌, refl, sym, ◌∙◌, ap, subst, arith, inl, inr}
-use Rattle.std.proofs.Common.{◌^◌}
-use Rattle.std.specs.Prelude.{ℤ, pos, negsuc, ◌*ℤ◌, ◌+ℤ◌, ◌-ℤ◌, unsigned_abs, if◌then◌else◌, Bool}
-use Rattle.std.specs.Prelude.{true, false, Result, Ok, Err}
+use Rattle.mu_affine.proofs.Common
+use Common.{ℕ, ℤ, ◌*ℤ◌, ◌*◌, ◌+ℤ◌, ◌<◌, ◌^◌, ◌∙◌, ◌≡◌, ◌≤◌, ap, arith, Bool, cases_lt, checked}
+use Common.{difference, Err, false, Fraction, if◌then◌else◌, inl, inr, ints, is_nonzero, is_small}
+use Common.{IsReduced, lowest, nat_tests, negsuc, none, NumErr, Ok, pos, product, Range, refl}
+use Common.{Result, subst, sum, sym, true, unsigned_abs-mul, zero-*ℤ}
+use Rattle.std.specs.Prelude.{◌-ℤ◌, unsigned_abs}
 use Rattle.std.proofs.Math.Nat.{mul_comm, eq-one_of_dvd-one, zero-mul, mul-pos}
-use Rattle.std.proofs.Math.IntN.{zero-*ℤ, *ℤ_comm}
-use Rattle.std.proofs.lemmas.Bool.{cases_lt}
-use Rattle.std.proofs.lemmas.Bool.Decides.{nat_tests}
-use Rattle.std.proofs.lemmas.Int.{unsigned_abs-mul, ints}
-use Rattle.mu_num.specs.declared.NumErr.{NumErr}
-use Rattle.mu_num.specs.declared.NumErr.TheVariants.{Range}
-use Rattle.mu_num.specs.Fraction.{Fraction, IsSameValue, IsReduced, sum, difference, product}
-use Rattle.mu_num.specs.Fraction.{lowest, checked, is_small}
+use Rattle.std.proofs.Math.IntN.{*ℤ_comm}
+use Rattle.mu_num.specs.Fraction.{IsSameValue}
 use Rattle.mu_num.proofs.Integers.{mul_assoc}
 use Rattle.mu_num.proofs.Lowest.{lowest_is, lowest_only, lowest_terms, AreLowestTerms}
-use Rattle.mu_affine.specs.AffineForm.{none, is_nonzero}
 
 -- products of positive numbers
 pub positive_product : (a b : ℕ) → 0 < a → 0 < b → 0 < a * b

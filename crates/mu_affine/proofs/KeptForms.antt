@@ -1,27 +1,14 @@
 -- Forms that are kept, one after another.
-use Rattle.std.proofs.Common.{◌≡◌, ◌∙◌, ◌<◌, ◌≤◌, ◌+◌, ◌-◌, ◌^◌, ℕ, List, [], ◌∷◌, ◌++◌, length}
-use Rattle.std.proofs.Common.{get_or, drop, map, refl, sym, ap, subst, arith, inl, inr}
-use Rattle.std.specs.Prelude.{Some, None, slice_get, ◌⊎◌, Result, Ok}
-use Prim.Native.Nat.{zero, suc}
-use Rattle.std.proofs.lemmas.List.{map_push, length_push}
-use Rattle.mu_tree.specs.declared.flat.FlatStatement.{FlatStatement}
-use Rattle.mu_tree.specs.declared.flat.FlatBranch.{FlatBranch}
-use Rattle.mu_tree.specs.declared.flat.FlatClause.{FlatClause}
-use Rattle.mu_tree.specs.FlatExpression.{FlatModelTree, flat_action, flat_branch, flat_clause}
-use Rattle.mu_affine.specs.declared.affine_fault.AffineErr.{AffineErr}
-use Rattle.mu_affine.specs.declared.exact_form.Sizes.{Sizes}
-use Rattle.mu_affine.specs.declared.exact_form.ExactForm.{ExactForm}
-use Rattle.mu_affine.specs.AffineForm.{AffineForm}
-use Rattle.mu_affine.specs.FinishedForms.{form_meaning, IsFinished}
-use Rattle.mu_affine.specs.declared.normal_forms.CountedForms.{CountedForms}
-use Rattle.mu_affine.specs.FormOf.{form_of}
-use Rattle.mu_affine.specs.Solution.{sizes_of, equation_context, clause_context}
-use Rattle.mu_affine.specs.FormSequence.{FormsSoFar, then_take, counted, right_side, keep}
-use Rattle.mu_affine.specs.FormSequence.{keep_states, action_form, condition_form, keep_actions}
-use Rattle.mu_affine.specs.FormSequence.{keep_branches, keep_clauses}
-use Rattle.mu_affine.specs.Walks.{forms_in}
-use Rattle.mu_affine.specs.Takings.{IsFaultOf, of_equations, of_clauses, kept_so_far, AreKept}
-use Rattle.mu_affine.specs.Takings.{IsKept}
+use Rattle.mu_affine.proofs.Common
+use Common.{[], ℕ, ◌++◌, ◌+◌, ◌-◌, ◌<◌, ◌^◌, ◌∙◌, ◌∷◌, ◌≡◌, ◌≤◌, ◌⊎◌, action_form, AffineErr}
+use Common.{AffineForm, ap, AreKept, arith, clause_context, condition_form, counted, CountedForms}
+use Common.{drop, equation_context, ExactForm, flat_action, flat_branch, flat_clause, FlatBranch}
+use Common.{FlatClause, FlatModelTree, FlatStatement, form_meaning, form_of, forms_in, FormsSoFar}
+use Common.{get_or, inl, inr, IsFaultOf, IsFinished, IsKept, keep, keep_actions, keep_branches}
+use Common.{keep_clauses, keep_states, kept_so_far, length, length_push, List, map, None}
+use Common.{of_clauses, of_equations, Ok, refl, Result, right_side, Sizes, sizes_of, slice_get}
+use Common.{Some, subst, suc, sym, then_take, zero}
+use Rattle.std.proofs.lemmas.List.{map_push}
 use Rattle.mu_affine.proofs.Steps.{after, fault_then, fault_after, fault_same, actions_from}
 use Rattle.mu_affine.proofs.Steps.{branches_from, clauses_from}
 

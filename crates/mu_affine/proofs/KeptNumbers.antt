@@ -1,25 +1,14 @@
 -- Coefficients that are kept, since they are not 0.
-use Rattle.std.proofs.Common.{◌≡◌, ℕ, ◌+◌, ◌^◌, ◌≤◌, ◌<◌, Bool, true, false, not, ◌&&◌, List, []}
-use Rattle.std.proofs.Common.{◌∷◌, ◌++◌, length, get_or, take, map, ℤ, pos, refl, sym, ◌∙◌, ap}
-use Rattle.std.proofs.Common.{arith}
-use Rattle.std.proofs.lemmas.Int.{ints, to_z-of_z}
-use Rattle.std.proofs.lemmas.Bool.{and_from}
-use Rattle.std.proofs.lemmas.List.{take_more, take_all, map-append}
+use Rattle.mu_affine.proofs.Common
+use Common.{[], ℕ, ℤ, ◌&&◌, ◌++◌, ◌+◌, ◌<◌, ◌^◌, ◌∙◌, ◌∷◌, ◌≡◌, ◌≤◌, and_from, ap, arith, Bool}
+use Common.{Entry, entry_of, ExactEntry, ExactProduct, exceeds, false, filter, FitsSigned, get_or}
+use Common.{if◌then◌else◌, ints, is_some_number, length, List, list_all, map, map-append, not, of_z}
+use Common.{pos, Product, refl, rounded, rounded_entries, rounded_products, sym, take, take_all}
+use Common.{take_more, to_z, to_z-of_z, true, unsigned_abs, w128, w64}
 use Rattle.std.proofs.lemmas.List.Elements.{filter-append}
 use Rattle.std.proofs.lemmas.List.Folds.{list_all_at, list_all_more}
-use Rattle.std.specs.Int.RustNames.{unsigned_abs, FitsSigned}
-use Rattle.std.specs.List.{list_all, filter}
-use Rattle.std.specs.Prelude.{if◌then◌else◌}
-use Rattle.mu_num.specs.Sizes.{exceeds}
 use Rattle.mu_num.proofs.SizeTests.{passes-within}
-use Rattle.mu_affine.specs.declared.exact_form.ExactEntry.{ExactEntry}
-use Rattle.mu_affine.specs.declared.exact_form.ExactProduct.{ExactProduct}
-use Rattle.qss_machine.specs.declared.machine_parts.Entry.{Entry}
-use Rattle.qss_machine.specs.declared.machine_parts.Product.{Product}
-use Rattle.mu_affine.specs.Rounded.{is_some_number, rounded, entry_of, product_of, rounded_entries}
-use Rattle.mu_affine.specs.Rounded.{rounded_products}
-use mir.Syntax.{w64, w128}
-use mir.Val.{to_z, of_z}
+use Rattle.mu_affine.specs.Rounded.{product_of}
 
 -- what is made of the elements of a list, without those whose coefficient is 0
 abbrev pub kept : {X Y : Type 0} → (X → Y) → (Y → ℤ) → List X → List Y

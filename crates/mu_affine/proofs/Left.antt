@@ -1,17 +1,11 @@
 -- What is left of a sum and of a product, part by part.
-use Rattle.std.proofs.Common.{◌≡◌, ◌∙◌, ◌+◌, ◌<◌, ℕ, List, length, drop, get_or, map, ap, subst}
-use Rattle.std.specs.Prelude.{Ok, Err}
-use Rattle.mu_tree.specs.declared.flat.FlatTerm.{FlatTerm, out-FlatTerm}
-use Rattle.mu_tree.specs.declared.flat.FlatFactor.{FlatFactor, out-FlatFactor}
-use Rattle.mu_tree.specs.FlatExpression.{FlatTerms, FlatFactors, flat_expression, flat_signed}
-use Rattle.mu_tree.specs.FlatExpression.{flat_scaled, flat_terms_of, flat_factors_of}
+use Rattle.mu_affine.proofs.Common
+use Common.{ℕ, ◌+◌, ◌<◌, ◌∙◌, ◌≡◌, AffineErr, AffineForm, ap, AreNumbered, AreNumberedFactors}
+use Common.{Context, drop, Err, flat_expression, flat_factors_of, flat_scaled, flat_signed}
+use Common.{flat_terms_of, FlatFactor, FlatFactors, FlatTerm, FlatTerms, form_of, get_or}
+use Common.{IsNumbered, join_forms, length, List, map, multiply_forms, Ok, out-FlatFactor}
+use Common.{out-FlatTerm, Place, product_of, subst, sum_form}
 use Rattle.mu_affine.proofs.FlatShapes.{flat_terms_from, flat_factors_from}
-use Rattle.mu_affine.specs.declared.affine_fault.AffineErr.{AffineErr}
-use Rattle.mu_affine.specs.declared.exact_form.Place.{Place}
-use Rattle.mu_affine.specs.AffineForm.{AffineForm}
-use Rattle.mu_affine.specs.FormParts.{join_forms, multiply_forms}
-use Rattle.mu_affine.specs.FormOf.{Context, form_of, sum_form, product_of}
-use Rattle.mu_affine.specs.Walks.{IsNumbered, AreNumbered, AreNumberedFactors}
 use Rattle.mu_affine.proofs.Walking.{sum_step, sum_term_fault, sum_join_fault, product_step}
 use Rattle.mu_affine.proofs.Walking.{product_factor_fault, product_part_fault}
 

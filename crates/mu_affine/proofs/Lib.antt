@@ -1,3 +1,4 @@
+mod Common
 mod FlatShapes
 mod Walking
 mod Left

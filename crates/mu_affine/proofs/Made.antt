@@ -1,22 +1,11 @@
 -- If no phase fails, the numbers of a flat model and of its forms are the numbers of a machine.
-use Rattle.std.proofs.Common.{◌≡◌, ℕ, ◌+◌, ◌^◌, ◌≤◌, true, List, length, take, drop, map, pos, refl}
-use Rattle.std.proofs.Common.{sym, ◌∙◌, subst, arith}
-use Rattle.std.proofs.lemmas.List.{length-map, length-take-le, length-drop}
-use Rattle.std.specs.Prelude.{All}
-use Rattle.mu_affine.specs.declared.exact_form.ExactForm.{ExactForm}
-use Rattle.mu_tree.specs.declared.flat.Settings.{Settings}
-use Rattle.mu_tree.specs.FlatExpression.{FlatVariable, FlatModelTree}
-use Rattle.mu_tree.specs.FlatModels.{IsFlatModel}
-use Rattle.qss_machine.specs.MachineLimits.{AreVariables, AreRows, AreClauses}
-use Rattle.mu_affine.specs.declared.machine_fault.MachineErr.TheVariants.{Start, Quantum}
-use Rattle.mu_affine.specs.declared.machine_fault.MachineErr.TheVariants.{Coefficient}
-use Rattle.mu_affine.specs.Rounded.{rounded, rounded_row, rounded_form, rounded_state}
-use Rattle.mu_affine.specs.Rounded.{rounded_discrete}
-use Rattle.mu_affine.specs.FormPlaces.{state_count, discrete_count, states_of, discretes_of}
-use Rattle.mu_affine.specs.FormPlaces.{clauses_of}
-use Rattle.mu_affine.specs.MachineChecks.{is_start, is_value, is_quantum, start_level, row_fits}
-use Rattle.mu_affine.specs.MachineChecks.{row_fits_at_start, form_fits}
-use Rattle.mu_affine.specs.RoundedMachines.{IsRightSide, AreFormsFor}
+use Rattle.mu_affine.proofs.Common
+use Common.{ℕ, ◌+◌, ◌^◌, ◌∙◌, ◌≡◌, ◌≤◌, All, AreClauses, AreFormsFor, AreRows, AreVariables, arith}
+use Common.{clauses_of, Coefficient, discrete_count, discretes_of, drop, ExactForm, FlatModelTree}
+use Common.{FlatVariable, form_fits, is_quantum, is_start, is_value, IsFlatModel, IsRightSide}
+use Common.{length, length-drop, length-map, length-take-le, List, map, pos, Quantum, refl, rounded}
+use Common.{rounded_discrete, rounded_form, rounded_row, rounded_state, row_fits, row_fits_at_start}
+use Common.{Settings, Start, start_level, state_count, states_of, subst, sym, take, true}
 use Rattle.mu_affine.proofs.Failing.{checks_hold}
 use Rattle.mu_affine.proofs.ChecksInOrder.{counts_fit}
 use Rattle.mu_affine.proofs.Assembly.{variables_are, rows_are, clauses_are}

@@ -1,17 +1,9 @@
 -- Forms of single parts are finished.
-use Rattle.std.proofs.Common.{◌≡◌, ◌∙◌, ℕ, [], ◌∷◌, refl, ap, subst, arith, true, false, map}
-use Rattle.std.specs.Prelude.{pos}
-use Rattle.std.specs.Ordering.{nat_cmp}
-use Rattle.std.specs.List.Sorted.{IsStrictlySortedBy}
-use Rattle.std.specs.declared.cmp.Ordering.{Ordering}
-use Rattle.mu_num.specs.Fraction.{IsReduced, whole}
+use Rattle.mu_affine.proofs.Common
+use Common.{[], ℕ, ◌∙◌, ◌∷◌, ◌≡◌, ap, AreFinished, arith, ExactEntry, ExactForm, false}
+use Common.{form_meaning, is_nonzero, IsFinished, IsReduced, IsStrictlySortedBy, map, MayStand}
+use Common.{named, nat_cmp, Ordering, pair_cmp, Place, pos, refl, subst, true, value_at, whole}
 use Rattle.mu_num.proofs.Powers.{whole_is_reduced}
-use Rattle.mu_affine.specs.declared.exact_form.Place.{Place}
-use Rattle.mu_affine.specs.declared.exact_form.ExactEntry.{ExactEntry}
-use Rattle.mu_affine.specs.declared.exact_form.ExactForm.{ExactForm}
-use Rattle.mu_affine.specs.AffineForm.{is_nonzero}
-use Rattle.mu_affine.specs.FormRows.{named, pair_cmp, value_at}
-use Rattle.mu_affine.specs.FinishedForms.{form_meaning, MayStand, AreFinished, IsFinished}
 use Rattle.mu_affine.proofs.RowForms.{nat_order}
 use Rattle.mu_affine.proofs.Showing.{key_of_nonzero}
 

@@ -1,28 +1,17 @@
 -- What products, quotients and powers of forms are, by the kinds of their parts.
-use Rattle.std.proofs.Common.{◌≡◌, ◌∙◌, ◌<◌, ◌+◌, ℕ, refl, sym, ap, arith, inl, inr, true, false}
-use Rattle.std.proofs.Common.{map}
-use Rattle.std.specs.Prelude.{Result, Ok, Err, not, ◌&&◌, if◌then◌else◌, pos, ◌*ℤ◌}
-use Rattle.std.proofs.Math.Path.{fun_ext}
-use Rattle.std.proofs.Math.IntN.{*ℤ-zero}
-use Rattle.std.proofs.lemmas.Bool.{cases_Bool}
-use Rattle.mu_num.specs.declared.NumErr.{NumErr}
-use Rattle.mu_num.specs.declared.NumErr.TheVariants.{ZeroDivisor, Range}
-use Rattle.mu_num.specs.Fraction.{Fraction, product, power, checked, lowest, is_small}
-use Rattle.mu_affine.specs.declared.affine_fault.AffineErr.TheVariants.{NotAffine, ConstFault}
-use Rattle.mu_affine.specs.declared.exact_form.Sizes.{Sizes}
-use Rattle.mu_affine.specs.declared.exact_form.Place.{Place}
-use Rattle.mu_affine.specs.declared.exact_form.ExactForm.{ExactForm}
-use Rattle.mu_affine.specs.AffineForm.{AffineForm, none, is_nonzero, constant_form, any_from}
-use Rattle.mu_affine.specs.AffineForm.{lowest_form, checked_form}
-use Rattle.mu_affine.specs.FinishedForms.{form_meaning, IsFinished}
-use Rattle.mu_affine.specs.Kinds.{IsConstant}
-use Rattle.mu_affine.specs.Scaling.{scaled_form}
-use Rattle.mu_affine.specs.FormParts.{placed, multiply_forms, raise_form}
+use Rattle.mu_affine.proofs.Common
+use Common.{*ℤ-zero, ℕ, ◌&&◌, ◌*ℤ◌, ◌+◌, ◌<◌, ◌∙◌, ◌≡◌, AffineForm, any_from, ap, arith, cases_Bool}
+use Common.{checked, checked_form, constant_form, ConstFault, Err, ExactForm, false, form_meaning}
+use Common.{Fraction, fun_ext, if◌then◌else◌, inl, inr, is_nonzero, is_small, IsConstant}
+use Common.{IsFinished, lowest, lowest_form, map, multiply_forms, named, nat_cmp, none, not}
+use Common.{NotAffine, NumErr, Ok, pair_cmp, paired, Place, pos, product, raise_form, Range, refl}
+use Common.{Result, scaled_form, Sizes, sym, true}
+use Rattle.mu_num.specs.declared.NumErr.TheVariants.{ZeroDivisor}
+use Rattle.mu_num.specs.Fraction.{power}
+use Rattle.mu_affine.specs.FormParts.{placed}
 use Rattle.mu_affine.proofs.Fractions.{lowest-zero, zero_num, positive_product, IsReduced-none}
 use Rattle.mu_affine.proofs.Fractions.{checked_same, checked-reduced}
 use Rattle.mu_affine.proofs.Checks.{checked_form-passes}
-use Rattle.std.specs.Ordering.{nat_cmp}
-use Rattle.mu_affine.specs.FormRows.{named, paired, pair_cmp}
 use Rattle.mu_affine.proofs.Sums.{AreReduced-finished}
 use Rattle.mu_affine.proofs.Showing.{constant_shows, variable_shows}
 

@@ -1,16 +1,10 @@
 -- A flat model without a fault has one machine.
-use Rattle.std.proofs.Common.{◌≡◌, ℕ, ◌<◌, List, map, take, pos, refl, sym, ◌∙◌, ap, None}
-use Rattle.std.specs.Int.RustNames.{unsigned_abs}
-use Rattle.mu_affine.specs.declared.exact_form.ExactForm.{ExactForm}
-use Rattle.mu_tree.specs.declared.flat.Settings.{Settings}
-use Rattle.mu_tree.specs.FlatExpression.{FlatModelTree}
-use Rattle.mu_tree.specs.FlatModels.{IsFlatModel}
-use Rattle.qss_machine.specs.declared.compiled_machine.Machine.{Machine}
+use Rattle.mu_affine.proofs.Common
+use Common.{ℕ, ◌<◌, ◌∙◌, ◌≡◌, ap, AreFormsFor, bits_of, clauses_of, discretes_of, ExactForm}
+use Common.{FlatModelTree, IsFlatModel, IsMachineOf, last_of, List, Machine, machine_fault, map}
+use Common.{None, pos, refl, rounded_discrete, rounded_row, rounded_state, Settings, state_count}
+use Common.{states_of, sym, take, unsigned_abs}
 use Rattle.qss_machine.proofs.Fields.{Parts, IsSound, machine_of, same_machine}
-use Rattle.mu_affine.specs.Rounded.{rounded_row, rounded_state, rounded_discrete}
-use Rattle.mu_affine.specs.FormPlaces.{state_count, states_of, discretes_of, clauses_of}
-use Rattle.mu_affine.specs.MachineChecks.{bits_of, last_of, machine_fault}
-use Rattle.mu_affine.specs.RoundedMachines.{AreFormsFor, IsMachineOf}
 use Rattle.mu_affine.proofs.Made.{made_variables, made_rows, made_clauses}
 use Rattle.mu_affine.proofs.UnitLaws.{are_units}
 use Rattle.mu_affine.proofs.WholeMachines.{phases_pass}

@@ -1,40 +1,16 @@
 -- What the code's own checks say of all checks.
-use Rattle.std.proofs.Common.{◌≡◌, ℕ, ◌+◌, List, ◌++◌, length, take, map, ℤ, sym, ◌∙◌, ap, subst}
-use Rattle.std.proofs.Common.{None}
-use Rattle.mu_affine.specs.declared.exact_form.ExactForm.{ExactForm}
-use Rattle.mu_tree.specs.declared.flat.FlatVar.{FlatVar}
-use Rattle.mu_tree.specs.declared.flat.FlatModel.{FlatModel}
-use Rattle.mu_tree.specs.declared.flat.Settings.{Settings}
-use Rattle.mu_tree.specs.FlatExpression.{FlatModelTree, flat_model, flat_variable}
-use Rattle.mu_affine.specs.declared.machine_fault.MachineErr.{MachineErr}
-use Rattle.mu_affine.specs.declared.machine_fault.MachineErr.TheVariants.{Start, Quantum}
-use Rattle.mu_affine.specs.declared.machine_fault.MachineErr.TheVariants.{Coefficient}
-use Rattle.mu_affine.specs.Rounded.{rounded, rounded_row}
-use Rattle.mu_affine.specs.FormPlaces.{state_count, discrete_count, states_of, discretes_of}
-use Rattle.mu_affine.specs.MachineChecks.{Check, first_failed, checks, IsRefusal, bits_of}
-use Rattle.mu_affine.specs.MachineChecks.{setting_checks, is_start, is_value, is_quantum}
-use Rattle.mu_affine.specs.MachineChecks.{start_level, row_fits, row_fits_at_start, form_checks}
-use Rattle.mu_affine.specs.MachineChecks.{machine_checks}
-use Rattle.mu_affine.proofs.WholeMachines.{
-  all_checks,
-  all_checks-are,
-  form_checks-rest,
-  starts,
-  values,
-  weights,
-  quanta,
-  rows,
-  items,
-  none_refused,
-  none_started,
-  refused_items,
-  refused_quanta,
-  refused_rows,
-  refused_starts,
-  refused_values,
-  refused_weights,
-  PhasesPass,
-}
+use Rattle.mu_affine.proofs.Common
+use Common.{ℕ, ℤ, ◌++◌, ◌+◌, ◌∙◌, ◌≡◌, ap, bits_of, Check, checks, Coefficient, discrete_count}
+use Common.{discretes_of, ExactForm, first_failed, flat_model, flat_variable, FlatModel}
+use Common.{FlatModelTree, FlatVar, form_checks, is_quantum, is_start, is_value, IsRefusal, length}
+use Common.{List, machine_checks, MachineErr, map, None, Quantum, rounded, rounded_row, row_fits}
+use Common.{row_fits_at_start, setting_checks, Settings, Start, start_level, state_count, states_of}
+use Common.{subst, sym, take}
+use Rattle.mu_affine.proofs.WholeMachines.{all_checks, all_checks-are, form_checks-rest, starts}
+use Rattle.mu_affine.proofs.WholeMachines.{values, weights, quanta, rows, items, none_refused}
+use Rattle.mu_affine.proofs.WholeMachines.{none_started, refused_items, refused_quanta}
+use Rattle.mu_affine.proofs.WholeMachines.{refused_rows, refused_starts, refused_values}
+use Rattle.mu_affine.proofs.WholeMachines.{refused_weights, PhasesPass}
 use Rattle.mu_affine.proofs.Seen.{quanta_seen, rows_seen, starts_seen, values_seen, weights_seen}
 
 -- the units and the variables that the code has

@@ -1,19 +1,13 @@
 -- Lists whose elements each take their forms from a place on.
-use Rattle.std.proofs.Common.{◌≡◌, ℕ, suc, ◌+◌, ◌≤◌, ◌<◌, true, false, List, [], ◌∷◌, ◌++◌, length}
-use Rattle.std.proofs.Common.{get_or, take, drop, ◌-◌, refl, sym, ◌∙◌, ap, subst, arith, add-zero}
-use Rattle.std.proofs.Common.{None, inr}
+use Rattle.mu_affine.proofs.Common
+use Common.{[], ℕ, ◌++◌, ◌+◌, ◌-◌, ◌<◌, ◌∙◌, ◌∷◌, ◌≡◌, ◌≤◌, add-zero, All, All-cons, All-head}
+use Common.{All-nil, All-tail, ap, arith, Check, checks, Coefficient, drop, drop_more, ExactForm}
+use Common.{false, first_failed, form_checks, form_fits, get_or, inr, IsRefusal, length}
+use Common.{length-drop, length-take-le, List, MachineErr, None, placed, refl, rounded_form, subst}
+use Common.{suc, sum_by, sum_by-cons, sym, take, take_more, true}
 use Rattle.std.proofs.Math.Seq.{take-add}
-use Rattle.std.proofs.lemmas.List.{take_more, drop_more, drop-drop, length-take-le, length-drop}
-use Rattle.std.proofs.lemmas.List.Elements.{All-nil, All-cons, All-head, All-tail}
-use Rattle.std.proofs.lemmas.List.Sums.{sum_by-cons, sum_by_more, sum_by_more_le}
-use Rattle.std.specs.Prelude.{All, sum_by}
-use Rattle.mu_affine.specs.declared.exact_form.ExactForm.{ExactForm}
-use Rattle.mu_affine.specs.declared.machine_fault.MachineErr.{MachineErr}
-use Rattle.mu_affine.specs.declared.machine_fault.MachineErr.TheVariants.{Coefficient}
-use Rattle.mu_affine.specs.Rounded.{rounded_form}
-use Rattle.mu_affine.specs.FormPlaces.{placed}
-use Rattle.mu_affine.specs.MachineChecks.{Check, IsRefusal, checks, first_failed, form_checks}
-use Rattle.mu_affine.specs.MachineChecks.{form_fits}
+use Rattle.std.proofs.lemmas.List.{drop-drop}
+use Rattle.std.proofs.lemmas.List.Sums.{sum_by_more, sum_by_more_le}
 use Rattle.mu_affine.proofs.Failing.{checks-append, one_holds, one_fails, none_failed}
 use Rattle.mu_affine.proofs.Failing.{refused_before, refused_after}
 

@@ -1,28 +1,16 @@
 -- Products of forms.
-use Rattle.std.proofs.Common.{◌≡◌, ◌∙◌, ◌<◌, ◌≤◌, ◌+◌, ℕ, List, [], ◌∷◌, refl, sym, ap, subst}
-use Rattle.std.proofs.Common.{arith, inl, inr, Bool, true, false, map, length, get_or}
-use Rattle.std.specs.Prelude.{Ok, Err, not, ◌&&◌, ◌||◌, if◌then◌else◌, pos, ◌*ℤ◌, ◌+ℤ◌, Some}
-use Rattle.std.specs.Prelude.{slice_get}
-use Rattle.std.specs.Ordering.{nat_cmp}
-use Rattle.std.proofs.Math.Path.{fun_ext}
-use Rattle.std.proofs.Math.IntN.{zero-*ℤ, *ℤ-zero}
-use Rattle.std.proofs.lemmas.Bool.{cases_Bool}
-use Rattle.std.proofs.lemmas.Bool.Decides.{nat_tests}
-use Rattle.std.proofs.lemmas.Int.{unsigned_abs-mul, ints}
-use Rattle.mu_num.specs.Fraction.{Fraction, product, sum, lowest}
-use Rattle.mu_affine.specs.declared.affine_fault.AffineErr.TheVariants.{NotAffine}
-use Rattle.mu_affine.specs.declared.exact_form.Sizes.{Sizes}
-use Rattle.mu_affine.specs.declared.exact_form.Place.{Place}
-use Rattle.mu_affine.specs.declared.exact_form.ExactEntry.{ExactEntry}
-use Rattle.mu_affine.specs.declared.exact_form.ExactForm.{ExactForm}
-use Rattle.mu_affine.specs.AffineForm.{AffineForm, none, is_nonzero, has_coefficient, has_pairs}
-use Rattle.mu_affine.specs.AffineForm.{has_states_alone, has_discretes_alone, may_multiply, is_pair}
-use Rattle.mu_affine.specs.AffineForm.{product_form, checked_form}
-use Rattle.mu_affine.specs.FormRows.{named, paired, pair_cmp, value_at}
-use Rattle.mu_affine.specs.FinishedForms.{form_meaning, IsFinished}
-use Rattle.mu_affine.specs.Kinds.{IsConstant, IsOfStates, IsOfDiscretes, IsVariable}
-use Rattle.mu_affine.specs.Scaling.{scaled_form}
-use Rattle.mu_affine.specs.FormParts.{placed, kept, then_form, multiply_forms}
+use Rattle.mu_affine.proofs.Common
+use Common.{*ℤ-zero, [], ℕ, ◌&&◌, ◌*ℤ◌, ◌+ℤ◌, ◌+◌, ◌<◌, ◌||◌, ◌∙◌, ◌∷◌, ◌≡◌, ◌≤◌, AffineForm, ap}
+use Common.{arith, Bool, cases_Bool, checked_form, Err, ExactEntry, ExactForm, false, form_meaning}
+use Common.{Fraction, fun_ext, get_or, has_coefficient, has_discretes_alone, has_pairs}
+use Common.{has_states_alone, if◌then◌else◌, inl, inr, ints, is_nonzero, is_pair, IsConstant}
+use Common.{IsFinished, IsOfDiscretes, IsOfStates, kept, length, List, lowest, map, multiply_forms}
+use Common.{named, nat_cmp, nat_tests, none, not, NotAffine, Ok, pair_cmp, paired, Place, pos}
+use Common.{product, product_form, refl, scaled_form, Sizes, slice_get, Some, subst, sum, sym}
+use Common.{then_form, true, unsigned_abs-mul, value_at, zero-*ℤ}
+use Rattle.mu_affine.specs.AffineForm.{may_multiply}
+use Rattle.mu_affine.specs.Kinds.{IsVariable}
+use Rattle.mu_affine.specs.FormParts.{placed}
 use Rattle.mu_affine.proofs.Fractions.{sum-comm, product-comm, lowest-zero_sum, lowest-sum_zero}
 use Rattle.mu_affine.proofs.Fractions.{zero_from_num, zero_num, nonzero_size, nonzero_from_size}
 use Rattle.mu_affine.proofs.Fractions.{positive_product, reduced_zero}

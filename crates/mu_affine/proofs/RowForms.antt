@@ -1,25 +1,16 @@
 -- Coefficients under keys: what joining a list to a row leaves.
-use Rattle.std.proofs.Common.{◌≡◌, ◌∙◌, ◌<◌, ◌+◌, ℕ, List, [], ◌∷◌, ◌++◌, length, get_or, take, map}
-use Rattle.std.proofs.Common.{refl, sym, ap, subst, arith, add-one, cond, Bool, true, false}
-use Rattle.std.specs.Prelude.{if◌then◌else◌, Some, None, unwrap_or, Ok, Err}
-use Rattle.std.specs.List.{slice_get, AllByRecursion}
-use Rattle.std.specs.List.Sorted.{IsStrictlySortedBy}
-use Rattle.std.specs.declared.cmp.Ordering.{Ordering}
-use Rattle.std.specs.declared.cmp.Ordering.TheVariants.{Less, Equal, Greater}
-use Rattle.std.specs.Ordering.{ordering_reverse, ordering_then, nat_cmp, is_eq}
-use Rattle.std.specs.Cmp.{IsTotalOrder, then_total, on_total, ranked}
-use Rattle.std.specs.BTreeMap.{is_at}
-use Rattle.std.specs.Map.{lookup, keys_of}
-use Prim.Native.Nat.{zero, suc}
+use Rattle.mu_affine.proofs.Common
+use Common.{[], ℕ, ◌++◌, ◌+◌, ◌<◌, ◌∙◌, ◌∷◌, ◌≡◌, add-one, AllByRecursion, ap, AreReduced, arith}
+use Common.{Bool, ChangesAt, checked, cond, difference, Equal, Err, false, Fraction, get_or}
+use Common.{Greater, if◌then◌else◌, is_at, is_eq, IsReduced, IsRising, IsStrictlySortedBy, joined}
+use Common.{JoinsAll, keys_of, length, Less, List, lookup, map, map-append, nat_cmp, None, none}
+use Common.{NumErr, Ok, Ordering, ordering_reverse, ordering_then, pair_cmp, ranked, refl, Some}
+use Common.{SomeFails, sorted_head, sorted_tail, subst, suc, sum, sym, take, take-map, true}
+use Common.{unwrap_or, value_at, zero}
+use Rattle.std.specs.List.{slice_get}
+use Rattle.std.specs.Cmp.{IsTotalOrder, then_total, on_total}
 use Rattle.std.proofs.Math.Seq.{take-suc}
-use Rattle.std.proofs.lemmas.List.{take-map, map-append}
 use Rattle.std.proofs.lemmas.Cmp.{nat_cmp_total}
-use Rattle.std.proofs.lemmas.Map.Keys.{sorted_head, sorted_tail}
-use Rattle.mu_num.specs.declared.NumErr.{NumErr}
-use Rattle.mu_num.specs.Fraction.{Fraction, IsReduced, sum, difference, checked}
-use Rattle.mu_affine.specs.AffineForm.{none}
-use Rattle.mu_affine.specs.FormRows.{value_at, joined, ChangesAt, JoinsAll, SomeFails, IsRising}
-use Rattle.mu_affine.specs.FormRows.{AreReduced, pair_cmp}
 use Rattle.mu_affine.proofs.Fractions.{lowest-sum_zero, lowest-difference_zero, checked_same}
 use Rattle.mu_affine.proofs.Fractions.{checked-reduced}
 

@@ -1,28 +1,18 @@
 -- Rounded right sides and forms that fit are within the limits of a machine.
-use Rattle.std.proofs.Common.{◌≡◌, ◌≢◌, ℕ, ◌+◌, ◌*◌, ◌^◌, ◌≤◌, ◌<◌, Bool, true, not, ◌&&◌, List}
-use Rattle.std.proofs.Common.{length, get_or, map, ℤ, pos, arith}
-use Rattle.std.proofs.lemmas.Int.{ints}
-use Rattle.std.proofs.lemmas.Bool.{and_parts}
-use Rattle.std.proofs.lemmas.Bool.Decides.{nat_tests}
-use Rattle.std.proofs.lemmas.List.{get_or-map, length-map}
-use Rattle.std.proofs.lemmas.List.Elements.{All-map, All-filter, All-weaker, filter_passes}
+use Rattle.mu_affine.proofs.Common
+use Common.{ℕ, ℤ, ◌&&◌, ◌*◌, ◌+◌, ◌<◌, ◌^◌, ◌≡◌, ◌≢◌, ◌≤◌, All, All-map, All-weaker, and_parts}
+use Common.{AreNamed, arith, Bool, Entry, entry_of, ExactEntry, ExactForm, ExactProduct, exceeds}
+use Common.{filter, form_fits, get_or, get_or-map, ints, is_some_number, IsForm, IsRightSide, IsRow}
+use Common.{IsStrictlyIncreasing, IsWithin, length, length-map, List, list_all, map, nat_le}
+use Common.{nat_tests, not, pos, Product, rounded_entries, rounded_form, rounded_products}
+use Common.{rounded_row, row_fits, sum_by, true, unsigned_abs}
+use Rattle.std.proofs.lemmas.List.Elements.{All-filter, filter_passes}
 use Rattle.std.proofs.lemmas.List.Kept.{AllPairs-from_increasing, AllPairs-filter}
 use Rattle.std.proofs.lemmas.List.Sums.{AllPass-from_list_all}
-use Rattle.std.specs.Int.RustNames.{unsigned_abs}
-use Rattle.std.specs.List.{list_all, filter}
-use Rattle.std.specs.List.Sorted.{IsStrictlyIncreasing}
-use Rattle.std.specs.Prelude.{All, AllPairs, nat_le, sum_by}
-use Rattle.mu_num.specs.Sizes.{IsWithin, exceeds}
-use Rattle.mu_affine.specs.declared.exact_form.ExactEntry.{ExactEntry}
-use Rattle.mu_affine.specs.declared.exact_form.ExactProduct.{ExactProduct}
-use Rattle.mu_affine.specs.declared.exact_form.ExactForm.{ExactForm}
-use Rattle.qss_machine.specs.declared.machine_parts.Entry.{Entry}
-use Rattle.qss_machine.specs.declared.machine_parts.Product.{Product}
-use Rattle.qss_machine.specs.MachineLimits.{AreEntries, AreProducts, IsRow, IsForm}
-use Rattle.mu_affine.specs.Rounded.{is_some_number, entry_of, product_of, rounded_entries}
-use Rattle.mu_affine.specs.Rounded.{rounded_products, rounded_row, rounded_form}
-use Rattle.mu_affine.specs.MachineChecks.{row_fits, form_fits}
-use Rattle.mu_affine.specs.RoundedMachines.{AreNamed, ArePaired, IsRightSide}
+use Rattle.std.specs.Prelude.{AllPairs}
+use Rattle.qss_machine.specs.MachineLimits.{AreEntries, AreProducts}
+use Rattle.mu_affine.specs.Rounded.{product_of}
+use Rattle.mu_affine.specs.RoundedMachines.{ArePaired}
 use Rattle.mu_affine.proofs.Turns.{map_twice}
 
 -- keys that rise still rise after some elements are left out

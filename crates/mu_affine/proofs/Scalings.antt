@@ -1,27 +1,16 @@
 -- Forms that are multiplied or divided by a number other than 0.
-use Rattle.std.proofs.Common.{◌≡◌, ◌∙◌, ◌<◌, ◌+◌, ℕ, List, [], ◌∷◌, ◌++◌, length, get_or, take, map}
-use Rattle.std.proofs.Common.{cond, refl, sym, ap, subst, arith, inl, inr, Bool, true, false}
-use Rattle.std.specs.Prelude.{Some, unwrap_or, Ok, Err, ℤ, pos, negsuc, ◌*ℤ◌, unsigned_abs}
-use Rattle.std.specs.Ordering.{nat_cmp}
-use Rattle.std.specs.declared.cmp.Ordering.{Ordering}
-use Rattle.std.specs.List.{AllByRecursion}
-use Rattle.std.specs.List.Sorted.{IsStrictlySortedBy}
-use Rattle.std.specs.BTreeMap.{is_at}
-use Rattle.std.specs.Map.{lookup, keys_of}
-use Rattle.std.proofs.Math.IntN.{zero-*ℤ}
-use Rattle.std.proofs.lemmas.Bool.{cases_Bool}
-use Rattle.std.proofs.lemmas.Int.{unsigned_abs-mul}
-use Rattle.std.proofs.lemmas.List.{map-append}
+use Rattle.mu_affine.proofs.Common
+use Common.{[], ℕ, ℤ, ◌*ℤ◌, ◌++◌, ◌+◌, ◌<◌, ◌∙◌, ◌∷◌, ◌≡◌, AllByRecursion, ap, AreFinished}
+use Common.{AreReduced, arith, Bool, cases_Bool, checked, cond, Err, ExactForm, false, form_meaning}
+use Common.{Fraction, get_or, inl, inr, is_at, is_nonzero, IsCoefficient, IsFinished, IsPair}
+use Common.{IsStrictlySortedBy, keys_of, length, List, lookup, lowest, map, map-append, MayStand}
+use Common.{named, nat_cmp, negsuc, none, NumErr, Ok, Ordering, pair_cmp, paired, Place, pos, refl}
+use Common.{scaled_form, Scales, Some, subst, sym, take, true, unsigned_abs-mul, unwrap_or}
+use Common.{value_at, zero-*ℤ}
+use Rattle.std.specs.Prelude.{unsigned_abs}
 use Rattle.std.proofs.lemmas.List.Elements.{AllZip-push}
-use Rattle.mu_num.specs.declared.NumErr.{NumErr}
-use Rattle.mu_num.specs.Fraction.{Fraction, sign, checked, lowest}
-use Rattle.mu_affine.specs.declared.exact_form.Place.{Place}
-use Rattle.mu_affine.specs.declared.exact_form.ExactForm.{ExactForm}
-use Rattle.mu_affine.specs.AffineForm.{none, is_nonzero}
-use Rattle.mu_affine.specs.FormRows.{named, paired, pair_cmp, value_at, AreReduced}
-use Rattle.mu_affine.specs.FinishedForms.{form_meaning, MayStand, IsPair, IsCoefficient}
-use Rattle.mu_affine.specs.FinishedForms.{AreFinished, IsFinished}
-use Rattle.mu_affine.specs.Scaling.{scaled, Scales, ScaleFails, scaled_form, IsCheckedAnswer}
+use Rattle.mu_num.specs.Fraction.{sign}
+use Rattle.mu_affine.specs.Scaling.{scaled, ScaleFails, IsCheckedAnswer}
 use Rattle.mu_affine.proofs.Fractions.{positive_product, IsReduced-checked, passed, lowest-zero}
 use Rattle.mu_affine.proofs.Fractions.{zero_num, nonzero_size, nonzero_from_size, nonzero-lowest}
 use Rattle.mu_affine.proofs.Fractions.{checked_same, checked-reduced, IsReduced-none}

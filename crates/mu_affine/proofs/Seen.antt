@@ -1,19 +1,11 @@
 -- The checks of the code's lists are those of a flat model.
-use Rattle.std.proofs.Common.{◌≡◌, ℕ, ◌+◌, ◌≤◌, List, length, take, drop, map, ℤ, sym, ◌∙◌, ap}
-use Rattle.std.proofs.Common.{arith}
-use Rattle.std.proofs.lemmas.List.{take-map, drop-map, length-map}
-use Rattle.mu_affine.specs.declared.exact_form.ExactForm.{ExactForm}
-use Rattle.mu_tree.specs.declared.flat.FlatVar.{FlatVar}
-use Rattle.mu_tree.specs.declared.flat.Settings.{Settings}
-use Rattle.mu_tree.specs.FlatExpression.{FlatVariable, FlatModelTree, flat_variable}
-use Rattle.qss_machine.specs.declared.machine_parts.StateInfo.{StateInfo}
-use Rattle.qss_machine.specs.declared.machine_parts.DiscreteInfo.{DiscreteInfo}
-use Rattle.mu_affine.specs.declared.machine_fault.MachineErr.TheVariants.{Start, Quantum}
-use Rattle.mu_affine.specs.declared.machine_fault.MachineErr.TheVariants.{Coefficient}
-use Rattle.mu_affine.specs.Rounded.{rounded, rounded_row, rounded_state, rounded_discrete}
-use Rattle.mu_affine.specs.FormPlaces.{state_count, discrete_count, states_of, discretes_of}
-use Rattle.mu_affine.specs.MachineChecks.{checks, is_start, is_value, is_quantum, start_level}
-use Rattle.mu_affine.specs.MachineChecks.{row_fits, row_fits_at_start}
+use Rattle.mu_affine.proofs.Common
+use Common.{ℕ, ℤ, ◌+◌, ◌∙◌, ◌≡◌, ◌≤◌, ap, arith, checks, Coefficient, discrete_count, DiscreteInfo}
+use Common.{discretes_of, drop, ExactForm, flat_variable, FlatModelTree, FlatVar, FlatVariable}
+use Common.{is_quantum, is_start, is_value, length, length-map, List, map, Quantum, rounded}
+use Common.{rounded_discrete, rounded_row, rounded_state, row_fits, row_fits_at_start, Settings}
+use Common.{Start, start_level, state_count, StateInfo, states_of, sym, take, take-map}
+use Rattle.std.proofs.lemmas.List.{drop-map}
 use Rattle.mu_affine.proofs.Failing.{checks-map}
 use Rattle.mu_affine.proofs.ChecksInOrder.{counts_fit}
 use Rattle.mu_affine.proofs.Turns.{map_twice}

@@ -1,22 +1,12 @@
 -- Coefficients that are set, each once.
-use Rattle.std.proofs.Common.{◌≡◌, ◌∙◌, ◌<◌, ◌+◌, ℕ, List, [], ◌∷◌, ◌++◌, length, get_or, take, map}
-use Rattle.std.proofs.Common.{cond, refl, sym, ap, subst, false}
-use Rattle.std.specs.Prelude.{Some, None, slice_get, Ok, if◌then◌else◌}
-use Rattle.std.specs.Ordering.{nat_cmp, ordering_then, is_eq, ordering_reverse}
-use Rattle.std.specs.declared.cmp.Ordering.{Ordering}
-use Rattle.std.specs.declared.cmp.Ordering.TheVariants.{Less, Equal, Greater}
-use Rattle.std.specs.List.{AllByRecursion}
-use Rattle.std.specs.List.Sorted.{IsStrictlySortedBy}
-use Rattle.std.specs.BTreeMap.{is_at}
-use Rattle.std.specs.Map.{lookup, keys_of}
-use Prim.Native.Nat.{zero, suc}
-use Rattle.std.proofs.lemmas.List.{take-map}
-use Rattle.mu_num.specs.declared.NumErr.{NumErr}
-use Rattle.mu_num.specs.Fraction.{Fraction, product, checked}
-use Rattle.mu_affine.specs.declared.exact_form.ExactEntry.{ExactEntry}
-use Rattle.mu_affine.specs.FormRows.{named, pair_cmp, value_at, ChangesAt, IsRising}
-use Rattle.mu_affine.specs.ProductRows.{beside, IsSet, SetsAll, IsPairSet, SetsTable, ListFails}
-use Rattle.mu_affine.specs.ProductRows.{TableFails}
+use Rattle.mu_affine.proofs.Common
+use Common.{[], ℕ, ◌++◌, ◌+◌, ◌<◌, ◌∙◌, ◌∷◌, ◌≡◌, AllByRecursion, ap, beside, ChangesAt, checked}
+use Common.{cond, Equal, ExactEntry, false, Fraction, get_or, Greater, if◌then◌else◌, is_at, is_eq}
+use Common.{IsPairSet, IsRising, IsSet, IsStrictlySortedBy, keys_of, length, Less, List, ListFails}
+use Common.{lookup, map, named, nat_cmp, None, NumErr, Ok, Ordering, ordering_reverse}
+use Common.{ordering_then, pair_cmp, product, refl, SetsAll, slice_get, Some, subst, suc, sym}
+use Common.{TableFails, take, take-map, value_at, zero}
+use Rattle.mu_affine.specs.ProductRows.{SetsTable}
 use Rattle.mu_affine.proofs.RowForms.{IsKeyOrder, nat_order, level_self, lookup_push, lookup_kept}
 use Rattle.mu_affine.proofs.RowForms.{unseen, entry_at, entries_more}
 

@@ -1,25 +1,13 @@
 -- The tests of a form's coefficients, by the lists of a finished form.
-use Rattle.std.proofs.Common.{◌≡◌, ◌<◌, ◌≤◌, ◌+◌, ℕ, List, [], ◌∷◌, length, get_or, map, refl, sym}
-use Rattle.std.proofs.Common.{subst, arith, inl, inr, Bool, true, false}
-use Rattle.std.specs.Prelude.{Some, slice_get, not, ◌||◌, ◌⊎◌, All}
-use Rattle.std.specs.Ordering.{nat_cmp}
-use Rattle.std.specs.declared.cmp.Ordering.{Ordering}
-use Rattle.std.specs.declared.cmp.Ordering.TheVariants.{Less, Equal, Greater}
-use Rattle.std.specs.List.{AllByRecursion}
-use Prim.Native.Nat.{zero, suc}
-use Rattle.std.proofs.lemmas.Bool.{cases_Bool, cases_lt}
-use Rattle.std.proofs.lemmas.List.{get_or_default}
-use Rattle.mu_num.specs.Fraction.{Fraction}
-use Rattle.mu_affine.specs.declared.exact_form.Sizes.{Sizes}
-use Rattle.mu_affine.specs.declared.exact_form.Place.{Place}
-use Rattle.mu_affine.specs.declared.exact_form.ExactEntry.{ExactEntry}
-use Rattle.mu_affine.specs.declared.exact_form.ExactForm.{ExactForm}
-use Rattle.mu_affine.specs.AffineForm.{AffineForm, is_nonzero, any_from, has_states, has_discretes}
-use Rattle.mu_affine.specs.AffineForm.{has_previous, has_pairs, has_coefficient, has_states_alone}
-use Rattle.mu_affine.specs.AffineForm.{has_discretes_alone}
-use Rattle.mu_affine.specs.FormRows.{named, paired, pair_cmp, value_at}
-use Rattle.mu_affine.specs.FinishedForms.{form_meaning, IsName, IsPair, IsFinished}
-use Rattle.mu_affine.specs.Kinds.{IsConstant, IsOfStates, IsOfDiscretes}
+use Rattle.mu_affine.proofs.Common
+use Common.{[], ℕ, ◌+◌, ◌<◌, ◌||◌, ◌∷◌, ◌≡◌, ◌≤◌, ◌⊎◌, AffineForm, All, AllByRecursion, any_from}
+use Common.{arith, Bool, cases_Bool, cases_lt, Equal, ExactEntry, ExactForm, false, form_meaning}
+use Common.{Fraction, get_or, get_or_default, Greater, has_coefficient, has_discretes_alone}
+use Common.{has_pairs, has_states_alone, inl, inr, is_nonzero, IsConstant, IsFinished, IsName}
+use Common.{IsOfDiscretes, IsOfStates, IsPair, length, Less, List, map, named, nat_cmp, not}
+use Common.{Ordering, pair_cmp, paired, Place, refl, Sizes, slice_get, Some, subst, suc, sym, true}
+use Common.{value_at, zero}
+use Rattle.mu_affine.specs.AffineForm.{has_states, has_discretes, has_previous}
 use Rattle.mu_affine.proofs.RowForms.{IsKeyOrder, nat_order, pair_order, entry_at}
 use Rattle.mu_affine.proofs.Checks.{any_from-none, any_from-some}
 use Rattle.mu_affine.proofs.Sums.{nonzero_at}

@@ -1,38 +1,30 @@
 -- The solved forms of a flat model are a solution, and two solutions agree.
-use Rattle.std.proofs.Common.{◌≡◌, ◌∙◌, ◌<◌, ◌≤◌, ◌+◌, ℕ, List, [], ◌∷◌, ◌++◌, length, get_or, refl}
-use Rattle.std.proofs.Common.{sym, ap, subst, arith, inl, inr, Bool, true, false, append-nil}
-use Rattle.std.proofs.Common.{append_assoc}
-use Rattle.std.specs.Prelude.{Option, Some, None, slice_get, ◌≢◌, ◌⊎◌, Contains, nat_eq, nat_lt}
-use Rattle.std.specs.Prelude.{if◌then◌else◌, Result, Ok}
-use Prim.Native.Nat.{zero, suc}
-use Rattle.std.proofs.lemmas.Bool.{cases_eq, cases_lt}
-use Rattle.std.proofs.lemmas.Bool.Decides.{nat_tests}
+use Rattle.mu_affine.proofs.Common
+use Common.{[], ℕ, ◌++◌, ◌+◌, ◌<◌, ◌∙◌, ◌∷◌, ◌≡◌, ◌≢◌, ◌≤◌, action_form, AffineErr, AffineForm}
+use Common.{Algebraic, ap, AreFlatFactors, AreFlatTerms, arith, Bool, cases_eq, cases_lt}
+use Common.{clause_context, condition_form, Constant, counted, DependsOn, Discrete}
+use Common.{equation_context, factor, false, FlatAction, FlatBranchTree, FlatEquationTree}
+use Common.{FlatExpression, FlatFactors, FlatModelTree, FlatRole, FlatTerms, FlatVariable, Follow}
+use Common.{form_of, forms_of, FormsSoFar, if◌then◌else◌, inl, inr, IsAlgebraic, IsFlatEquation}
+use Common.{IsFlatExpression, IsFlatModel, IsOrder, join_forms, keep, keep_actions, keep_branches}
+use Common.{keep_clauses, keep_states, kept, length, List, multiply_forms, nat_eq, nat_lt}
+use Common.{nat_tests, no_factors, no_terms, None, nothing_taken, Now, Ok, Option, Power, Previous}
+use Common.{product_of, raise_form, refl, Result, right_side, Sizes, sizes_of, slice_get, solve}
+use Common.{solve_all, Some, State, subst, suc, Sum, sum_form, sym, term, then_form, then_take}
+use Common.{true, Variable, zero}
+use Rattle.std.proofs.Common.{append-nil, append_assoc}
+use Rattle.std.specs.Prelude.{Contains}
 use Rattle.std.proofs.lemmas.List.Elements.{All-contains, Contains-append_left}
 use Rattle.std.proofs.lemmas.List.Elements.{Contains-append_right, Contains-append_cases}
 use Rattle.std.proofs.lemmas.List.Elements.{Contains-push_cases}
-use Rattle.mu_tree.specs.declared.flat.FlatRole.{FlatRole}
-use Rattle.mu_tree.specs.declared.flat.FlatRole.TheVariants.{State, Discrete, Algebraic}
-use Rattle.mu_tree.specs.FlatExpression.{FlatExpression, Constant, Variable, Previous, Now, Sum}
-use Rattle.mu_tree.specs.FlatExpression.{Product, Power, FlatTerms, no_terms, term, FlatFactors}
-use Rattle.mu_tree.specs.FlatExpression.{no_factors, factor, FlatVariable, FlatEquationTree}
-use Rattle.mu_tree.specs.FlatExpression.{FlatAction, FlatBranchTree, FlatModelTree}
-use Rattle.mu_tree.specs.FlatModels.{IsFlatExpression, AreFlatTerms, AreFlatFactors, IsFlatEquation}
-use Rattle.mu_tree.specs.FlatModels.{IsFlatModel, target_role}
-use Rattle.mu_causal.specs.Causality.{IsReady, Follow, IsOrder}
-use Rattle.mu_causal.specs.Dependencies.{names_of, names_of_terms, names_of_factors, IsAlgebraic}
-use Rattle.mu_causal.specs.Dependencies.{DependsOn, WantsEquation, wants_equation, numbers_from}
-use Rattle.mu_causal.specs.Dependencies.{EachHasOneEquation}
+use Rattle.mu_tree.specs.FlatExpression.{Product}
+use Rattle.mu_tree.specs.FlatModels.{target_role}
+use Rattle.mu_causal.specs.Causality.{IsReady}
+use Rattle.mu_causal.specs.Dependencies.{names_of, names_of_terms, names_of_factors, WantsEquation}
+use Rattle.mu_causal.specs.Dependencies.{wants_equation, numbers_from, EachHasOneEquation}
 use Rattle.mu_causal.proofs.Elements.{contained, contained_first, contained_later, none_contained}
-use Rattle.mu_affine.specs.declared.affine_fault.AffineErr.{AffineErr}
-use Rattle.mu_affine.specs.declared.exact_form.Sizes.{Sizes}
-use Rattle.mu_affine.specs.AffineForm.{AffineForm}
-use Rattle.mu_affine.specs.FormParts.{kept, then_form, join_forms, multiply_forms, raise_form}
-use Rattle.mu_affine.specs.FormOf.{variable_form, form_of, sum_form, product_of}
-use Rattle.mu_affine.specs.Solution.{sizes_of, equation_context, clause_context, IsSolution}
-use Rattle.mu_affine.specs.FormSequence.{FormsSoFar, then_take, counted, right_side, solve}
-use Rattle.mu_affine.specs.FormSequence.{solve_all, keep, keep_states, condition_form, action_form}
-use Rattle.mu_affine.specs.FormSequence.{keep_actions, keep_branches, keep_clauses, nothing_taken}
-use Rattle.mu_affine.specs.FormSequence.{forms_of}
+use Rattle.mu_affine.specs.FormOf.{variable_form}
+use Rattle.mu_affine.specs.Solution.{IsSolution}
 use Rattle.mu_affine.proofs.Steps.{parts_of, same_ok}
 use Rattle.mu_affine.proofs.Bridges.{state_place, discrete_place}
 

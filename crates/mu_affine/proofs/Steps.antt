@@ -1,27 +1,11 @@
 -- Steps that follow each other, and their faults.
-use Rattle.std.proofs.Common.{◌≡◌, ◌∙◌, ◌<◌, ◌+◌, ℕ, List, ◌∷◌, length, drop, get_or, map, add-one}
-use Rattle.std.proofs.Common.{refl, sym, ap}
-use Rattle.std.specs.Prelude.{Result, Ok, Err}
-use Prim.Native.Nat.{suc}
-use Rattle.std.proofs.Math.Seq.{drop-cons}
-use Rattle.mu_tree.specs.declared.flat.FlatStatement.{FlatStatement}
-use Rattle.mu_tree.specs.declared.flat.FlatBranch.{FlatBranch}
-use Rattle.mu_tree.specs.declared.flat.FlatClause.{FlatClause}
-use Rattle.mu_tree.specs.FlatExpression.{FlatModelTree, flat_action, flat_branch, flat_clause}
-use Rattle.mu_affine.specs.declared.affine_fault.AffineErr.{AffineErr}
-use Rattle.mu_affine.specs.declared.affine_fault.AffineErr.TheVariants.{NotAffine, TimeHere}
-use Rattle.mu_affine.specs.declared.affine_fault.AffineErr.TheVariants.{ConstFault, TooDense}
-use Rattle.mu_affine.specs.declared.affine_fault.AffineErr.TheVariants.{Memory}
-use Rattle.mu_affine.specs.declared.exact_form.Sizes.{Sizes}
-use Rattle.mu_affine.specs.declared.exact_form.Place.{Place}
-use Rattle.mu_affine.specs.AffineForm.{AffineForm}
-use Rattle.mu_affine.specs.FormParts.{IsAnswer}
-use Rattle.mu_affine.specs.Solution.{clause_context}
-use Rattle.mu_affine.specs.FormSequence.{FormsSoFar, then_take, keep, solve, solve_all, action_form}
-use Rattle.mu_affine.specs.FormSequence.{condition_form, keep_actions, keep_branches, keep_clauses}
-use Rattle.mu_affine.specs.KeptForms.{IsAffineFault}
-use Rattle.mu_affine.specs.FormSequence.{forms_of}
-use Rattle.mu_affine.specs.Takings.{IsFaultOf}
+use Rattle.mu_affine.proofs.Common
+use Common.{ℕ, ◌+◌, ◌<◌, ◌∙◌, ◌∷◌, ◌≡◌, action_form, add-one, AffineErr, AffineForm, ap}
+use Common.{clause_context, condition_form, ConstFault, drop, drop-cons, Err, flat_action}
+use Common.{flat_branch, flat_clause, FlatBranch, FlatClause, FlatModelTree, FlatStatement}
+use Common.{forms_of, FormsSoFar, get_or, IsAffineFault, IsAnswer, IsFaultOf, keep, keep_actions}
+use Common.{keep_branches, keep_clauses, length, List, map, Memory, NotAffine, Ok, Place, refl}
+use Common.{Result, Sizes, solve, solve_all, suc, sym, then_take, TimeHere, TooDense}
 
 -- a defined fault is one
 pub is_fault : {A : Type 0} (r : Result A AffineErr) (fault : AffineErr) → r ≡ Err fault → IsFaultOf r fault

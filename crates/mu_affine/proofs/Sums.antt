@@ -1,26 +1,12 @@
 -- A form that joins a running sum.
-use Rattle.std.proofs.Common.{◌≡◌, ◌∙◌, ◌<◌, ℕ, List, [], ◌∷◌, cond, map, refl, sym, ap, subst}
-use Rattle.std.proofs.Common.{arith, inl, inr, Bool, true, false}
-use Rattle.std.specs.Prelude.{Some, unwrap_or, Ok, Err, slice_get, pos, ◌*ℤ◌}
-use Rattle.std.specs.Ordering.{nat_cmp}
-use Rattle.std.specs.declared.cmp.Ordering.{Ordering}
-use Rattle.std.specs.List.{AllByRecursion}
-use Rattle.std.specs.BTreeMap.{is_at}
-use Rattle.std.specs.Map.{lookup}
-use Prim.Native.Nat.{zero, suc}
-use Rattle.std.proofs.Math.IntN.{zero-*ℤ}
-use Rattle.std.proofs.lemmas.Bool.{cases_Bool}
-use Rattle.std.proofs.lemmas.Int.{ints}
-use Rattle.mu_num.specs.declared.NumErr.{NumErr}
-use Rattle.mu_num.specs.Fraction.{Fraction, IsReduced, checked, lowest}
-use Rattle.mu_affine.specs.declared.exact_form.ExactForm.{ExactForm}
-use Rattle.mu_affine.specs.declared.form_sum.RunningForm.{RunningForm}
-use Rattle.mu_affine.specs.AffineForm.{none, is_nonzero, combined}
-use Rattle.mu_affine.specs.FormRows.{named, paired, pair_cmp, value_at, joined, JoinsAll, SomeFails}
-use Rattle.mu_affine.specs.FormRows.{AreReduced}
-use Rattle.mu_affine.specs.FinishedForms.{form_meaning, sum_meaning, MayStand, IsPair}
-use Rattle.mu_affine.specs.FinishedForms.{IsCoefficient, AreFinished, IsCanonical, IsReducedSum}
-use Rattle.mu_affine.specs.FinishedForms.{JoinsForm}
+use Rattle.mu_affine.proofs.Common
+use Common.{[], ℕ, ◌*ℤ◌, ◌<◌, ◌∙◌, ◌∷◌, ◌≡◌, AllByRecursion, ap, AreFinished, AreReduced, arith}
+use Common.{Bool, cases_Bool, checked, combined, cond, Err, ExactForm, false, form_meaning}
+use Common.{Fraction, inl, inr, ints, is_at, is_nonzero, IsCoefficient, IsPair, IsReduced}
+use Common.{IsReducedSum, joined, JoinsAll, List, lookup, lowest, map, MayStand, named, nat_cmp}
+use Common.{none, NumErr, Ok, Ordering, pair_cmp, paired, pos, refl, RunningForm, slice_get, Some}
+use Common.{SomeFails, subst, suc, sum_meaning, sym, true, unwrap_or, value_at, zero, zero-*ℤ}
+use Rattle.mu_affine.specs.FinishedForms.{IsCanonical, JoinsForm}
 use Rattle.mu_affine.proofs.Fractions.{positive_product, IsReduced-checked, IsReduced-none, passed}
 use Rattle.mu_affine.proofs.Fractions.{lowest-zero, zero_num}
 use Rattle.mu_affine.proofs.RowForms.{IsKeyOrder, nat_order, pair_order, found}

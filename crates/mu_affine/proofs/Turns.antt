@@ -1,10 +1,7 @@
 -- One turn of a loop that makes a list.
-use Rattle.std.proofs.Common.{◌≡◌, ℕ, ◌+◌, ◌≤◌, ◌<◌, List, [], ◌∷◌, ◌++◌, length, get_or, take, map}
-use Rattle.std.proofs.Common.{refl, sym, ◌∙◌, ap, arith}
-use Rattle.std.proofs.lemmas.List.{take_more, take_all, map-append}
-use Rattle.std.proofs.lemmas.List.Sums.{sum_by-cons}
-use Rattle.std.specs.Prelude.{sum_by}
-use Rattle.mu_affine.specs.FormPlaces.{placed}
+use Rattle.mu_affine.proofs.Common
+use Common.{[], ℕ, ◌++◌, ◌+◌, ◌<◌, ◌∙◌, ◌∷◌, ◌≡◌, ◌≤◌, ap, arith, get_or, length, List, map}
+use Common.{map-append, placed, refl, sum_by, sum_by-cons, sym, take, take_all, take_more}
 
 -- what is made of what is made
 pub map_twice : {X Y Z : Type 0} (make : X → Y) (key : Y → Z) (xs : List X) → map key (map make xs) ≡ map (λ x. key (make x)) xs

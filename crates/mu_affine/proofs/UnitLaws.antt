@@ -1,25 +1,21 @@
 -- What accepted settings say of the units of a machine.
-use Rattle.std.proofs.Common.{◌≡◌, ℕ, ◌+◌, ◌^◌, ◌≤◌, ◌<◌, Bool, true, ◌&&◌, List, [], ◌∷◌, ℤ, pos}
-use Rattle.std.proofs.Common.{negsuc, ◌*ℤ◌, ◌≤ℤ◌, ◌<ℤ◌, arith, None}
-use Rattle.std.proofs.Math.IntN.{*ℤ-zero}
-use Rattle.std.proofs.lemmas.Int.{ints}
-use Rattle.std.proofs.lemmas.Bool.{and_parts, leb-true}
-use Rattle.std.specs.Int.RustNames.{unsigned_abs, int_le, int_lt}
+use Rattle.mu_affine.proofs.Common
+use Common.{*ℤ-zero, [], ℕ, ℤ, ◌&&◌, ◌*ℤ◌, ◌+◌, ◌<◌, ◌^◌, ◌∷◌, ◌≡◌, ◌≤ℤ◌, ◌≤◌, and_parts, arith}
+use Common.{bits_of, Bool, Check, first_failed, Fraction, int_le, ints, last_of, leb-true, List}
+use Common.{nat_eq, nat_le, negsuc, None, pos, setting_checks, Settings, true, unsigned_abs}
+use Rattle.std.proofs.Common.{◌<ℤ◌}
+use Rattle.std.specs.Int.RustNames.{int_lt}
 use Rattle.std.specs.Ordering.{int_eq}
-use Rattle.std.specs.Prelude.{nat_eq, nat_le}
-use Rattle.mu_num.specs.Fraction.{Fraction}
 use Rattle.mu_num.specs.Rounding.{IsCeiling}
 use Rattle.mu_num.proofs.Integers.{mul-above, mul-from_zero}
 use Rattle.mu_num.proofs.Quotients.{ceiling_meets}
 use Rattle.mu_num.proofs.Tests.{int_lt-true}
-use Rattle.mu_tree.specs.declared.flat.Settings.{Settings}
 use Rattle.mu_tree.specs.declared.tree.SettingName.TheVariants.{StartTime, StopTime, CoefBits}
 use Rattle.mu_tree.specs.declared.tree.SettingName.TheVariants.{TickBits, LevelBits}
 use Rattle.qss_machine.specs.MachineLimits.{HasUnits}
 use Rattle.mu_affine.specs.declared.machine_fault.MachineErr.TheVariants.{Setting}
 use Rattle.mu_affine.specs.Rounded.{rounded_up}
-use Rattle.mu_affine.specs.MachineChecks.{Check, first_failed, is_bits, bits_of, last_of}
-use Rattle.mu_affine.specs.MachineChecks.{setting_checks}
+use Rattle.mu_affine.specs.MachineChecks.{is_bits}
 use Rattle.mu_affine.proofs.Failing.{none_both}
 
 ceiling_low : (n d q : ℤ) → pos 0 <ℤ d → pos 0 ≤ℤ n → IsCeiling n d q → pos 0 ≤ℤ q

@@ -1,17 +1,8 @@
 -- States and discrete variables, field by field.
-use Rattle.std.proofs.Common.{◌≡◌, ℕ, ◌+◌, ◌^◌, List, true, ℤ, pos, ◌≤ℤ◌, ◌∙◌, ap, arith}
-use Rattle.std.proofs.lemmas.Int.{ints, to_z-of_z}
-use Rattle.std.proofs.lemmas.Bool.{and_parts}
-use Rattle.std.specs.Int.RustNames.{int_le, FitsSigned}
-use Rattle.mu_num.specs.Fraction.{Fraction}
-use Rattle.mu_tree.specs.declared.flat.FlatVar.{FlatVar}
-use Rattle.mu_tree.specs.FlatExpression.{flat_variable}
-use Rattle.qss_machine.specs.declared.machine_parts.StateInfo.{StateInfo}
-use Rattle.qss_machine.specs.declared.machine_parts.DiscreteInfo.{DiscreteInfo}
-use Rattle.mu_affine.specs.Rounded.{rounded, rounded_down, rounded_state, rounded_discrete}
-use Rattle.mu_affine.specs.MachineChecks.{is_quantum}
-use mir.Syntax.{w64}
-use mir.Val.{to_z, of_z}
+use Rattle.mu_affine.proofs.Common
+use Common.{ℕ, ℤ, ◌+◌, ◌^◌, ◌∙◌, ◌≡◌, ◌≤ℤ◌, and_parts, ap, arith, DiscreteInfo, FitsSigned}
+use Common.{flat_variable, FlatVar, Fraction, int_le, ints, is_quantum, List, of_z, pos, rounded}
+use Common.{rounded_discrete, rounded_down, rounded_state, StateInfo, to_z, to_z-of_z, true, w64}
 
 abbrev state_with : List ℕ → (x0 quantum : ℤ) → StateInfo
 state_with name x0 quantum = record { name = name; x0 = x0; quantum = quantum }

@@ -1,28 +1,17 @@
 -- The walk of an expression, part by part.
-use Rattle.std.proofs.Common.{◌≡◌, ◌∙◌, ◌<◌, ◌≤◌, ◌+◌, ℕ, List, [], ◌∷◌, length, get_or, refl, sym}
-use Rattle.std.proofs.Common.{ap, subst, arith, inl, inr, Bool, true, false}
-use Rattle.std.specs.Prelude.{Some, slice_get, Result, Ok, Err, not, ◌&&◌, nat_lt, ◌==◌, ◌⊎◌}
-use Rattle.std.proofs.lemmas.Bool.{cases_Bool, false≢true, eqb-true}
-use Rattle.std.proofs.lemmas.Bool.Decides.{nat_tests}
-use Rattle.std.proofs.lemmas.Option.{slice_get-get_or}
-use Rattle.mu_num.specs.Fraction.{Fraction}
-use Rattle.mu_tree.specs.FlatExpression.{Variable, Power, FlatExpression, FlatTerms, no_terms, term}
-use Rattle.mu_tree.specs.FlatExpression.{FlatFactors, no_factors, factor}
-use Rattle.mu_affine.specs.declared.exact_form.Place.{Place}
-use Rattle.mu_affine.specs.declared.exact_form.ExactForm.{ExactForm}
-use Rattle.mu_affine.specs.declared.affine_fault.AffineErr.{AffineErr}
-use Rattle.mu_affine.specs.declared.affine_fault.AffineErr.TheVariants.{NotAffine, TimeHere}
-use Rattle.mu_affine.specs.declared.affine_fault.AffineErr.TheVariants.{ConstFault, TooDense}
-use Rattle.mu_affine.specs.declared.affine_fault.AffineErr.TheVariants.{Memory}
-use Rattle.mu_affine.specs.AffineForm.{AffineForm, constant_form, name_form, has_pairs, is_nonzero}
-use Rattle.mu_affine.specs.declared.form_sum.RunningForm.{RunningForm}
-use Rattle.mu_affine.specs.FinishedForms.{form_meaning, sum_meaning, MayStand, IsOver, IsFinished}
-use Rattle.mu_affine.specs.FinishedForms.{Finishes}
-use Rattle.mu_affine.specs.FormParts.{join_forms, multiply_forms, raise_form, IsAnswer}
+use Rattle.mu_affine.proofs.Common
+use Common.{[], ℕ, ◌&&◌, ◌+◌, ◌<◌, ◌==◌, ◌∙◌, ◌∷◌, ◌≡◌, ◌≤◌, ◌⊎◌, AffineErr, AffineForm, ap, arith}
+use Common.{Bool, cases_Bool, constant_form, ConstFault, Context, context_of, Err, ExactForm}
+use Common.{factor, false, false≢true, Finishes, FlatExpression, FlatFactors, FlatTerms}
+use Common.{form_meaning, form_of, forms_in, Fraction, get_or, has_pairs, inl, inr, is_nonzero}
+use Common.{IsAnswer, IsFinished, IsOver, join_forms, length, List, MayStand, Memory}
+use Common.{multiply_forms, nat_lt, nat_tests, no_factors, no_terms, not, NotAffine, Ok, Place}
+use Common.{Power, product_of, raise_form, refl, Result, RunningForm, slice_get, slice_get-get_or}
+use Common.{Some, subst, sum_form, sum_meaning, sym, term, TimeHere, TooDense, true, Variable}
+use Rattle.std.proofs.lemmas.Bool.{eqb-true}
+use Rattle.mu_affine.specs.AffineForm.{name_form}
 use Rattle.mu_affine.proofs.Checks.{and_false}
 use Rattle.mu_affine.proofs.Showing.{no_pairs, first_pair, has_pairs-none}
-use Rattle.mu_affine.specs.FormOf.{Context, form_of, sum_form, product_of}
-use Rattle.mu_affine.specs.Walks.{context_of, forms_in}
 
 -- a state or a discrete variable is a name
 pub name_is : (p : Place) (solved : List ExactForm) (v at : ℕ) → v < p.sizes.states + p.sizes.discretes → form_of (context_of p solved) (Variable v at) ≡ Ok (name_form v)

@@ -1,20 +1,12 @@
 -- All checks, phase by phase.
-use Rattle.std.proofs.Common.{◌≡◌, ℕ, ◌+◌, List, ◌++◌, length, take, drop, map, ◌∙◌, ap, arith}
-use Rattle.std.proofs.Common.{None}
-use Rattle.std.proofs.lemmas.List.{take_all, length-drop}
-use Rattle.mu_affine.specs.declared.exact_form.ExactForm.{ExactForm}
-use Rattle.mu_tree.specs.declared.flat.Settings.{Settings}
-use Rattle.mu_tree.specs.FlatExpression.{FlatVariable, FlatModelTree}
-use Rattle.mu_affine.specs.declared.machine_fault.MachineErr.{MachineErr}
-use Rattle.mu_affine.specs.declared.machine_fault.MachineErr.TheVariants.{Start, Quantum}
-use Rattle.mu_affine.specs.declared.machine_fault.MachineErr.TheVariants.{Coefficient}
-use Rattle.mu_affine.specs.Rounded.{rounded, rounded_row, rounded_form}
-use Rattle.mu_affine.specs.FormPlaces.{state_count, states_of, discretes_of}
-use Rattle.mu_affine.specs.MachineChecks.{Check, first_failed, checks, IsRefusal, bits_of}
-use Rattle.mu_affine.specs.MachineChecks.{setting_checks, is_start, is_value, is_quantum}
-use Rattle.mu_affine.specs.MachineChecks.{start_level, row_fits, row_fits_at_start, form_fits}
+use Rattle.mu_affine.proofs.Common
+use Common.{ℕ, ◌++◌, ◌+◌, ◌∙◌, ◌≡◌, ap, arith, bits_of, Check, checks, Coefficient, discretes_of}
+use Common.{drop, ExactForm, first_failed, FlatModelTree, FlatVariable, form_checks, form_fits}
+use Common.{is_quantum, is_start, is_value, IsRefusal, length, length-drop, List, machine_checks}
+use Common.{MachineErr, map, None, Quantum, rounded, rounded_form, rounded_row, row_fits}
+use Common.{row_fits_at_start, setting_checks, Settings, Start, start_level, state_count, states_of}
+use Common.{take, take_all}
 use Rattle.mu_affine.specs.MachineChecks.{start_checks, quantum_checks, coefficient_checks}
-use Rattle.mu_affine.specs.MachineChecks.{form_checks, machine_checks}
 use Rattle.mu_affine.proofs.Failing.{refused_before, refused_after, none_failed, none_first}
 use Rattle.mu_affine.proofs.Failing.{none_others}
 

@@ -1,30 +1,15 @@
 -- The forms of a flat model as a whole: what the parts are given, and what they answer together.
-use Rattle.std.proofs.Common.{◌≡◌, ◌∙◌, ◌<◌, ◌≤◌, ◌+◌, ◌^◌, ℕ, List, [], ◌∷◌, ◌++◌, length, map}
-use Rattle.std.proofs.Common.{sym, ap, ap₂, subst, arith}
-use Rattle.std.specs.Prelude.{slice_get, All, Result, Ok}
-use Rattle.std.proofs.lemmas.Option.{slice_get_within}
-use Rattle.std.proofs.lemmas.List.Elements.{All-nil, All-cons, All-weaker}
-use Rattle.std.proofs.lemmas.List.{length-map}
-use Rattle.mu_tree.specs.declared.flat.FlatModel.{FlatModel}
-use Rattle.mu_tree.specs.declared.flat.FlatRole.TheVariants.{State, Discrete}
-use Rattle.mu_tree.specs.FlatExpression.{flat_model, flat_variable, FlatBranchTree, FlatModelTree}
-use Rattle.mu_tree.specs.FlatModels.{IsFlatEquation, IsFlatAction, IsFlatBranch, IsFlatClause}
-use Rattle.mu_tree.specs.FlatModels.{IsFlatModel}
-use Rattle.mu_causal.specs.Causality.{Follow, IsOrder}
-use Rattle.mu_causal.specs.Dependencies.{IsAlgebraic, DependsOn}
-use Rattle.mu_affine.specs.declared.affine_fault.AffineErr.{AffineErr}
-use Rattle.mu_affine.specs.declared.exact_form.Sizes.{Sizes}
-use Rattle.mu_affine.specs.declared.exact_form.Forms.{Forms}
-use Rattle.mu_affine.specs.AffineForm.{AffineForm}
-use Rattle.mu_affine.specs.FinishedForms.{form_meaning, IsFinished}
-use Rattle.mu_affine.specs.declared.normal_forms.CountedForms.{CountedForms}
-use Rattle.mu_affine.specs.Solution.{count_of_role, sizes_of}
-use Rattle.mu_affine.specs.FormSequence.{FormsSoFar, then_take, solve_all, nothing_taken}
-use Rattle.mu_affine.specs.FormSequence.{keep_states, keep_clauses}
-use Rattle.mu_affine.specs.KeptForms.{equation_place, clause_place, AreForms, IsAffineFault}
-use Rattle.mu_affine.specs.Walks.{forms_in, IsNumbered, IsNumberedAction}
-use Rattle.mu_affine.specs.Takings.{IsFaultOf, of_equations, of_clauses, solved_so_far, kept_so_far}
-use Rattle.mu_affine.specs.Takings.{IsKept, IsNumberedBranch}
+use Rattle.mu_affine.proofs.Common
+use Common.{[], ℕ, ◌++◌, ◌+◌, ◌<◌, ◌^◌, ◌∙◌, ◌∷◌, ◌≡◌, ◌≤◌, AffineErr, AffineForm, All, All-cons}
+use Common.{All-nil, All-weaker, ap, AreForms, arith, clause_place, count_of_role, CountedForms}
+use Common.{DependsOn, Discrete, equation_place, flat_model, flat_variable, FlatBranchTree}
+use Common.{FlatModel, FlatModelTree, Follow, form_meaning, Forms, forms_in, FormsSoFar}
+use Common.{IsAffineFault, IsAlgebraic, IsFaultOf, IsFinished, IsFlatAction, IsFlatBranch}
+use Common.{IsFlatClause, IsFlatEquation, IsFlatModel, IsKept, IsNumbered, IsNumberedAction}
+use Common.{IsNumberedBranch, IsOrder, keep_clauses, keep_states, kept_so_far, length, length-map}
+use Common.{List, map, nothing_taken, of_clauses, of_equations, Ok, Result, Sizes, sizes_of}
+use Common.{slice_get, slice_get_within, solve_all, solved_so_far, State, subst, sym, then_take}
+use Rattle.std.proofs.Common.{ap₂}
 use Rattle.mu_affine.proofs.Bridges.{sizes_fit, sizes_within, equation_numbered, left_numbered}
 use Rattle.mu_affine.proofs.Bridges.{right_numbered, action_numbered}
 use Rattle.mu_affine.proofs.Steps.{after, fault_then, fault_after, fault_same, whole_fault}

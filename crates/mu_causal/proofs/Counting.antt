@@ -1,18 +1,19 @@
 -- Counting equations variable by variable.
-use Rattle.std.proofs.Common.{◌≡◌, ◌∙◌, ℕ, ap, subst, arith, inl, inr, ◌+◌, ◌<◌, ◌≤◌, Bool, List, [], ◌∷◌, ◌++◌, length, get_or, map, take, sym, refl, add-zero}
-use Rattle.std.specs.Prelude.{true, false, if◌then◌else◌, nat_eq, Option, Some, None, slice_get, ◌⊎◌}
-use Rattle.std.proofs.lemmas.Option.{slice_get_within, slice_get-get_or, slice_get-map}
-use Rattle.std.proofs.lemmas.Bool.{cases_lt}
+use Rattle.mu_causal.proofs.Common
+use Common.{[], ℕ, ◌++◌, ◌+◌, ◌<◌, ◌∙◌, ◌∷◌, ◌≡◌, ◌≤◌, ◌⊎◌, ap, append-nil, arith, Bool, cases_lt}
+use Common.{EachBelowHasOneEquation, false, flat_equation, flat_variable, FlatEquation}
+use Common.{FlatEquationTree, FlatModelTree, FlatVariable, get_or, get_or_default, if◌then◌else◌}
+use Common.{inl, inr, IsGiven, length, length-map, length-take-le, List, map, nat_eq, Never}
+use Common.{numbers_from, refl, slice_get, slice_get-get_or, slice_get_within, Some, subst, sym}
+use Common.{take, true}
+use Rattle.std.proofs.Common.{add-zero}
+use Rattle.std.specs.Prelude.{Option, None}
+use Rattle.std.proofs.lemmas.Option.{slice_get-map}
 use Rattle.mu_tree.specs.declared.flat.FlatVar.{FlatVar}
-use Rattle.mu_tree.specs.FlatExpression.{flat_variable, FlatVariable, FlatModelTree}
 use Rattle.std.proofs.lemmas.Bool.Decides.{nat_tests}
-use Rattle.std.proofs.lemmas.List.{take_more, map-append, length-map, length-take-le, append-nil, get_or_default}
-use Rattle.mu_tree.specs.declared.flat.FlatEquation.{FlatEquation}
-use Rattle.mu_tree.specs.FlatExpression.{flat_equation, FlatEquationTree}
+use Rattle.std.proofs.lemmas.List.{take_more, map-append}
 use Rattle.mu_causal.specs.declared.equation_counts.Given.{Given}
-use Rattle.mu_causal.specs.declared.equation_counts.Given.TheVariants.{Never}
-use Rattle.mu_causal.specs.OrderResults.{IsGiven}
-use Rattle.mu_causal.specs.Dependencies.{numbers_from, wants_equation, HasOneEquation, EachHasOneEquation, EachBelowHasOneEquation}
+use Rattle.mu_causal.specs.Dependencies.{wants_equation, HasOneEquation, EachHasOneEquation}
 
 -- the variable that is read at a place
 pub variable_there : (ds : List FlatVar) (v : ℕ) (d : FlatVar) → v < length ds → d ≡ get_or ds v d → slice_get (map flat_variable ds) v ≡ Some (flat_variable d)

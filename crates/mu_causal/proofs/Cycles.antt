@@ -1,9 +1,7 @@
 -- Where all variables can be listed there is no cycle.
-use Rattle.std.proofs.Common.{◌≡◌, ℕ, List, [], ◌∷◌, ◌++◌, refl, sym, subst, arith, inl, inr}
-use Rattle.std.specs.Prelude.{Contains, ◌⊎◌}
-use Prim.Native.Nat.{zero, suc}
-use Rattle.std.proofs.lemmas.List.Elements.{Contains-append_cases}
-use Rattle.mu_causal.specs.Causality.{Follow, IsOrder, Chain, IsCycle}
+use Rattle.mu_causal.proofs.Common
+use Common.{[], ℕ, ◌++◌, ◌∷◌, ◌≡◌, ◌⊎◌, arith, Chain, Contains, Contains-append_cases, Follow, inl}
+use Common.{inr, IsCycle, IsOrder, List, refl, subst, sym}
 use Rattle.mu_causal.proofs.Elements.{contained, contained_first, contained_later}
 
 -- what a member of a chain needs, in the chain or at its end

@@ -1,7 +1,6 @@
 -- The elements of a list: the first one and the others.
-use Rattle.std.proofs.Common.{◌≡◌, ◌<◌, ℕ, List, [], ◌∷◌, length, get_or, refl, arith, inl, inr}
-use Rattle.std.specs.Prelude.{Contains, ◌⊎◌}
-use Prim.Native.Nat.{zero, suc}
+use Rattle.mu_causal.proofs.Common
+use Common.{[], ◌∷◌, ◌≡◌, ◌⊎◌, arith, Contains, inl, inr, List, refl, suc, zero}
 
 -- an element is the first one, or one of the others
 pub contained : {X : Type 0} (x : X) (xs : List X) (y : X) → Contains (x ∷ xs) y → (x ≡ y) ⊎ Contains

@@ -1,20 +1,16 @@
 -- The graph of a flat model has the dependencies of its algebraic variables.
-use Rattle.std.proofs.Common.{◌≡◌, ◌∙◌, ℕ, ◌<◌, List, [], ◌∷◌, ◌++◌, length, get_or, map, refl, sym, ap, subst, arith, inl, inr}
-use Rattle.std.specs.Prelude.{Bool, true, false, Contains, All, nat_eq, if◌then◌else◌, Some, slice_get, slice_index_or}
-use Prim.Native.Nat.{zero, suc}
+use Rattle.mu_causal.proofs.Common
+use Common.{[], ℕ, ◌++◌, ◌<◌, ◌∙◌, ◌∷◌, ◌≡◌, All, ap, arith, Bool, Contains, Contains-append_cases}
+use Common.{Contains-append_left, Contains-append_right, DependsOn, eq-eqb, false, FlatEquationTree}
+use Common.{FlatModelTree, FlatVariable, get_or, get_or as slice_index_or, Global, Graph}
+use Common.{if◌then◌else◌, inl, inr, is_known, IsAlgebraic, IsClosed, IsGraphOf, IsOpen, IsUnmarked}
+use Common.{length, List, map, names_for, names_of, nat_eq, Needs, refl, slice_get}
+use Common.{slice_get_within, Some, subst, suc, sym, true, Vec, zero}
 use Rattle.std.proofs.lemmas.Bool.{eqb-true}
-use Rattle.std.proofs.lemmas.List.Elements.{Contains-append_cases, Contains-append_left, Contains-append_right}
-use Rattle.std.proofs.lemmas.Option.{slice_get_within}
-use Rattle.std.proofs.Common.{eq-eqb}
 use Rattle.mu_tree.specs.declared.flat.FlatRole.{FlatRole}
 use Rattle.mu_tree.specs.declared.flat.FlatRole.TheVariants.{State, Discrete, Algebraic}
-use Rattle.mu_tree.specs.FlatExpression.{FlatVariable, FlatEquationTree, FlatModelTree}
-use Rattle.std.specs.declared.vec.Vec.{Vec}
-use Rattle.std.specs.declared.alloc.Global.{Global}
-use Rattle.mu_causal.specs.Graphs.{Graph, IsClosed}
-use Rattle.mu_causal.specs.VisitMarks.{IsUnmarked, IsOpen, Needs}
-use Rattle.mu_causal.specs.Dependencies.{names_of, IsAlgebraic, DependsOn, IsNumbered}
-use Rattle.mu_causal.specs.Flat.{is_known, names_for, row_for, IsGraphOf}
+use Rattle.mu_causal.specs.Dependencies.{IsNumbered}
+use Rattle.mu_causal.specs.Flat.{row_for}
 use Rattle.mu_causal.proofs.Orders.{SaySame}
 
 -- an equation for v that names w

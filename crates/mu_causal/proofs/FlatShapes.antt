@@ -1,12 +1,16 @@
 -- What flat expressions and their lists say, at each form.
-use Rattle.std.proofs.Common.{◌≡◌, ◌∙◌, ◌+◌, ◌<◌, ℕ, List, length, drop, get_or, map, add-one, refl, sym, ap, Box, Global}
-use Rattle.std.proofs.Math.Seq.{drop-cons}
+use Rattle.mu_causal.proofs.Common
+use Common.{ℕ, ◌+◌, ◌<◌, ◌∙◌, ◌≡◌, add-one, ap, drop, drop-cons, flat_expression, flat_factors_of}
+use Common.{flat_scaled, flat_signed, flat_terms_of, get_or, length, List, map, refl, sym}
+use Rattle.std.proofs.Common.{Box, Global}
 use Rattle.mu_tree.specs.declared.flat.FlatExpr.{FlatExpr, Pow, fold-roll-FlatExpr}
 use Rattle.mu_tree.specs.declared.flat.FlatExpr.TheVariants.{rolls-Pow}
-use Rattle.mu_tree.specs.declared.flat.FlatExpr.TheOpen as layer
 use Rattle.mu_tree.specs.declared.flat.FlatTerm.{FlatTerm, out-FlatTerm, fold_out-FlatTerm}
 use Rattle.mu_tree.specs.declared.flat.FlatFactor.{FlatFactor, out-FlatFactor, fold_out-FlatFactor}
-use Rattle.mu_tree.specs.FlatExpression.{FlatExpression, FlatScaled, FlatSigned, Power, term, factor, flat_expression, flat_signed, flat_scaled, flat_terms_of, flat_factors_of, flat_expression_step, flat_scaled_step, flat_signed_step}
+use Rattle.mu_tree.specs.FlatExpression.{FlatExpression, FlatScaled, FlatSigned, Power, term}
+use Rattle.mu_tree.specs.FlatExpression.{factor, flat_expression_step, flat_scaled_step}
+use Rattle.mu_tree.specs.FlatExpression.{flat_signed_step}
+use Rattle.mu_tree.specs.declared.flat.FlatExpr.TheOpen as layer
 
 -- a power
 pub flat_expression-Pow : (base : Box FlatExpr Global) (exp at : ℕ) → flat_expression (Pow base exp at) ≡ Power (flat_expression base.value) exp at

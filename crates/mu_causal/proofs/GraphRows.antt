@@ -1,20 +1,13 @@
 -- Rows of a dependency graph, to which equations are added one by one.
-use Rattle.std.proofs.Common.{◌≡◌, ◌∙◌, ◌≢◌, ℕ, zero, suc, ◌+◌, ◌<◌, ◌≤◌, Bool, true, false, List, [], ◌∷◌}
-use Rattle.std.proofs.Common.{◌++◌, length, get_or, set, map, drop, append-nil, refl, sym}
-use Rattle.std.proofs.Common.{ap, add-one, inl, inr, eq-eqb}
-use Rattle.std.proofs.lemmas.Bool.{cases_Bool, cases_eq, ne_eqb}
-use Rattle.std.proofs.lemmas.List.{get_or_past, get_or-map, get_or-set_same, get_or-set_other, map-set}
-use Rattle.std.proofs.lemmas.List.{length-map, length-set}
-use Rattle.std.proofs.Math.Seq.{drop-cons}
-use Rattle.std.specs.Prelude.{nat_eq, if◌then◌else◌, Some, slice_get}
-use Rattle.std.specs.declared.vec.Vec.{Vec}
-use Rattle.std.specs.declared.alloc.Global.{Global}
-use Rattle.mu_tree.specs.declared.flat.FlatEquation.{FlatEquation}
-use Rattle.mu_tree.specs.FlatExpression.{FlatVariable, FlatEquationTree, FlatModelTree}
-use Rattle.mu_tree.specs.FlatExpression.{flat_equation}
-use Rattle.mu_causal.specs.Graphs.{Graph}
-use Rattle.mu_causal.specs.Dependencies.{names_of}
-use Rattle.mu_causal.specs.Flat.{is_known, names_for, row_at, open_names, AddsEquation, IsGraphOf}
+use Rattle.mu_causal.proofs.Common
+use Common.{[], ℕ, ◌++◌, ◌+◌, ◌<◌, ◌∙◌, ◌∷◌, ◌≡◌, ◌≢◌, ◌≤◌, add-one, AddsEquation, ap, append-nil}
+use Common.{Bool, cases_Bool, cases_eq, drop, drop-cons, eq-eqb, false, flat_equation, FlatEquation}
+use Common.{FlatEquationTree, FlatModelTree, FlatVariable, get_or, get_or-set_other}
+use Common.{get_or-set_same, Global, Graph, if◌then◌else◌, inl, inr, is_known, IsGraphOf, length}
+use Common.{length-map, List, map, names_for, names_of, nat_eq, open_names, refl, row_at, set}
+use Common.{slice_get, Some, suc, sym, true, Vec, zero}
+use Rattle.std.proofs.lemmas.Bool.{ne_eqb}
+use Rattle.std.proofs.lemmas.List.{get_or_past, get_or-map, map-set, length-set}
 
 abbrev items_of : Vec ℕ Global → List ℕ
 items_of row = row.items

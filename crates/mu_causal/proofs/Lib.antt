@@ -1,3 +1,4 @@
+mod Common
 mod Passing
 pub mod Listing
 pub mod Rounds

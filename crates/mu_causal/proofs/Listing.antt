@@ -1,18 +1,13 @@
 -- Variables that are listed one after the other.
-use Rattle.std.proofs.Common.{◌≡◌, ◌≢◌, ◌∙◌, ℕ, ◌+◌, ◌<◌, ◌≤◌, List, [], ◌∷◌, ◌++◌, length, get_or, set}
-use Rattle.std.proofs.Common.{sym, subst, arith, inl, inr, append_assoc, append-nil, take, drop}
-use Rattle.std.specs.Prelude.{Bool, true, false, Contains}
-use Prim.Native.Nat.{zero, suc}
-use Rattle.std.proofs.lemmas.List.{get_or-set_other}
-use Rattle.std.proofs.lemmas.List.Elements.{Contains-append_left, Contains-append_cases, Contains-push}
-use Rattle.std.proofs.lemmas.Grind.{get_or-set_at}
-use Rattle.std.proofs.lemmas.Bool.{cases_eq, cases_Bool}
-use Rattle.std.proofs.Math.ListN.{length-set}
+use Rattle.mu_causal.proofs.Common
+use Common.{[], ℕ, ◌++◌, ◌+◌, ◌<◌, ◌∙◌, ◌∷◌, ◌≡◌, ◌≢◌, ◌≤◌, append-nil, append_assoc, AreMarks}
+use Common.{ArePassed, arith, Bool, cases_Bool, cases_eq, Contains, Contains-append_cases}
+use Common.{Contains-append_left, Contains-push, drop, false, Follow, get_or, get_or-set_at}
+use Common.{get_or-set_other, Graph, HasEdge, inl, inr, IsBlocked, IsListing, IsMarked, IsNext}
+use Common.{IsOpen, IsOrder, IsReady, IsUnblocked, IsUnmarked, length, length-set, List, Needs, set}
+use Common.{subst, suc, sym, take, true, zero}
 use Rattle.std.proofs.Math.Seq.{take-append_seam}
-use Rattle.mu_causal.specs.Causality.{IsReady, IsNext, Follow, IsOrder}
-use Rattle.mu_causal.specs.Graphs.{Graph, HasEdge}
-use Rattle.mu_causal.specs.VisitMarks.{IsMarked, IsUnmarked, IsBlocked, IsUnblocked, ArePassed}
-use Rattle.mu_causal.specs.VisitMarks.{AreFirstReaders, AreMarks, IsOpen, Needs, IsListing}
+use Rattle.mu_causal.specs.VisitMarks.{AreFirstReaders}
 
 -- how many numbers are not marked
 abbrev pub unmarked_count : List Bool → ℕ

@@ -1,8 +1,7 @@
 -- Orders and cycles of two ways to say what needs what; and that there is one order.
-use Rattle.std.proofs.Common.{◌≡◌, ℕ, List, [], ◌∷◌, ◌++◌, refl, sym, subst, arith, inl, inr, append_assoc, append-nil}
-use Rattle.std.specs.Prelude.{Contains}
-use Rattle.std.proofs.lemmas.Bool.{cases_lt}
-use Rattle.mu_causal.specs.Causality.{IsReady, IsNext, Follow, IsOrder, Chain, IsCycle}
+use Rattle.mu_causal.proofs.Common
+use Common.{[], ℕ, ◌++◌, ◌∷◌, ◌≡◌, append-nil, append_assoc, arith, cases_lt, Chain, Contains}
+use Common.{Follow, inl, inr, IsCycle, IsNext, IsOrder, IsReady, List, refl, subst, sym}
 
 -- two ways to say which numbers are variables, and what needs what
 pub record SaySame (va : ℕ → Type 0) (na : ℕ → ℕ → Type 0) (vb : ℕ → Type 0) (nb : ℕ → ℕ → Type 0) : Type 0 where

@@ -1,16 +1,10 @@
 -- Names that were passed over, since they are marked.
-use Rattle.std.proofs.Common.{◌≡◌, ◌∙◌, ℕ, ◌<◌, ◌≤◌, List, length, get_or, set, sym, ap, subst, arith, inl, inr, get_or-set_other}
-use Rattle.std.specs.Prelude.{Bool, true, false, Some, slice_get, Contains, All}
-use Rattle.std.proofs.lemmas.Option.{slice_get-get_or, slice_get_within}
-use Rattle.std.proofs.lemmas.List.{get_or_default}
-use Rattle.std.proofs.lemmas.List.Elements.{Contains-get_or}
-use Rattle.std.proofs.lemmas.Grind.{get_or-set_at}
-use Rattle.std.proofs.lemmas.Bool.{cases_eq, cases_lt}
-use Rattle.std.proofs.Math.ListN.{length-set}
-use Rattle.std.specs.declared.vec.Vec.{Vec}
-use Rattle.std.specs.declared.alloc.Global.{Global}
-use Rattle.mu_causal.specs.Graphs.{Graph, HasEdge, IsClosed}
-use Rattle.mu_causal.specs.VisitMarks.{IsMarked, IsUnmarked, IsBlocked, IsUnblocked, ArePassed}
+use Rattle.mu_causal.proofs.Common
+use Common.{ℕ, ◌<◌, ◌∙◌, ◌≡◌, ◌≤◌, All, ap, ArePassed, arith, Bool, cases_eq, cases_lt, Contains}
+use Common.{Contains-get_or, false, get_or, get_or-set_at, get_or-set_other, get_or_default, Global}
+use Common.{Graph, HasEdge, inl, inr, IsBlocked, IsClosed, IsMarked, IsUnblocked, IsUnmarked}
+use Common.{length, length-set, List, set, slice_get, slice_get-get_or, slice_get_within, Some}
+use Common.{subst, sym, true, Vec}
 
 -- what is read is there
 pub row_there : (g : Graph) (v : ℕ) (row : Vec ℕ Global) → v < length g → row ≡ get_or g v row → slice_get g v ≡ Some row

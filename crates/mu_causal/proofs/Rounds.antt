@@ -1,15 +1,16 @@
 -- Walks along needs.
-use Rattle.std.proofs.Common.{◌≡◌, ◌≢◌, ◌∙◌, ℕ, ◌<◌, ◌≤◌, ◌+◌, ◌-◌, List, [], ◌∷◌, ◌++◌, length, get_or, take, drop, set, refl, sym, subst, arith, inl, inr, append-nil, length-drop, length-append}
-use Rattle.std.specs.Prelude.{Contains, Bool, true, false, AllPairs}
-use Prim.Native.Nat.{zero, suc}
-use Rattle.std.proofs.lemmas.List.{get_or_default, take-append-drop, get_or-set_other, get_or-take, get_or-drop, get_or_append_left, get_or-append_right, length-take-le}
-use Rattle.std.proofs.lemmas.Bool.{cases_eq, cases_lt}
-use Rattle.mu_causal.specs.VisitMarks.{IsMarked, IsUnmarked}
-use Rattle.std.proofs.lemmas.List.Elements.{Contains-append_left, Contains-append_right, Contains-append_cases, Contains-push, Contains-get_or}
+use Rattle.mu_causal.proofs.Common
+use Common.{[], ℕ, ◌++◌, ◌+◌, ◌<◌, ◌∙◌, ◌∷◌, ◌≡◌, ◌≢◌, ◌≤◌, append-nil, arith, Bool, cases_eq}
+use Common.{cases_lt, Chain, Contains, Contains-append_cases, Contains-append_left}
+use Common.{Contains-append_right, Contains-get_or, Contains-push, drop, false, get_or}
+use Common.{get_or-set_at, get_or-set_other, get_or_default, inl, inr, IsCycle, IsMarked, IsTurned}
+use Common.{IsUnmarked, length, length-take-le, List, refl, set, subst, suc, sym, take, true, zero}
+use Rattle.std.proofs.Common.{◌-◌, length-drop, length-append}
+use Rattle.std.specs.Prelude.{AllPairs}
+use Rattle.std.proofs.lemmas.List.{take-append-drop, get_or-take, get_or-drop, get_or_append_left}
+use Rattle.std.proofs.lemmas.List.{get_or-append_right}
 use Rattle.std.proofs.lemmas.List.Quantifiers.{all_pairs_push}
-use Rattle.std.proofs.lemmas.Grind.{common_steps, get_or-set_at}
-use Rattle.mu_causal.specs.Causality.{Chain, IsCycle}
-use Rattle.mu_causal.specs.Rounds.{IsTurned}
+use Rattle.std.proofs.lemmas.Grind.{common_steps}
 use Rattle.mu_causal.proofs.Listing.{not_both}
 
 -- each number of the walk needs the next one, and the last one needs v

@@ -1,28 +1,32 @@
 -- What the grammar of equations, starts, clauses and statements allows, the machine of a model reads.
-use Rattle.std.proofs.Common.{◌≡◌, ℕ, suc, ◌<◌, true, false, List, [], ◌∷◌, ◌++◌, refl, ap, sym, subst, append_assoc, append-nil}
-use Rattle.mu_lexer.specs.declared.token.Word.TheVariants as words
-use Rattle.mu_lexer.specs.declared.token.Mark.TheVariants as marks
-use Rattle.mu_tree.specs.Expression.{Reference, Whole}
-use Rattle.mu_tree.specs.ModelTree.{Condition, Range, EquationTree, EachEquation, no_equations, equations_of, StatementTree, EachStatement, no_statements, statements_of, BranchTree, ClauseTree, Branches, EachClause, no_clauses, clauses_of, ModelTree}
-use Rattle.mu_tree.specs.ModelTree.{equation_then, statement_then, clause_then}
-use Rattle.mu_grammar.specs.declared.symbol.Fixed.TheVariants as fixed
-use Rattle.mu_grammar.specs.Grammar.{Symbol, number, name, quoted, word, mark, IsSum, IsReference}
-use Rattle.mu_grammar.specs.Grammar as grammar
-use Rattle.mu_grammar.specs.Conditions.{IsCondition}
-use Rattle.mu_grammar.specs.ConditionMachine.{before}
-use Rattle.mu_grammar.specs.Lists.{Runs, no_more, one_more, Listed, listed_end, listed_then, MaybeString, no_string, a_string}
-use Rattle.mu_grammar.specs.Loops.{IsRange, in_range}
-use Rattle.mu_grammar.specs.Bodies as bodies
-use Rattle.mu_grammar.specs.Bodies.{IsBareEquation, equation_kind, IsEquation, IsBareStatement, statement_kind, IsStatement, branch, AreBranches, IsBareClause, clause_kind, IsClause}
-use Rattle.mu_grammar.specs.ModelGrammar as models
-use Rattle.mu_grammar.specs.ModelGrammar.{Sections, sections, AddsEquation, AddsClause, AddsStart, IsSection}
-use Rattle.mu_grammar.specs.States.{Draft, Loop, OpenWhen, OpenBranch, Body, in_equations, in_starts, in_clauses, in_branch, Aim, plain, derivative, initial, assigned, restarted, for_index, for_side, for_first, for_last, State, expects, in_condition, at_body, at_variable, at_target, behind_target_name, behind_target, begin, level, branch_level, body_level, aim_level}
-use Rattle.mu_grammar.specs.DeclarationMachine.{between}
-use Rattle.mu_grammar.specs.BodyMachine.{put_equation, put_start, put_clause, put_statement, enter, next_branch, new_when, new_branch, close_equation}
+use Rattle.mu_grammar.proofs.Common
+use Common.{[], ℕ, ◌++◌, ◌<◌, ◌∷◌, ◌≡◌, a_string, AddsClause, AddsEquation, AddsStart, Aim}
+use Common.{aim_level, ap, append-nil, append_assoc, AreBranches, assigned, at_body, at_target}
+use Common.{at_variable, before, begin, behind_target, behind_target_name, between, Body}
+use Common.{body_level, branch, branch_level, Branches, BranchTree, clause_kind, clause_then}
+use Common.{clauses_of, ClauseTree, close_equation, Condition, derivative, Draft, EachClause}
+use Common.{EachEquation, EachStatement, enter, equation_kind, equation_then, equations_of}
+use Common.{EquationTree, expects, false, for_first, for_index, for_last, for_side, in_branch}
+use Common.{in_clauses, in_condition, in_equations, in_range, in_starts, initial, IsBareClause}
+use Common.{IsBareEquation, IsBareStatement, IsCondition, IsRange, IsReference, IsSection}
+use Common.{IsStatement, level, List, Listed, listed_end, listed_then, Loop, mark, MaybeString}
+use Common.{ModelTree, name, new_branch, new_when, next_branch, no_clauses, no_more, no_string}
+use Common.{one_more, OpenBranch, OpenWhen, plain, put_clause, put_equation, put_start}
+use Common.{put_statement, Range, Reference, refl, restarted, Runs, Sections, State, statement_kind}
+use Common.{statement_then, statements_of, StatementTree, subst, suc, sym, Symbol, true, Whole}
+use Common.{word}
+use Rattle.mu_tree.specs.ModelTree.{no_equations, no_statements}
 use Rattle.mu_grammar.proofs.ConditionsComplete.{condition_read}
-use Rattle.mu_grammar.proofs.ModelReaders.{IsModelReader, Follow, sum_begins, InCondition, AfterThen, condition_reader}
+use Rattle.mu_grammar.proofs.ModelReaders.{IsModelReader, Follow, sum_begins, InCondition}
+use Rattle.mu_grammar.proofs.ModelReaders.{AfterThen, condition_reader}
 use Rattle.mu_grammar.proofs.CompleteLists.{fixed_read}
 use Rattle.mu_grammar.proofs.CompleteLoops.{over, IsLoopReader, item_read}
+use Rattle.mu_lexer.specs.declared.token.Word.TheVariants as words
+use Rattle.mu_lexer.specs.declared.token.Mark.TheVariants as marks
+use Rattle.mu_grammar.specs.declared.symbol.Fixed.TheVariants as fixed
+use Rattle.mu_grammar.specs.Grammar as grammar
+use Rattle.mu_grammar.specs.Bodies as bodies
+use Rattle.mu_grammar.specs.ModelGrammar as models
 
 -- a model with these sections
 abbrev pub with_held : Draft → Sections → Draft

@@ -1,26 +1,31 @@
 -- What the grammar of declarations and annotations allows, the machine of a model reads.
-use Rattle.std.proofs.Common.{◌≡◌, ℕ, ◌<◌, Bool, true, false, List, [], ◌∷◌, refl, sym, subst, Option, Some, None}
-use Rattle.std.specs.Prelude.{codes}
-use Rattle.mu_lexer.specs.declared.token.Word.{Word}
+use Rattle.mu_grammar.proofs.Common
+use Common.{[], ℕ, ◌<◌, ◌∷◌, ◌≡◌, a_string, argument_or_skipped, arguments, at_component, at_each}
+use Common.{at_end_name, at_heads, at_item, at_type, begin, behind_annotation, behind_item}
+use Common.{behind_modifications, behind_name, behind_size, behind_string, between, Bool, closed}
+use Common.{codes, Commas, Component, Declaration, Draft, expects, Expression, false}
+use Common.{follow_component, follow_declared, follow_modifications, follow_name, follow_size}
+use Common.{follow_string, follow_title, follow_value, for_quantum, for_setting, for_size}
+use Common.{for_start, for_value, head, import_end, import_token, importing, InRound, is_named}
+use Common.{IsAnnotation, IsArg, IsBareMod, IsComponent, IsHead, IsImported, IsKind, IsMod, IsMods}
+use Common.{IsOwnAnnotation, IsOwnArg, IsSet, IsSize, IsValue, List, mark, MaybeString, ModelTree}
+use Common.{modifications, name, new_component, no_more, no_string, None, of_component, of_model}
+use Common.{one_more, open_experiment, Option, own_arguments, own_or_skipped, Owner, Prefix, quoted}
+use Common.{refl, Runs, Setting, setting_or_skipped, settings, Settled, Some, start_or_skipped}
+use Common.{State, subst, sym, Symbol, true, unsettled, whole_of, Word, word}
+use Rattle.mu_grammar.specs.Skipped.{is_imported}
+use Rattle.mu_grammar.proofs.ModelReaders.{GoodEffect, IsModelReader, Follow, follow, read}
+use Rattle.mu_grammar.proofs.ModelReaders.{sum_begins}
+use Rattle.mu_grammar.proofs.CompleteLists.{fixed_read, commas_read, items_read, round_read}
+use Rattle.mu_grammar.proofs.CompleteLists.{skipped_read}
+use Rattle.mu_grammar.proofs.Names.{named_apart, skips_behind_each, skips_mod, start_begins}
+use Rattle.mu_grammar.proofs.Names.{skips_own, skips_argument, skips_setting}
 use Rattle.mu_lexer.specs.declared.token.Word.TheVariants as words
 use Rattle.mu_lexer.specs.declared.token.Mark.TheVariants as marks
-use Rattle.mu_tree.specs.declared.tree.Prefix.{Prefix}
 use Rattle.mu_tree.specs.declared.tree.Prefix.TheVariants as prefixes
-use Rattle.mu_tree.specs.Expression.{Expression}
-use Rattle.mu_tree.specs.ModelTree.{Declaration, Setting, ModelTree}
 use Rattle.mu_grammar.specs.declared.symbol.Fixed.TheVariants as fixed
-use Rattle.mu_grammar.specs.Grammar.{Symbol, name, quoted, word, mark}
-use Rattle.mu_grammar.specs.Lists.{Commas, Runs, no_more, one_more, InRound, MaybeString, no_string, a_string}
-use Rattle.mu_grammar.specs.Skipped.{is_named, is_imported, IsImported, import_end, import_token}
 use Rattle.mu_grammar.specs.DeclarationGrammar as grammar
-use Rattle.mu_grammar.specs.DeclarationGrammar.{begins_mod, begins_own, begins_arg, begins_set, IsBareMod, IsMod, IsMods, IsSet, IsExperiment, IsOwnArg, IsOwnAnnotation, Settled, IsArg, IsAnnotation, whole_of, IsKind, IsSize, IsValue, IsComponent, IsDeclaration}
 use Rattle.mu_grammar.specs.ModelGrammar as models
-use Rattle.mu_grammar.specs.ModelGrammar.{IsHead}
-use Rattle.mu_grammar.specs.States.{Draft, Component, Owner, of_component, of_model, modifications, own_arguments, arguments, settings, for_size, for_start, for_value, for_quantum, for_setting, State, expects, at_heads, importing, at_type, at_component, behind_name, behind_size, behind_modifications, behind_string, behind_annotation, at_item, at_each, behind_item, at_end_name, begin}
-use Rattle.mu_grammar.specs.DeclarationMachine.{new_component, unsettled, between, head, follow_title, follow_declared, follow_component, follow_string, follow_value, follow_modifications, follow_size, follow_name, closed, start_or_skipped, own_or_skipped, open_experiment, argument_or_skipped, setting_or_skipped}
-use Rattle.mu_grammar.proofs.ModelReaders.{GoodEffect, IsModelReader, Follow, follow, read, sum_begins}
-use Rattle.mu_grammar.proofs.CompleteLists.{fixed_read, commas_read, items_read, round_read, skipped_read}
-use Rattle.mu_grammar.proofs.Names.{named_apart, skips_behind_each, skips_mod, start_begins, skips_own, skips_argument, skips_setting}
 
 -- a component of which this is read after its name
 abbrev pub made : Component → Option Expression → Option Expression → Option Expression → Option Expression → Component

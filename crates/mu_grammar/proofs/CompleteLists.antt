@@ -1,22 +1,18 @@
 -- What the grammar allows in lists and in items that are read over, the machine of a model reads.
-use Rattle.std.proofs.Common.{◌≡◌, ℕ, suc, ◌<◌, Bool, true, false, List, [], ◌∷◌, ◌⊎◌, inl, inr, refl, ap, sym, ◌∙◌, subst, Some, None}
-use Rattle.mu_lexer.specs.declared.token.Mark.{Mark}
-use Rattle.mu_lexer.specs.declared.token.Mark.TheVariants as marks
-use Rattle.mu_tree.specs.ModelTree.{ModelTree}
-use Rattle.mu_grammar.specs.declared.symbol.Fixed.{Fixed}
-use Rattle.mu_grammar.specs.declared.symbol.Fixed.TheVariants as fixed
-use Rattle.mu_grammar.specs.declared.symbol.Bracket.{Bracket}
-use Rattle.mu_grammar.specs.declared.symbol.Bracket.TheVariants as round
-use Rattle.mu_grammar.specs.declared.symbol.Shape.{Shape}
-use Rattle.mu_grammar.specs.declared.symbol.Shape.TheVariants as shapes
-use Rattle.mu_grammar.specs.Grammar.{Symbol, mark}
-use Rattle.mu_grammar.specs.Lists.{Commas, last_one, one_then, InRound, nothing_inside, some_inside}
-use Rattle.mu_grammar.specs.Skipped.{closer, is_plain_token, Balanced, balanced_end, balanced_token, balanced_nested, IsSkipped, skipped, skipped_nested}
-use Rattle.mu_grammar.specs.Shapes.{is_fixed, fixed_token, shape_of, is_same}
-use Rattle.mu_grammar.specs.States.{Place, modifications, own_arguments, arguments, settings, State, expects, at_first_item, at_item, behind_item, skipping, level, place_level}
-use Rattle.mu_grammar.specs.DeclarationMachine.{closed, close_bracket, skip_shape, skip_first, begin_skipped}
-use Rattle.mu_grammar.specs.ModelMachine.{meets, model_turn}
+use Rattle.mu_grammar.proofs.Common
+use Common.{[], ℕ, ◌<◌, ◌∙◌, ◌∷◌, ◌≡◌, ◌⊎◌, ap, arguments, at_first_item, at_item, Balanced}
+use Common.{balanced_end, balanced_nested, balanced_token, begin_skipped, behind_item, Bool}
+use Common.{Bracket, close_bracket, closed, closer, Commas, expects, false, Fixed, fixed_token, inl}
+use Common.{inr, InRound, is_fixed, is_plain_token, is_same, IsSkipped, last_one, level, List, Mark}
+use Common.{mark, meets, model_turn, ModelTree, modifications, None, nothing_inside, one_then}
+use Common.{own_arguments, Place, place_level, refl, settings, Shape, shape_of, skip_first}
+use Common.{skip_shape, skipped, skipped_nested, skipping, Some, some_inside, State, subst, suc}
+use Common.{sym, Symbol, true}
 use Rattle.mu_grammar.proofs.ModelReaders.{GoodEffect, IsModelReader}
+use Rattle.mu_lexer.specs.declared.token.Mark.TheVariants as marks
+use Rattle.mu_grammar.specs.declared.symbol.Fixed.TheVariants as fixed
+use Rattle.mu_grammar.specs.declared.symbol.Bracket.TheVariants as round
+use Rattle.mu_grammar.specs.declared.symbol.Shape.TheVariants as shapes
 
 fixed_meets : (f : Fixed) (at : ℕ) → is_fixed f (fixed_token f at) ≡ true
 fixed_meets fixed.ModelWord at = refl

@@ -1,12 +1,11 @@
 -- What the grammar of loops allows, a machine reads, for any items in the loops.
-use Rattle.std.proofs.Common.{◌≡◌, ℕ, suc, ◌<◌, List, [], ◌∷◌, ◌++◌, refl, ap, sym, ◌∙◌, subst}
+use Rattle.mu_grammar.proofs.Common
+use Common.{[], ℕ, ◌++◌, ◌<◌, ◌∙◌, ◌∷◌, ◌≡◌, ap, AreItems, IsItem, IsRange, item_then, Kind, level}
+use Common.{List, Loop, loop, mark, no_items, Range, refl, subst, suc, sym, Symbol, with_item, word}
+use Rattle.mu_grammar.specs.Loops.{bare}
+use Rattle.mu_grammar.specs.BodyMachine.{new_loop}
 use Rattle.mu_lexer.specs.declared.token.Word.TheVariants as words
 use Rattle.mu_lexer.specs.declared.token.Mark.TheVariants as marks
-use Rattle.mu_tree.specs.ModelTree.{Range}
-use Rattle.mu_grammar.specs.Grammar.{Symbol, word, mark}
-use Rattle.mu_grammar.specs.Loops.{Kind, IsRange, IsItem, AreItems, bare, loop, no_items, item_then}
-use Rattle.mu_grammar.specs.States.{Loop, level}
-use Rattle.mu_grammar.specs.BodyMachine.{with_item, new_loop}
 
 -- the trees of these items and then those
 abbrev pub over : {T Ts : Type 0} → Kind T Ts → List T → Ts → Ts

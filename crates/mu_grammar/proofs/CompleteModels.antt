@@ -1,19 +1,17 @@
 -- What the grammar of models allows, the machine of a model reads.
-use Rattle.std.proofs.Common.{ℕ, List, [], ◌∷◌, refl}
-use Rattle.mu_lexer.specs.declared.token.Word.TheVariants as words
-use Rattle.mu_lexer.specs.declared.token.Mark.TheVariants as marks
-use Rattle.mu_tree.specs.ModelTree.{ModelTree}
-use Rattle.mu_grammar.specs.declared.symbol.Fixed.TheVariants as fixed
-use Rattle.mu_grammar.specs.Grammar.{Symbol, name, word, mark}
-use Rattle.mu_grammar.specs.ModelGrammar as models
-use Rattle.mu_grammar.specs.ModelGrammar.{sections, model_of, SpellsModel}
-use Rattle.mu_grammar.specs.States.{State, at_model_name, behind_title, at_end_name, at_last}
-use Rattle.mu_grammar.specs.DeclarationMachine.{new_draft}
-use Rattle.mu_grammar.specs.ModelMachine.{model_machine}
+use Rattle.mu_grammar.proofs.Common
+use Common.{[], ℕ, ◌∷◌, at_end_name, at_last, at_model_name, behind_title, List, mark}
+use Common.{model_machine, model_of, ModelTree, name, new_draft, refl, sections, SpellsModel, State}
+use Common.{Symbol, word}
 use Rattle.mu_grammar.proofs.ModelReaders.{IsModelReader, read}
 use Rattle.mu_grammar.proofs.CompleteLists.{fixed_read}
-use Rattle.mu_grammar.proofs.CompleteDeclarations.{with_decls, title_read, heads_read, annotation_read}
+use Rattle.mu_grammar.proofs.CompleteDeclarations.{with_decls, title_read, heads_read}
+use Rattle.mu_grammar.proofs.CompleteDeclarations.{annotation_read}
 use Rattle.mu_grammar.proofs.CompleteBodies.{with_held, sections_read}
+use Rattle.mu_lexer.specs.declared.token.Word.TheVariants as words
+use Rattle.mu_lexer.specs.declared.token.Mark.TheVariants as marks
+use Rattle.mu_grammar.specs.declared.symbol.Fixed.TheVariants as fixed
+use Rattle.mu_grammar.specs.ModelGrammar as models
 
 -- a whole model
 pub model_read : (limit : ℕ) (R : State → List Symbol → Type 0) (F : ModelTree → List Symbol → Type 0) (r : IsModelReader limit R F) (ts : List Symbol) (m : ModelTree) → SpellsModel limit ts m → F m [] → R model_machine.start ts

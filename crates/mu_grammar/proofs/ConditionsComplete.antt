@@ -1,18 +1,19 @@
 -- What the grammar of conditions allows, the machine reads.
-use Rattle.std.proofs.Common.{◌≡◌, ℕ, zero, suc, ◌<◌, false, List, [], ◌∷◌, refl, ap, sym, ◌∙◌, subst, Option, Some, None, length}
+use Rattle.mu_grammar.proofs.Common
+use Common.{[], ℕ, ◌<◌, ◌∙◌, ◌∷◌, ◌≡◌, after_factor, after_left, after_primary, ap, at_exponent}
+use Common.{at_sum, before, behind, brackets, compare, compared, compares, complete, Condition}
+use Common.{depth_at, depth_of, Expression, fails, false, first_part, Frame, goes, holds, in_left}
+use Common.{in_right, inside, IsCondition, IsSum, left_move, length, List, Mark, mark, MoreFactors}
+use Common.{MoreTerms, Move, moves, nested, nests, None, number, opens, Option, Position, Power}
+use Common.{product_of, refl, Rel, relation_of, right_move, Scaled, scaled, Signed, signed, Some}
+use Common.{Stage, step, subst, suc, sum_of, sym, Symbol, Turn, turn, word, wrong, zero}
+use Rattle.mu_grammar.proofs.SumsComplete.{continues, Good, IsReader, GoodSum, GoodTerm, sum_read}
+use Rattle.mu_grammar.proofs.SumsComplete.{sum_as_term, term_as_factor, factor_as_primary}
+use Rattle.mu_grammar.proofs.SumsComplete.{factors_read, terms_read, push, with_factors}
 use Rattle.mu_lexer.specs.declared.token.Word.TheVariants as words
-use Rattle.mu_lexer.specs.declared.token.Mark.{Mark}
 use Rattle.mu_lexer.specs.declared.token.Mark.TheVariants as marks
-use Rattle.mu_tree.specs.declared.tree.Rel.{Rel}
-use Rattle.mu_tree.specs.Expression.{Expression, Power, Signed, Scaled}
-use Rattle.mu_tree.specs.ModelTree.{Condition}
-use Rattle.mu_grammar.specs.Grammar.{Symbol, number, name, quoted, word, mark, place, first_place, sum_of, product_of, exponent_of, signed, scaled, IsSum, IsProduct, IsFactor, IsPrimary, MoreTerms, MoreFactors}
 use Rattle.mu_grammar.specs.Grammar as grammar
 use Rattle.mu_grammar.specs.SumMachine as machine
-use Rattle.mu_grammar.specs.SumMachine.{Part, Frame, Position, at_sum, at_exponent, after_primary, after_factor, Move, moves, opens, wrong, depth, depth_at, first_part, step, begin_sum}
-use Rattle.mu_grammar.specs.Conditions.{relation_of, compared, IsCondition, compare, brackets}
-use Rattle.mu_grammar.specs.ConditionMachine.{Stage, before, in_left, in_right, behind, Turn, goes, nests, holds, fails, complete, compares, after_left, left_move, right_move, turn, inside, nested, depth_of}
-use Rattle.mu_grammar.proofs.SumsComplete.{continues, Good, IsReader, GoodSum, GoodTerm, sum_read, sum_as_term, term_as_factor, factor_as_primary, factors_read, terms_read, push, with_factors}
 
 -- a turn is good, where B says from where the machine reads the tokens, and L what may follow the condition
 abbrev pub GoodTurn : ℕ → (Stage → List Symbol → Type 0) → (Condition → List Symbol → Type 0) → ℕ → Turn → List Symbol → Type 0

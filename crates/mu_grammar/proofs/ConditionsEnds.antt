@@ -1,19 +1,15 @@
 -- From each stage of a condition some tokens complete it.
-use Rattle.std.proofs.Common.{ℕ, zero, suc, List, [], ◌∷◌, refl, false, length}
-use Rattle.std.specs.List.{All}
+use Rattle.mu_grammar.proofs.Common
+use Common.{[], ℕ, ◌∷◌, after_primary, All, at_sum, before, behind, compared, Condition, Expression}
+use Common.{false, first_part, Frame, in_left, in_right, inside, IsToken, length, List, mark}
+use Common.{nested, Number, Position, refl, Rel, Stage, suc, Symbol, word, zero}
+use Rattle.mu_grammar.proofs.SumsEnds.{ends, one, one_token, token_then}
+use Rattle.mu_grammar.proofs.ConditionsComplete.{IsConditionReader, InLeft, AfterLeft, AfterRight}
+use Rattle.mu_grammar.proofs.ConditionsComplete.{AfterCondition, left_reader, right_reader}
+use Rattle.mu_grammar.proofs.ConditionsComplete.{behind_read, after_left_relation}
 use Rattle.mu_lexer.specs.declared.token.Word.TheVariants as words
 use Rattle.mu_lexer.specs.declared.token.Mark.TheVariants as marks
-use Rattle.mu_tree.specs.declared.tree.Rel.{Rel}
 use Rattle.mu_tree.specs.declared.tree.Rel.TheVariants as rels
-use Rattle.mu_tree.specs.Expression.{Expression, Number}
-use Rattle.mu_tree.specs.ModelTree.{Condition}
-use Rattle.mu_grammar.specs.Grammar.{Symbol, word, mark}
-use Rattle.mu_grammar.specs.SumMachine.{Frame, Position, at_sum, after_primary, first_part}
-use Rattle.mu_grammar.specs.Conditions.{compared}
-use Rattle.mu_grammar.specs.ConditionMachine.{Stage, before, in_left, in_right, behind, inside, nested}
-use Rattle.mu_grammar.specs.Prefixes.{IsToken}
-use Rattle.mu_grammar.proofs.SumsEnds.{ends, one, one_token, token_then}
-use Rattle.mu_grammar.proofs.ConditionsComplete.{IsConditionReader, InLeft, AfterLeft, AfterRight, AfterCondition, left_reader, right_reader, behind_read, after_left_relation}
 
 module _ (limit d : ℕ) (B : Stage → List Symbol → Type 0) (L : Condition → List Symbol → Type 0) (r : IsConditionReader limit d B L) (end : (c : Condition) → (more : List Symbol) × L c more × All IsToken more) where
   close_ends : (c : Condition) (k : ℕ) → (more : List Symbol) × AfterCondition limit d B L r k c more × All IsToken more

@@ -1,18 +1,18 @@
 -- What the machine reads as a condition, the grammar allows.
-use Rattle.std.proofs.Common.{◌≡◌, ℕ, zero, suc, ◌<◌, false, List, [], ◌∷◌, ◌⊎◌, inl, inr, refl, ap, subst, Option, Some, None, length}
+use Rattle.mu_grammar.proofs.Common
+use Common.{[], ℕ, ◌<◌, ◌∷◌, ◌≡◌, ◌⊎◌, after_left, ap, before, begin_sum, behind, brackets, compare}
+use Common.{compared, compares, complete, Condition, depth_at, depth_of, Expression, fails, false}
+use Common.{first_part, goes, holds, in_left, in_right, inl, inr, inside, IsCondition, IsSum}
+use Common.{left_move, length, List, Mark, mark, Move, moves, nested, nests, None, opens, Option}
+use Common.{product_of, refl, Rel, relation_of, right_move, scaled, signed, Some, Stage, step}
+use Common.{subst, suc, sum_of, Symbol, Turn, turn, word, wrong, zero}
+use Rattle.mu_grammar.specs.ConditionMachine.{begin_condition}
+use Rattle.mu_grammar.proofs.SumsSound.{PrimaryThen, Completes, CompletesMove, back, primary_then}
+use Rattle.mu_grammar.proofs.SumsSound.{begin_sum_follows}
 use Rattle.mu_lexer.specs.declared.token.Word.TheVariants as words
-use Rattle.mu_lexer.specs.declared.token.Mark.{Mark}
 use Rattle.mu_lexer.specs.declared.token.Mark.TheVariants as marks
-use Rattle.mu_tree.specs.declared.tree.Rel.{Rel}
-use Rattle.mu_tree.specs.Expression.{Expression}
-use Rattle.mu_tree.specs.ModelTree.{Condition}
-use Rattle.mu_grammar.specs.Grammar.{Symbol, number, name, quoted, word, mark, place, sum_of, product_of, signed, scaled, IsSum}
 use Rattle.mu_grammar.specs.Grammar as grammar
 use Rattle.mu_grammar.specs.SumMachine as machine
-use Rattle.mu_grammar.specs.SumMachine.{Frame, Position, at_sum, after_primary, Move, moves, opens, wrong, depth, depth_at, first_part, step, begin_sum}
-use Rattle.mu_grammar.specs.Conditions.{relation_of, compared, IsCondition, compare, brackets}
-use Rattle.mu_grammar.specs.ConditionMachine.{Stage, before, in_left, in_right, behind, Turn, goes, nests, holds, fails, complete, compares, after_left, left_move, right_move, begin_condition, turn, inside, nested, depth_of}
-use Rattle.mu_grammar.proofs.SumsSound.{PrimaryThen, Completes, CompletesMove, back, primary_then, begin_sum_follows}
 
 -- the tokens close k brackets, and then, and L holds of the rest
 abbrev pub CloseThen : (Condition → List Symbol → Type 0) → ℕ → Condition → List Symbol → Type 0

@@ -1,24 +1,22 @@
 -- Models that the grammar accepts, as a check of its definitions.
-use Rattle.std.proofs.Common.{ℕ, false, List, [], ◌∷◌, refl, arith, Option, Some, None}
-use Rattle.std.specs.Prelude.{codes}
+use Rattle.mu_grammar.proofs.Common
+use Common.{[], ℕ, ◌∷◌, a_string, arith, balanced_end, balanced_nested, balanced_token, Branches}
+use Common.{clause_then, codes, compare, compared, Derivative, EachClause, Expression, false}
+use Common.{import_end, import_token, IsMods, IsSum, last_one, List, listed_end, listed_then, mark}
+use Common.{model_of, name, no_clauses, no_more, no_string, None, Number, number, one_more}
+use Common.{one_then, Option, quoted, range, refl, Restart, sections, skipped, skipped_nested, Some}
+use Common.{some_inside, SpellsModel, Symbol, Variable, Whole, word}
+use Rattle.mu_grammar.specs.Grammar.{unsigned, last_term, product, last_factor, literal, whole}
 use Rattle.mu_lexer.specs.declared.token.Word.TheVariants as words
 use Rattle.mu_lexer.specs.declared.token.Mark.TheVariants as marks
 use Rattle.mu_tree.specs.declared.tree.Prefix.TheVariants as prefixes
 use Rattle.mu_tree.specs.declared.tree.SettingName.TheVariants as settings
 use Rattle.mu_tree.specs.declared.tree.Rel.TheVariants as rels
-use Rattle.mu_tree.specs.Expression.{Expression, Number, Variable, Whole}
-use Rattle.mu_tree.specs.ModelTree.{Derivative, Restart, EachClause, Branches, no_clauses, clause_then, range}
-use Rattle.mu_grammar.specs.Grammar.{Symbol, number, name, quoted, word, mark, IsSum, unsigned, last_term, product, last_factor, literal, whole}
 use Rattle.mu_grammar.specs.Grammar as grammar
-use Rattle.mu_grammar.specs.Conditions.{compared, compare}
-use Rattle.mu_grammar.specs.Lists.{no_more, one_more, last_one, one_then, some_inside, listed_end, listed_then, no_string, a_string}
-use Rattle.mu_grammar.specs.Skipped.{balanced_end, balanced_token, balanced_nested, skipped, skipped_nested, import_end, import_token}
 use Rattle.mu_grammar.specs.DeclarationGrammar as declarations
-use Rattle.mu_grammar.specs.DeclarationGrammar.{IsMods}
 use Rattle.mu_grammar.specs.Loops as loops
 use Rattle.mu_grammar.specs.Bodies as bodies
 use Rattle.mu_grammar.specs.ModelGrammar as models
-use Rattle.mu_grammar.specs.ModelGrammar.{SpellsModel, sections, model_of}
 
 -- a number alone
 number_alone : {limit d at : ℕ} {digits : List ℕ} {rest : List Symbol} → IsSum limit d (number digits at ∷ rest) rest (Number digits at)

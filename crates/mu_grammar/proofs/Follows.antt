@@ -1,13 +1,12 @@
 -- What follows the parts of a component, by tests of one token.
-use Rattle.std.proofs.Common.{◌≡◌, true, false, refl, Result, Ok, Err, IfOk}
+use Rattle.mu_grammar.proofs.Common
+use Common.{◌≡◌, advances, at_item, begin, begin_first_item, begin_item, closed, Component}
+use Common.{descends, Err, false, follow_modifications, follow_name, follow_size, follow_value}
+use Common.{for_size, for_value, IfOk, is_fixed, mark, modifications, Ok, Place, refl, Result}
+use Common.{Symbol, true}
+use Rattle.mu_grammar.specs.Closing.{is_close, is_open_square}
 use Rattle.mu_lexer.specs.declared.token.Mark.TheVariants as marks
 use Rattle.mu_grammar.specs.declared.symbol.Fixed.TheVariants as fixed
-use Rattle.mu_grammar.specs.Grammar.{Symbol, mark}
-use Rattle.mu_grammar.specs.ReaderMachines.{advances, descends}
-use Rattle.mu_grammar.specs.Shapes.{is_fixed}
-use Rattle.mu_grammar.specs.States.{Component, Place, modifications, for_size, for_value, at_item, begin}
-use Rattle.mu_grammar.specs.DeclarationMachine.{closed, begin_item, begin_first_item, follow_name, follow_size, follow_modifications, follow_value}
-use Rattle.mu_grammar.specs.Closing.{is_close, is_open_square}
 
 -- what holds of a value where there is one
 pub if_ok_map : {A E : Type 0} (r : Result A E) (P Q : A → Type 0) → ((a : A) → P a → Q a) → IfOk r P → IfOk r Q

@@ -1,10 +1,12 @@
 -- A machine of any grammar stops at the first token after which the tokens are not an input prefix.
-use Rattle.std.proofs.Common.{◌≡◌, ℕ, ◌+◌, ◌<◌, ◌≤◌, Bool, true, false, List, [], ◌∷◌, ◌++◌, ◌⊎◌, inl, inr, refl, ap, sym, ◌∙◌, subst, nat_lt, length, take, drop, append-nil, arith, get_or}
-use Rattle.std.proofs.lemmas.List.{take_more, take-append-drop}
-use Rattle.std.proofs.lemmas.List.Elements.{All-nil}
-use Rattle.mu_grammar.specs.Grammar.{Symbol}
-use Rattle.mu_grammar.specs.ReaderMachines.{Effect, advances, descends, finishes, refuses, Next, go, done, syntax, deep, Machine, deeper, allow, step_on, after}
-use Rattle.mu_grammar.specs.Prefixes.{IsToken, IsInputPrefix, StopsAtAnyDepth, StopsByDepth, EndsEarly, Decides}
+use Rattle.mu_grammar.proofs.Common
+use Common.{[], ℕ, ◌++◌, ◌+◌, ◌<◌, ◌∙◌, ◌∷◌, ◌≡◌, ◌≤◌, ◌⊎◌, advances, after, All-nil, allow, ap}
+use Common.{append-nil, arith, Bool, Decides, deep, deeper, descends, done, drop, Effect, false}
+use Common.{finishes, get_or, go, inl, inr, IsInputPrefix, IsToken, length, List, Machine, nat_lt}
+use Common.{Next, refl, refuses, step_on, StopsAtAnyDepth, StopsByDepth, subst, sym, Symbol, syntax}
+use Common.{take, take-append-drop, true}
+use Rattle.std.proofs.lemmas.List.{take_more}
+use Rattle.mu_grammar.specs.Prefixes.{EndsEarly}
 
 -- with more levels allowed, a machine goes the same way, unless it was too deep
 pub data Wider {S T : Type 0} : Next S T → Next S T → Type 0 where

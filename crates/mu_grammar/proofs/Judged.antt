@@ -1,14 +1,14 @@
 -- Any tokens parse as a tree or have one fault.
-use Rattle.std.proofs.Common.{◌≡◌, ℕ, zero, suc, ◌+◌, ◌<◌, ◌≤◌, List, [], ◌∷◌, ◌++◌, ◌⊎◌, inl, inr, refl, ap, sym, ◌∙◌, subst, length, take, drop, get_or, append_assoc, append-nil, arith}
-use Rattle.std.specs.List.{All}
-use Rattle.std.proofs.lemmas.List.{take_all, take-take, take-append-drop}
+use Rattle.mu_grammar.proofs.Common
+use Common.{[], ℕ, ◌++◌, ◌+◌, ◌<◌, ◌∙◌, ◌∷◌, ◌≡◌, ◌≤◌, ◌⊎◌, after, All, ap, append-nil}
+use Common.{append_assoc, arith, Decides, deep, done, drop, get_or, go, inl, inr, IsInputPrefix}
+use Common.{IsToken, length, List, Machine, Next, ParseErr, refl, step_on, StopsAtAnyDepth}
+use Common.{StopsByDepth, subst, suc, sym, Symbol, syntax, take, take-append-drop, take_all, zero}
+use Rattle.std.proofs.lemmas.List.{take-take}
 use Rattle.std.proofs.lemmas.List.Elements.{All-append, All-drop, All-take}
-use Rattle.mu_grammar.specs.declared.parse_fault.ParseErr.{ParseErr}
-use Rattle.mu_grammar.specs.declared.parse_fault.ParseErr.TheVariants as errors
-use Rattle.mu_grammar.specs.Grammar.{Symbol}
-use Rattle.mu_grammar.specs.ReaderMachines.{Next, go, done, syntax, deep, Machine, step_on, after}
-use Rattle.mu_grammar.specs.Prefixes.{IsToken, IsInputPrefix, StopsAt, StopsAtAnyDepth, StopsByDepth, IsReason, ParseOrFail, ParseFaultsAreUnique, Decides}
+use Rattle.mu_grammar.specs.Prefixes.{StopsAt, IsReason, ParseOrFail, ParseFaultsAreUnique}
 use Rattle.mu_grammar.proofs.Fronts.{after-next, stops_for_good, stops_deep, ends_early}
+use Rattle.mu_grammar.specs.declared.parse_fault.ParseErr.TheVariants as errors
 
 neither : (a b : ℕ) → (a < b → ⊥) → (b < a → ⊥) → a ≡ b
 neither a b less more = grind arith

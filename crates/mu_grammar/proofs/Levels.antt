@@ -1,9 +1,12 @@
 -- How many levels are open, as a sum of lengths.
-use Rattle.std.proofs.Common.{◌≡◌, ℕ, zero, suc, ◌+◌, ◌∙◌, List, [], ◌∷◌, length, map, reverse, refl, ap, sym, arith}
+use Rattle.mu_grammar.proofs.Common
+use Common.{[], ℕ, ◌+◌, ◌∙◌, ◌∷◌, ◌≡◌, after_factor, after_name, after_primary, after_reference, ap}
+use Common.{arith, at_bracket, at_exponent, at_name, at_operand, at_sum, at_term, bracket, depth}
+use Common.{depth_at, Frame, index, inside, length, level, List, map, nested, Position, previous}
+use Common.{refl, suc, sym, Use, zero}
+use Rattle.std.proofs.Common.{reverse}
 use Rattle.std.proofs.lemmas.List.{length-reverse}
-use Rattle.mu_grammar.specs.SumMachine.{Use, variable, previous, Frame, bracket, index, Position, at_sum, at_term, at_operand, at_bracket, at_name, after_name, after_reference, after_primary, at_exponent, after_factor, behind, deeper, depth, depth_at}
-use Rattle.mu_grammar.specs.ConditionMachine.{inside, nested}
-use Rattle.mu_grammar.specs.States.{level}
+use Rattle.mu_grammar.specs.SumMachine.{variable, behind, deeper}
 
 behind-add : (u : Use) (d e : ℕ) → behind u (d + e) ≡ d + behind u e
 behind-add (variable p) d e = refl

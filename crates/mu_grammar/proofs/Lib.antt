@@ -1,3 +1,4 @@
+mod Common
 mod CompleteBodies
 mod CompleteDeclarations
 mod CompleteLists

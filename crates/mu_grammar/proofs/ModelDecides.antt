@@ -1,12 +1,8 @@
 -- The machine of a model reads exactly the models that the tokens parse as.
-use Rattle.std.proofs.Common.{◌≡◌, ℕ, ◌<◌, Bool, true, false, List, [], ◌∷◌, refl, sym, subst, nat_lt, arith}
-use Rattle.mu_tree.specs.ModelTree.{ModelTree}
-use Rattle.mu_grammar.specs.Grammar.{Symbol}
-use Rattle.mu_grammar.specs.ReaderMachines.{Effect, advances, descends, finishes, refuses, Next, go, done, syntax, deep, deeper, allow, after}
-use Rattle.mu_grammar.specs.Prefixes.{Decides}
-use Rattle.mu_grammar.specs.ModelGrammar.{SpellsModel}
-use Rattle.mu_grammar.specs.States.{State}
-use Rattle.mu_grammar.specs.ModelMachine.{model_turn, model_machine}
+use Rattle.mu_grammar.proofs.Common
+use Common.{[], ℕ, ◌<◌, ◌∷◌, ◌≡◌, advances, after, allow, arith, Bool, Decides, deep, deeper}
+use Common.{descends, done, Effect, false, finishes, go, List, model_machine, model_turn, ModelTree}
+use Common.{nat_lt, Next, refl, refuses, SpellsModel, State, subst, sym, Symbol, syntax, true}
 use Rattle.mu_grammar.proofs.Fronts.{after-syntax, after-deep}
 use Rattle.mu_grammar.proofs.ModelReaders.{GoodEffect, IsModelReader}
 use Rattle.mu_grammar.proofs.CompleteModels.{model_read}

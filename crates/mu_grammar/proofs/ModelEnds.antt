@@ -1,31 +1,33 @@
 -- From each state of the machine of a model some tokens complete a model.
-use Rattle.std.proofs.Common.{ℕ, suc, Bool, false, List, [], ◌∷◌, ◌++◌}
-use Rattle.std.specs.List.{All}
-use Rattle.std.proofs.lemmas.List.Elements.{All-nil}
-use Rattle.mu_lexer.specs.declared.token.Word.TheVariants as words
-use Rattle.mu_lexer.specs.declared.token.Mark.TheVariants as marks
-use Rattle.mu_tree.specs.Expression.{Expression, Reference, Whole, Element}
-use Rattle.mu_tree.specs.ModelTree.{range, EquationTree, Derivative, Algebraic, EachEquation, equations_of, StatementTree, Assign, Restart, EachStatement, statements_of, ClauseTree, Branches, EachClause, clauses_of, Setting, ModelTree}
-use Rattle.mu_grammar.specs.declared.symbol.Fixed.{Fixed}
-use Rattle.mu_grammar.specs.declared.symbol.Fixed.TheVariants as fixed
-use Rattle.mu_grammar.specs.declared.symbol.Bracket.{Bracket}
-use Rattle.mu_grammar.specs.declared.symbol.Bracket.TheVariants as round
-use Rattle.mu_grammar.specs.Grammar.{Symbol, word, mark}
-use Rattle.mu_grammar.specs.Prefixes.{IsToken}
-use Rattle.mu_grammar.specs.DeclarationGrammar.{with_setting}
-use Rattle.mu_grammar.specs.ModelGrammar.{model_of}
-use Rattle.mu_grammar.specs.ReaderMachines.{Effect}
-use Rattle.mu_grammar.specs.Shapes.{fixed_token}
-use Rattle.mu_grammar.specs.SumMachine.{Position, Frame, at_sum}
-use Rattle.mu_grammar.specs.States.{Draft, Component, Loop, OpenBranch, Body, in_equations, in_starts, in_clauses, in_branch, Aim, plain, derivative, initial, assigned, restarted, of_component, of_model, Place, modifications, own_arguments, arguments, settings, Waiting, for_size, for_start, for_value, for_quantum, for_setting, for_index, for_side, for_first, for_last, State, expects, in_sum, in_condition, at_model_name, behind_title, at_heads, importing, at_type, at_component, behind_name, behind_size, behind_modifications, behind_string, behind_annotation, at_first_item, at_item, at_each, behind_item, skipping, at_body, at_variable, at_target, behind_target_name, behind_target, at_end_name, at_last, begin, level, outside}
-use Rattle.mu_grammar.specs.DeclarationMachine.{new_draft, new_component, with_component, with_size, with_start, with_value, with_quantum, settings_seen, closed}
-use Rattle.mu_grammar.specs.BodyMachine.{with_equation, with_initial, with_clause, with_statement, with_item, put_equation, put_start, put_clause, put_statement, enter, branches_of, new_branch}
-use Rattle.mu_grammar.specs.ModelMachine.{receive, model_turn}
+use Rattle.mu_grammar.proofs.Common
+use Common.{[], ℕ, ◌++◌, ◌∷◌, Aim, Algebraic, All, All-nil, arguments, Assign, assigned, at_body}
+use Common.{at_component, at_each, at_end_name, at_first_item, at_heads, at_item, at_last}
+use Common.{at_model_name, at_sum, at_target, at_type, at_variable, begin, behind_annotation}
+use Common.{behind_item, behind_modifications, behind_name, behind_size, behind_string}
+use Common.{behind_target, behind_target_name, behind_title, Body, Bool, Bracket, Branches}
+use Common.{branches_of, clauses_of, ClauseTree, closed, Component, Derivative, derivative, Draft}
+use Common.{EachClause, EachEquation, EachStatement, Effect, Element, enter, equations_of}
+use Common.{EquationTree, expects, Expression, false, Fixed, fixed_token, for_first, for_index}
+use Common.{for_last, for_quantum, for_setting, for_side, for_size, for_start, for_value, Frame}
+use Common.{importing, in_branch, in_clauses, in_condition, in_equations, in_starts, in_sum}
+use Common.{initial, IsToken, level, List, Loop, mark, model_of, model_turn, ModelTree}
+use Common.{modifications, new_branch, new_component, new_draft, of_component, of_model, OpenBranch}
+use Common.{outside, own_arguments, Place, plain, Position, put_clause, put_equation, put_start}
+use Common.{put_statement, range, receive, Reference, Restart, restarted, Setting, settings}
+use Common.{settings_seen, skipping, State, statements_of, StatementTree, suc, Symbol, Waiting}
+use Common.{Whole, with_clause, with_component, with_equation, with_initial, with_item}
+use Common.{with_quantum, with_setting, with_size, with_start, with_statement, with_value, word}
 use Rattle.mu_grammar.proofs.SumsEnds.{ends, one, one_token, some_name, name_token, token_then}
 use Rattle.mu_grammar.proofs.ConditionsEnds.{stage_ends}
-use Rattle.mu_grammar.proofs.ModelReaders.{GoodEffect, IsModelReader, Follow, follow, InSum, AfterSum, sum_reader, InCondition, AfterThen, condition_reader}
+use Rattle.mu_grammar.proofs.ModelReaders.{GoodEffect, IsModelReader, Follow, follow, InSum}
+use Rattle.mu_grammar.proofs.ModelReaders.{AfterSum, sum_reader, InCondition, AfterThen}
+use Rattle.mu_grammar.proofs.ModelReaders.{condition_reader}
 use Rattle.mu_grammar.proofs.CompleteLists.{fixed_read}
 use Rattle.mu_grammar.proofs.CompleteBodies.{target_alone}
+use Rattle.mu_lexer.specs.declared.token.Word.TheVariants as words
+use Rattle.mu_lexer.specs.declared.token.Mark.TheVariants as marks
+use Rattle.mu_grammar.specs.declared.symbol.Fixed.TheVariants as fixed
+use Rattle.mu_grammar.specs.declared.symbol.Bracket.TheVariants as round
 
 fixed_is_token : (f : Fixed) (at : ℕ) → IsToken (fixed_token f at)
 fixed_is_token fixed.ModelWord at = tt

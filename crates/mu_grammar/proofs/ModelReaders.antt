@@ -1,19 +1,17 @@
 -- How the machine of a model reads tokens, sums and conditions, for any property of the model.
-use Rattle.std.proofs.Common.{◌≡◌, ℕ, suc, ◌<◌, true, false, List, [], ◌∷◌, refl, subst}
-use Rattle.mu_lexer.specs.declared.token.Mark.{Mark}
-use Rattle.mu_lexer.specs.declared.token.Mark.TheVariants as marks
-use Rattle.mu_tree.specs.Expression.{Expression}
-use Rattle.mu_tree.specs.ModelTree.{Condition, ModelTree}
-use Rattle.mu_grammar.specs.Grammar.{Symbol, number, name, quoted, word, mark, IsSum}
-use Rattle.mu_grammar.specs.ReaderMachines.{Effect, advances, descends, finishes, refuses}
-use Rattle.mu_grammar.specs.SumMachine as machine
-use Rattle.mu_grammar.specs.SumMachine.{Position, Frame, at_sum, depth_at, Move, moves, opens, wrong, step}
-use Rattle.mu_grammar.specs.ConditionMachine.{Stage, Turn, goes, nests, holds, fails, turn, depth_of}
-use Rattle.mu_grammar.specs.States.{OpenWhen, plain, derivative, initial, assigned, restarted, Waiting, for_size, for_start, for_value, for_quantum, for_setting, for_index, for_side, for_first, for_last, State, in_sum, in_condition, at_body, in_branch, begin, level, outside}
-use Rattle.mu_grammar.specs.BodyMachine.{new_branch, condition_turn}
-use Rattle.mu_grammar.specs.ModelMachine.{receive, sum_move, model_turn}
+use Rattle.mu_grammar.proofs.Common
+use Common.{[], ℕ, ◌<◌, ◌∷◌, ◌≡◌, advances, assigned, at_body, begin, Condition, condition_turn}
+use Common.{depth_at, depth_of, derivative, descends, Effect, Expression, fails, false, finishes}
+use Common.{for_first, for_index, for_last, for_quantum, for_setting, for_side, for_size, for_start}
+use Common.{for_value, Frame, goes, holds, in_branch, in_condition, in_sum, initial, IsSum, level}
+use Common.{List, Mark, mark, model_turn, ModelTree, Move, moves, name, nests, new_branch, number}
+use Common.{opens, OpenWhen, outside, plain, Position, quoted, receive, refl, refuses, restarted}
+use Common.{Stage, State, step, subst, suc, sum_move, Symbol, true, Turn, turn, Waiting, word}
+use Common.{wrong}
 use Rattle.mu_grammar.proofs.SumsComplete.{continues, Good, IsReader, GoodSum, sum_read}
 use Rattle.mu_grammar.proofs.ConditionsComplete.{GoodTurn, IsConditionReader}
+use Rattle.mu_lexer.specs.declared.token.Mark.TheVariants as marks
+use Rattle.mu_grammar.specs.SumMachine as machine
 
 -- an effect is good, where R says from where the machine reads the tokens, and F what may follow the model
 abbrev pub GoodEffect : ℕ → (State → List Symbol → Type 0) → (ModelTree → List Symbol → Type 0) → Effect State ModelTree → List Symbol → Type 0

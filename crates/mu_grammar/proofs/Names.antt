@@ -1,16 +1,13 @@
 -- What tests of names say of a token.
-use Rattle.std.proofs.Common.{◌≡◌, ℕ, Bool, true, false, List, ◌||◌, refl, sym, subst, if◌then◌else◌, Option, Some, None}
-use Rattle.std.specs.Prelude.{codes}
-use Rattle.std.specs.Str.{bytes_eq}
+use Rattle.mu_grammar.proofs.Common
+use Common.{ℕ, ◌||◌, ◌≡◌, argument_or_skipped, arguments, begin_argument, begin_bare_mod, begin_mod}
+use Common.{begin_own, begin_setting, begin_skipped, begins_arg, begins_mod, begins_own, begins_set}
+use Common.{Bool, bytes_eq, codes, Component, Draft, false, if◌then◌else◌, is_named, is_none, List}
+use Common.{mark, modifications, name, None, not, number, Option, own_arguments, own_or_skipped}
+use Common.{Owner, quoted, refl, Setting, setting_of, setting_or_skipped, SettingName, settings}
+use Common.{Settled, Some, start_or_skipped, subst, sym, Symbol, true, word}
 use Rattle.std.proofs.lemmas.Slice.Eq.{bytes_eq-Decides}
 use Rattle.mu_lexer.specs.declared.token.Word.TheVariants as words
-use Rattle.mu_tree.specs.ModelTree.{Setting}
-use Rattle.mu_tree.specs.declared.tree.SettingName.{SettingName}
-use Rattle.mu_grammar.specs.Grammar.{Symbol, number, name, quoted, word, mark}
-use Rattle.mu_grammar.specs.Skipped.{is_named}
-use Rattle.mu_grammar.specs.DeclarationGrammar.{Settled, not, begins_mod, begins_own, begins_arg, begins_set, is_none, setting_of}
-use Rattle.mu_grammar.specs.States.{Draft, Component, Owner, modifications, own_arguments, arguments, settings}
-use Rattle.mu_grammar.specs.DeclarationMachine.{begin_skipped, start_or_skipped, begin_bare_mod, begin_mod, own_or_skipped, begin_own, argument_or_skipped, begin_argument, setting_or_skipped, begin_setting}
 
 -- a token of one name is not of another
 pub named_apart : (one other : List ℕ) (x : Symbol) → bytes_eq one other ≡ false → is_named one x ≡ true → is_named other x ≡ false

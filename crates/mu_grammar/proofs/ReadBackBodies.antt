@@ -1,26 +1,33 @@
 -- Parsed equations, statements and clauses parse again from their canonical texts.
-use Rattle.std.proofs.Common.{◌≡◌, ℕ, suc, ◌<◌, ◌≤◌, Bool, true, false, List, [], ◌∷◌, ◌++◌, map, refl, ap, sym, ◌∙◌, subst, arith, append_assoc, Some}
-use Rattle.std.specs.Prelude.{codes}
+use Rattle.mu_grammar.proofs.Common
+use Common.{[], ℕ, ◌++◌, ◌<◌, ◌∙◌, ◌∷◌, ◌≡◌, ◌≤◌, a_string, Algebraic, ap, append_assoc}
+use Common.{AreBranches, AreItems, arith, Assign, bare, bare_clause, bare_equation, bare_reference}
+use Common.{bare_statement, Bool, branch, Branches, BranchTree, clause_kind, clause_then}
+use Common.{ClauseTree, codes, compared, Condition, Derivative, EachClause, EachEquation}
+use Common.{EachStatement, equation_kind, equation_then, EquationTree, Expression, false, in_range}
+use Common.{IsBareClause, IsBareEquation, IsBareStatement, IsClause, IsCondition, IsEquation}
+use Common.{IsItem, IsRange, IsStatement, item_then, Kind, List, Listed, listed_end, listed_then}
+use Common.{map, Mark, mark, mark_text, MaybeString, name, no_items, no_string, Range, range}
+use Common.{Reference, refl, Rel, relation_of, Restart, Some, SpellsToken, statement_kind}
+use Common.{statement_then, statements_of, StatementTree, subst, suc, sym, Symbol, Texts, true}
+use Common.{word, written, written_clause, written_clauses, written_equation, written_equations}
+use Common.{written_statement, written_statements}
+use Rattle.mu_tree.specs.Bare.{bare_condition, bare_range, bare_equations, bare_statements}
+use Rattle.mu_tree.specs.Bare.{bare_branch, bare_clauses}
+use Rattle.mu_tree.specs.Canonical.{relation, written_condition, written_range, end_for}
+use Rattle.mu_tree.specs.Canonical.{written_branches}
+use Rattle.mu_grammar.specs.Bodies.{derivative, algebraic, assign, restart, last_branch}
+use Rattle.mu_grammar.specs.Bodies.{branch_then, when}
+use Rattle.mu_grammar.proofs.ReadBackTexts.{past, Laid, laid_end, laid_then, lay_mark, lay_word}
+use Rattle.mu_grammar.proofs.ReadBackTexts.{lay_name, lay_both, Repeats, by_rule}
+use Rattle.mu_grammar.proofs.ReadBackSums.{Tokens, behind, here, OwnAgain, ReferenceAgain, sum_part}
+use Rattle.mu_grammar.proofs.ReadBackSums.{sum_read, reference_read}
 use Rattle.mu_lexer.specs.declared.token.Word.TheVariants as words
-use Rattle.mu_lexer.specs.declared.token.Mark.{Mark}
 use Rattle.mu_lexer.specs.declared.token.Mark.TheVariants as marks
 use Rattle.mu_lexer.specs.declared.token.Kind.TheVariants as kinds
-use Rattle.mu_lexer.specs.Spelling.{SpellsToken, mark_text}
-use Rattle.mu_tree.specs.declared.tree.Rel.{Rel}
 use Rattle.mu_tree.specs.declared.tree.Rel.TheVariants as rels
-use Rattle.mu_tree.specs.Expression.{Expression, Reference}
-use Rattle.mu_tree.specs.ModelTree.{Condition, Range, range, EquationTree, Derivative, Algebraic, EachEquation, equation_then, StatementTree, Assign, Restart, EachStatement, statement_then, statements_of, BranchTree, ClauseTree, Branches, EachClause, clause_then}
-use Rattle.mu_tree.specs.Bare.{bare, bare_reference, bare_condition, bare_range, bare_equation, bare_equations, bare_statement, bare_statements, bare_branch, bare_clause, bare_clauses}
-use Rattle.mu_tree.specs.Canonical.{Texts, relation, written, written_condition, written_range, end_for, written_equation, written_equations, written_statement, written_statements, written_branches, written_clause, written_clauses}
-use Rattle.mu_grammar.specs.Grammar.{Symbol, name, word, mark}
-use Rattle.mu_grammar.specs.Conditions.{relation_of, compared, IsCondition}
 use Rattle.mu_grammar.specs.Conditions as conditions
-use Rattle.mu_grammar.specs.Lists.{Listed, listed_end, listed_then, MaybeString, no_string, a_string}
-use Rattle.mu_grammar.specs.Loops.{IsRange, in_range, Kind, IsItem, AreItems, no_items, item_then}
 use Rattle.mu_grammar.specs.Loops as loops
-use Rattle.mu_grammar.specs.Bodies.{IsBareEquation, derivative, algebraic, equation_kind, IsEquation, IsBareStatement, assign, restart, statement_kind, IsStatement, branch, AreBranches, last_branch, branch_then, IsBareClause, when, clause_kind, IsClause}
-use Rattle.mu_grammar.proofs.ReadBackTexts.{past, Laid, laid_end, laid_then, lay_mark, lay_word, lay_name, lay_both, Repeats, by_rule}
-use Rattle.mu_grammar.proofs.ReadBackSums.{Tokens, behind, here, OwnAgain, ReferenceAgain, sum_part, sum_read, reference_read}
 
 pub le_self : (d : ℕ) → d ≤ d
 le_self d = omega arith

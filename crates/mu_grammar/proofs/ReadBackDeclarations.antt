@@ -1,24 +1,25 @@
 -- Parsed declarations and settings parse again from their canonical texts.
-use Rattle.std.proofs.Common.{ℕ, ◌<◌, Bool, true, false, List, [], ◌∷◌, ◌++◌, refl, Option, Some, None}
-use Rattle.std.specs.Prelude.{codes}
-use Rattle.std.specs.List.{AllByRecursion}
-use Rattle.mu_lexer.specs.declared.token.Word.TheVariants as words
-use Rattle.mu_lexer.specs.declared.token.Kind.TheVariants as kinds
-use Rattle.mu_lexer.specs.Spelling.{SpellsToken}
-use Rattle.mu_tree.specs.declared.tree.Prefix.{Prefix}
-use Rattle.mu_tree.specs.declared.tree.Prefix.TheVariants as prefixes
-use Rattle.mu_tree.specs.Expression.{Expression}
-use Rattle.mu_tree.specs.ModelTree.{Declaration, Setting}
+use Rattle.mu_grammar.proofs.Common
+use Common.{[], ℕ, ◌++◌, ◌<◌, ◌∷◌, AllByRecursion, annotation, Balanced, balanced_end}
+use Common.{balanced_nested, balanced_token, Bool, codes, Commas, component, Declaration}
+use Common.{declaration, declares, experiment, Expression, false, first_experiment, import_end}
+use Common.{import_token, InRound, IsAnnotation, IsArg, IsBareMod, IsComponent, IsExperiment}
+use Common.{IsHead, IsImported, IsKind, IsMod, IsMods, IsOwnAnnotation, IsOwnArg, IsSet, IsSize}
+use Common.{IsSkipped, IsValue, last_one, List, mods, no_annotation, no_mods, no_more, no_settings}
+use Common.{no_size, no_value, None, nothing_inside, one_more, one_then, Option, own_annotation}
+use Common.{own_quantum, Prefix, refl, Runs, set, Setting, Settled, size, skipped, skipped_nested}
+use Common.{Some, some_inside, SpellsToken, start, Symbol, true, value, word}
 use Rattle.mu_tree.specs.Canonical.{written_kind}
-use Rattle.mu_grammar.specs.Grammar.{Symbol, word}
-use Rattle.mu_grammar.specs.Lists.{Runs, no_more, one_more, Commas, last_one, one_then, InRound, nothing_inside, some_inside}
-use Rattle.mu_grammar.specs.Skipped.{Balanced, balanced_end, balanced_token, balanced_nested, IsSkipped, skipped, skipped_nested, IsImported, import_end, import_token}
-use Rattle.mu_grammar.specs.DeclarationGrammar.{IsBareMod, start, other_mod, IsMod, IsMods, no_mods, mods, IsSet, set, other_set, IsExperiment, experiment, IsOwnArg, own_quantum, own_experiment, own_other, IsOwnAnnotation, no_annotation, own_annotation, Settled, IsArg, first_experiment, other_arg, IsAnnotation, no_settings, annotation, IsKind, parameter, constant, discrete, plain, IsSize, no_size, size, IsValue, no_value, value, IsComponent, component, declares}
-use Rattle.mu_grammar.specs.DeclarationGrammar as grammar
-use Rattle.mu_grammar.specs.ModelGrammar.{IsHead, import_line, declaration}
+use Rattle.mu_grammar.specs.DeclarationGrammar.{other_mod, other_set, own_experiment, own_other}
+use Rattle.mu_grammar.specs.DeclarationGrammar.{other_arg, parameter, constant, discrete, plain}
+use Rattle.mu_grammar.specs.ModelGrammar.{import_line}
 use Rattle.mu_grammar.proofs.ReadBackTexts.{past, laid_end, lay_word, Repeats}
 use Rattle.mu_grammar.proofs.ReadBackSums.{Tokens, behind, here, OwnAgain, sum_read}
 use Rattle.mu_grammar.proofs.ReadBackBodies.{behind_string}
+use Rattle.mu_lexer.specs.declared.token.Word.TheVariants as words
+use Rattle.mu_lexer.specs.declared.token.Kind.TheVariants as kinds
+use Rattle.mu_tree.specs.declared.tree.Prefix.TheVariants as prefixes
+use Rattle.mu_grammar.specs.DeclarationGrammar as grammar
 
 -- one more element of which the same holds
 pub all_more : {A : Type 0} (P : A → Type 0) (xs : List A) (x : A) → AllByRecursion P xs → P x → AllByRecursion P (xs ++ x ∷ [])

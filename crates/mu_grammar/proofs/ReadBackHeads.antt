@@ -1,28 +1,27 @@
 -- The canonical texts of declarations and settings parse as these declarations and settings.
-use Rattle.std.proofs.Common.{◌≡◌, ℕ, ◌<◌, true, List, [], ◌∷◌, ◌++◌, map, refl, ap, sym, ◌∙◌, subst, arith, append_assoc, append-nil, Option, Some, None}
-use Rattle.std.specs.Prelude.{codes}
-use Rattle.std.specs.List.{AllByRecursion, flat_map}
+use Rattle.mu_grammar.proofs.Common
+use Common.{[], ℕ, ◌++◌, ◌<◌, ◌∙◌, ◌∷◌, ◌≡◌, AllByRecursion, annotation, ap, append-nil}
+use Common.{append_assoc, arith, bare, bare_declaration, bare_setting, codes, Commas, component}
+use Common.{Declaration, declaration, declares, experiment, Expression, first_experiment}
+use Common.{IsAnnotation, IsHead, IsMods, IsOwnAnnotation, IsSet, IsSize, IsValue, kind_spelled}
+use Common.{last_one, List, map, mark, mods, name, no_annotation, no_mods, no_more, no_settings}
+use Common.{no_size, no_string, no_value, None, one_more, one_then, Option, own_annotation}
+use Common.{own_quantum, refl, Runs, set, Setting, setting_of, SettingName, size, Some, some_inside}
+use Common.{SpellsToken, start, subst, sym, Symbol, true, value, word}
+use Rattle.std.specs.List.{flat_map}
 use Rattle.std.specs.Option.{option_map}
-use Rattle.mu_lexer.specs.declared.token.Word.TheVariants as words
-use Rattle.mu_lexer.specs.declared.token.Mark.TheVariants as marks
-use Rattle.mu_lexer.specs.declared.token.Kind.TheVariants as kinds
-use Rattle.mu_lexer.specs.Spelling.{SpellsToken}
-use Rattle.mu_lexer.proofs.TokenKinds.{kind_spelled}
-use Rattle.mu_tree.specs.declared.tree.SettingName.{SettingName}
-use Rattle.mu_tree.specs.declared.tree.SettingName.TheVariants as settings
-use Rattle.mu_tree.specs.Expression.{Expression}
-use Rattle.mu_tree.specs.ModelTree.{Declaration, Setting}
-use Rattle.mu_tree.specs.Bare.{bare, bare_declaration, bare_setting}
-use Rattle.mu_tree.specs.Canonical.{optional, written_declaration, setting_name, written_settings, written_annotation}
-use Rattle.mu_grammar.specs.Grammar.{Symbol, name, word, mark}
-use Rattle.mu_grammar.specs.Lists.{Runs, no_more, one_more, Commas, last_one, one_then, some_inside, no_string}
-use Rattle.mu_grammar.specs.DeclarationGrammar.{start, IsMods, no_mods, mods, setting_of, IsSet, set, experiment, own_quantum, IsOwnAnnotation, no_annotation, own_annotation, first_experiment, IsAnnotation, no_settings, annotation, IsSize, no_size, size, IsValue, no_value, value, component, declares}
-use Rattle.mu_grammar.specs.DeclarationGrammar as grammar
-use Rattle.mu_grammar.specs.ModelGrammar.{IsHead, declaration}
-use Rattle.mu_grammar.proofs.ReadBackTexts.{past, laid_end, lay_mark, lay_word, lay_name, lay_both, Repeats}
+use Rattle.mu_tree.specs.Canonical.{optional, written_declaration, setting_name, written_settings}
+use Rattle.mu_tree.specs.Canonical.{written_annotation}
+use Rattle.mu_grammar.proofs.ReadBackTexts.{past, laid_end, lay_mark, lay_word, lay_name, lay_both}
+use Rattle.mu_grammar.proofs.ReadBackTexts.{Repeats}
 use Rattle.mu_grammar.proofs.ReadBackSums.{sum_part}
 use Rattle.mu_grammar.proofs.ReadBackBodies.{le_self}
 use Rattle.mu_grammar.proofs.ReadBackDeclarations.{OneDeep, Outside, GoodSetting, GoodDeclaration}
+use Rattle.mu_lexer.specs.declared.token.Word.TheVariants as words
+use Rattle.mu_lexer.specs.declared.token.Mark.TheVariants as marks
+use Rattle.mu_lexer.specs.declared.token.Kind.TheVariants as kinds
+use Rattle.mu_tree.specs.declared.tree.SettingName.TheVariants as settings
+use Rattle.mu_grammar.specs.DeclarationGrammar as grammar
 
 -- the names that have a meaning are identifiers
 start_name : SpellsToken kinds.Ident (codes "start")

@@ -1,25 +1,29 @@
 -- Parsed models parse again from their canonical texts.
-use Rattle.std.proofs.Common.{◌≡◌, ℕ, false, List, [], ◌∷◌, ◌++◌, map, refl, ap, sym, ◌∙◌, subst, append_assoc, append-nil}
-use Rattle.std.specs.Prelude.{codes}
-use Rattle.std.specs.List.{All, AllByRecursion}
+use Rattle.mu_grammar.proofs.Common
+use Common.{[], ℕ, ◌++◌, ◌∙◌, ◌∷◌, ◌≡◌, AddsClause, AddsEquation, AddsStart, All, AllByRecursion}
+use Common.{ap, append-nil, append_assoc, bare_clause, bare_declaration, bare_equation}
+use Common.{bare_setting, bare_statement, clauses_of, ClauseTree, codes, equations_of, EquationTree}
+use Common.{false, IsClause, IsEquation, IsHead, IsSection, IsStatement, IsToken, List, map, mark}
+use Common.{model_of, ModelTree, name, no_more, no_string, one_more, refl, Runs, Sections, sections}
+use Common.{SpellsModel, SpellsToken, statements_of, StatementTree, subst, sym, Symbol, word}
+use Common.{written_clause, written_clauses, written_equation, written_equations, written_statement}
+use Common.{written_statements}
+use Rattle.mu_tree.specs.Bare.{bare_model}
+use Rattle.mu_tree.specs.Canonical.{section, written_model}
+use Rattle.mu_grammar.specs.ModelGrammar.{adds_equation, adds_clause, adds_start, equations}
+use Rattle.mu_grammar.specs.ModelGrammar.{clauses, starts, model}
+use Rattle.mu_grammar.specs.ReadBack.{ReadsBack}
+use Rattle.mu_grammar.proofs.ReadBackTexts.{past, laid_end, lay_mark, lay_word, lay_name, lay_both}
+use Rattle.mu_grammar.proofs.ReadBackTexts.{Again, Repeats, laid_source}
+use Rattle.mu_grammar.proofs.ReadBackSums.{Tokens, tokens_of, behind, here}
+use Rattle.mu_grammar.proofs.ReadBackBodies.{behind_string, equation_read, statement_read}
+use Rattle.mu_grammar.proofs.ReadBackBodies.{clause_read}
+use Rattle.mu_grammar.proofs.ReadBackDeclarations.{all_more, runs_keep, GoodSetting}
+use Rattle.mu_grammar.proofs.ReadBackDeclarations.{GoodDeclaration, head_read, annotation_read}
+use Rattle.mu_grammar.proofs.ReadBackHeads.{declarations_again, annotation_again}
 use Rattle.mu_lexer.specs.declared.token.Word.TheVariants as words
 use Rattle.mu_lexer.specs.declared.token.Mark.TheVariants as marks
 use Rattle.mu_lexer.specs.declared.token.Kind.TheVariants as kinds
-use Rattle.mu_lexer.specs.Spelling.{SpellsToken}
-use Rattle.mu_tree.specs.ModelTree.{EquationTree, StatementTree, ClauseTree, ModelTree, equations_of, statements_of, clauses_of}
-use Rattle.mu_tree.specs.Bare.{bare_equation, bare_statement, bare_clause, bare_declaration, bare_setting, bare_model}
-use Rattle.mu_tree.specs.Canonical.{section, written_equation, written_equations, written_statement, written_statements, written_clause, written_clauses, written_model}
-use Rattle.mu_grammar.specs.Grammar.{Symbol, name, word, mark}
-use Rattle.mu_grammar.specs.Prefixes.{IsToken}
-use Rattle.mu_grammar.specs.Lists.{Runs, no_more, one_more, no_string}
-use Rattle.mu_grammar.specs.Bodies.{IsEquation, IsStatement, IsClause}
-use Rattle.mu_grammar.specs.ModelGrammar.{IsHead, Sections, sections, AddsEquation, adds_equation, AddsClause, adds_clause, AddsStart, adds_start, IsSection, equations, clauses, starts, model_of, SpellsModel, model}
-use Rattle.mu_grammar.specs.ReadBack.{ReadsBack}
-use Rattle.mu_grammar.proofs.ReadBackTexts.{past, laid_end, lay_mark, lay_word, lay_name, lay_both, Again, Repeats, laid_source}
-use Rattle.mu_grammar.proofs.ReadBackSums.{Tokens, tokens_of, behind, here}
-use Rattle.mu_grammar.proofs.ReadBackBodies.{behind_string, equation_read, statement_read, clause_read}
-use Rattle.mu_grammar.proofs.ReadBackDeclarations.{all_more, runs_keep, GoodSetting, GoodDeclaration, head_read, annotation_read}
-use Rattle.mu_grammar.proofs.ReadBackHeads.{declarations_again, annotation_again}
 
 abbrev GoodEquation : ℕ → EquationTree → Type 0
 GoodEquation limit e = Repeats bare_equation (IsEquation limit 0) (written_equation e) e

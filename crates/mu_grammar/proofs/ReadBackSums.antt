@@ -1,21 +1,26 @@
 -- Parsed expressions parse again from their canonical texts.
-use Rattle.std.proofs.Common.{◌≡◌, ℕ, suc, ◌+◌, ◌-◌, ◌<◌, ◌≤◌, Bool, true, false, List, [], ◌∷◌, refl, ap, sym, ◌∙◌, subst, arith, Some, None, ◌&&◌, nat_le, if◌then◌else◌}
-use Rattle.std.specs.Prelude.{codes}
-use Rattle.std.specs.List.{All}
+use Rattle.mu_grammar.proofs.Common
+use Common.{[], ℕ, ◌+◌, ◌-◌, ◌<◌, ◌∙◌, ◌∷◌, ◌≡◌, ◌≤◌, All, ap, arith, bare, bare_reference, Bool}
+use Common.{codes, Element, exponent_of, Expression, false, first_place, if◌then◌else◌, IsFactor}
+use Common.{IsPrimary, IsProduct, IsReference, IsSum, IsToken, List, mark, MoreFactors, MoreTerms}
+use Common.{name, None, Now, Number, number, Power, Previous, product_of, Reference, refl, Scaled}
+use Common.{scaled, Signed, signed, Some, SpellsToken, subst, suc, sum_of, sym, Symbol, Texts, true}
+use Common.{Variable, Whole, word, written}
+use Rattle.std.proofs.Common.{◌&&◌, nat_le}
 use Rattle.std.specs.Fmt.{decimal}
 use Rattle.std.proofs.lemmas.Fmt.{decimal_digit}
 use Rattle.std.proofs.lemmas.List.Elements.{All-head, All-tail}
+use Rattle.mu_tree.specs.Expression.{Sum, Product, Terms, term, Factors, factor, terms_of}
+use Rattle.mu_tree.specs.Expression.{factors_of}
+use Rattle.mu_tree.specs.Bare.{bare_terms, bare_factors}
+use Rattle.mu_tree.specs.Canonical.{bracketed, bracketed_if, is_sum, is_sum_or_product, is_compound}
+use Rattle.mu_tree.specs.Canonical.{written_reference, written_terms, written_factors}
+use Rattle.mu_grammar.proofs.ReadBackTexts.{past, laid_end, lay_mark, lay_word, lay_name}
+use Rattle.mu_grammar.proofs.ReadBackTexts.{lay_number, lay_both, Repeats, by_rule}
 use Rattle.mu_lexer.specs.declared.token.Word.TheVariants as words
 use Rattle.mu_lexer.specs.declared.token.Mark.TheVariants as marks
 use Rattle.mu_lexer.specs.declared.token.Kind.TheVariants as kinds
-use Rattle.mu_lexer.specs.Spelling.{SpellsToken}
-use Rattle.mu_tree.specs.Expression.{Expression, Number, Variable, Now, Previous, Sum, Product, Power, Reference, Whole, Element, Terms, term, Factors, factor, Signed, Scaled, terms_of, factors_of}
-use Rattle.mu_tree.specs.Bare.{bare, bare_reference, bare_terms, bare_factors}
-use Rattle.mu_tree.specs.Canonical.{Texts, bracketed, bracketed_if, is_sum, is_sum_or_product, is_compound, written, written_reference, written_terms, written_factors}
-use Rattle.mu_grammar.specs.Grammar.{Symbol, number, name, word, mark, first_place, sum_of, product_of, exponent_of, signed, scaled, IsSum, MoreTerms, IsProduct, MoreFactors, IsFactor, IsPrimary, IsReference}
 use Rattle.mu_grammar.specs.Grammar as grammar
-use Rattle.mu_grammar.specs.Prefixes.{IsToken}
-use Rattle.mu_grammar.proofs.ReadBackTexts.{past, laid_end, lay_mark, lay_word, lay_name, lay_number, lay_both, Repeats, by_rule}
 
 -- what an expression is by itself: a sum, a product, a power or a primary
 abbrev pub Own : ℕ → Expression → ℕ → List Symbol → List Symbol → Expression → Type 0

@@ -1,21 +1,18 @@
 -- Canonical tokens one after another, and the source that has them.
-use Rattle.std.proofs.Common.{◌≡◌, ℕ, ◌+◌, ◌-◌, List, [], ◌∷◌, ◌++◌, length, take, drop, map, refl, ap, sym, ◌∙◌, subst, arith, append_assoc, length-append}
-use Rattle.std.specs.List.{All}
-use Rattle.std.proofs.lemmas.List.Elements.{All-cons, All-nil}
+use Rattle.mu_grammar.proofs.Common
+use Common.{[], ℕ, ◌++◌, ◌+◌, ◌-◌, ◌∙◌, ◌∷◌, ◌≡◌, All, All-cons, All-nil, ap, append_assoc, arith}
+use Common.{Bool, bytes_eq, codes, drop, false, if◌then◌else◌, length, List, map, Mark, mark}
+use Common.{mark_text, name, number, refl, SpellsToken, subst, sym, Symbol, symbol_of, symbol_with}
+use Common.{symbols, take, Texts, true, Word, word}
+use Rattle.std.proofs.Common.{length-append}
 use Rattle.std.proofs.Math.Seq.{take-append_seam, drop-append_seam}
-use Rattle.std.specs.Str.{bytes_eq}
-use Rattle.std.specs.Prelude.{Bool, true, false, codes, if◌then◌else◌}
 use Rattle.mu_lexer.specs.declared.token.Kind.{Kind}
-use Rattle.mu_lexer.specs.declared.token.Kind.TheVariants as kinds
-use Rattle.mu_lexer.specs.declared.token.Mark.{Mark}
-use Rattle.mu_lexer.specs.declared.token.Word.{Word}
 use Rattle.mu_lexer.specs.Tokens.{is_blank, AreTokens}
-use Rattle.mu_lexer.specs.Spelling.{SpellsToken, mark_text, word_text}
+use Rattle.mu_lexer.specs.Spelling.{word_text}
 use Rattle.mu_lexer.specs.Spaced.{Piece, IsSpelled, spaced_text, spaced_tokens}
 use Rattle.mu_lexer.proofs.SpacedTexts.{spaced_read}
-use Rattle.mu_tree.specs.Canonical.{Texts, joined, byte_behind}
-use Rattle.mu_grammar.specs.Grammar.{Symbol, name, number, word, mark}
-use Rattle.mu_grammar.specs.Symbols.{symbol_with, symbol_of, symbols}
+use Rattle.mu_tree.specs.Canonical.{joined, byte_behind}
+use Rattle.mu_lexer.specs.declared.token.Kind.TheVariants as kinds
 
 -- the place after a text and the byte that follows it
 abbrev pub past : ℕ → List ℕ → ℕ

@@ -1,15 +1,15 @@
 -- The steps of a machine's loop over the tokens, whatever the machine reads.
-use Rattle.std.proofs.Common.{◌≡◌, ℕ, zero, suc, ◌+◌, ◌<◌, ◌≤◌, List, [], ◌∷◌, ◌⊎◌, inl, inr, length, get_or, take, map, refl, ap, sym, ◌∙◌, subst, arith, Result, Ok, Err, IfOk, IfErr}
-use Rattle.std.proofs.lemmas.List.{take_all}
+use Rattle.mu_grammar.proofs.Common
+use Common.{[], ℕ, ◌+◌, ◌<◌, ◌∙◌, ◌∷◌, ◌≡◌, ◌≤◌, ◌⊎◌, after, ap, arith, Decides, deep, done, Err}
+use Common.{get_or, go, IfOk, inl, inr, length, List, Machine, map, Next, Ok, ParseErr, refl}
+use Common.{Result, step_on, subst, suc, sym, Symbol, symbol_of, symbols, syntax, take, take_all}
+use Common.{Token, zero}
+use Rattle.std.proofs.Common.{IfErr}
+use Rattle.mu_grammar.specs.Prefixes.{IsFault, Gives}
+use Rattle.mu_grammar.proofs.Fronts.{after-next, stops_for_good, stops_deep, syntax_unspelled}
+use Rattle.mu_grammar.proofs.Fronts.{deep_unspelled, ends_early}
 use Rattle.mu_lexer.specs.declared.token.Kind.TheVariants as kinds
-use Rattle.mu_lexer.specs.declared.token.Token.{Token}
-use Rattle.mu_grammar.specs.declared.parse_fault.ParseErr.{ParseErr}
 use Rattle.mu_grammar.specs.declared.parse_fault.ParseErr.TheVariants as errors
-use Rattle.mu_grammar.specs.Grammar.{Symbol}
-use Rattle.mu_grammar.specs.ReaderMachines.{Next, go, done, syntax, deep, Machine, step_on, after}
-use Rattle.mu_grammar.specs.Prefixes.{IsFault, Gives, Decides}
-use Rattle.mu_grammar.specs.Symbols.{symbols, symbol_of}
-use Rattle.mu_grammar.proofs.Fronts.{after-next, stops_for_good, stops_deep, syntax_unspelled, deep_unspelled, ends_early}
 
 -- a token for places past the end
 abbrev pub blank : Token

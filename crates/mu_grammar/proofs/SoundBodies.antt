@@ -1,28 +1,40 @@
 -- What the machine of a model reads as equations, starts, clauses and statements, the grammar allows.
-use Rattle.std.proofs.Common.{ℕ, suc, ◌<◌, true, false, List, [], ◌∷◌, inl, inr, refl, ap, sym, ◌∙◌, subst, append_assoc, append-nil}
-use Rattle.mu_lexer.specs.declared.token.Word.TheVariants as words
-use Rattle.mu_lexer.specs.declared.token.Mark.TheVariants as marks
-use Rattle.mu_tree.specs.Expression.{Reference, Whole, Element}
-use Rattle.mu_tree.specs.ModelTree.{Condition, Range, range, EquationTree, Derivative, Algebraic, EachEquation, equations_of, StatementTree, Assign, Restart, EachStatement, statements_of, ClauseTree, Branches, EachClause, clauses_of, ModelTree}
-use Rattle.mu_grammar.specs.declared.symbol.Fixed.TheVariants as fixed
-use Rattle.mu_grammar.specs.Grammar.{Symbol, number, name, quoted, word, mark, IsSum, IsReference}
-use Rattle.mu_grammar.specs.Grammar as grammar
-use Rattle.mu_grammar.specs.Conditions.{compared, IsCondition, compare}
-use Rattle.mu_grammar.specs.ConditionMachine.{before}
-use Rattle.mu_grammar.specs.Lists.{no_more, one_more, Listed, listed_end, listed_then, MaybeString}
-use Rattle.mu_grammar.specs.Loops.{Kind, IsRange, in_range, IsItem, AreItems, bare, loop, no_items}
-use Rattle.mu_grammar.specs.Bodies as bodies
-use Rattle.mu_grammar.specs.Bodies.{IsBareEquation, equation_kind, IsBareStatement, statement_kind, IsStatement, branch, AreBranches, IsBareClause, clause_kind}
-use Rattle.mu_grammar.specs.ModelGrammar as models
-use Rattle.mu_grammar.specs.ModelGrammar.{Sections, AddsEquation, AddsClause, AddsStart}
-use Rattle.mu_grammar.specs.States.{Draft, Loop, OpenWhen, OpenBranch, Body, in_equations, in_starts, in_clauses, in_branch, Aim, plain, derivative, initial, assigned, restarted, in_condition, level, branch_level, body_level, aim_level}
-use Rattle.mu_grammar.specs.BodyMachine.{with_equation, with_initial, with_clause, with_statement, put_equation, put_start, put_clause, put_statement, branches_of, next_branch, new_when, new_branch, end_branch, leave, begin_equation, begin_start, begin_clause, begin_statement, begin_bare, body_token, variable_token, target_token, follow_target, follow_target_name}
+use Rattle.mu_grammar.proofs.Common
+use Common.{[], ℕ, ◌<◌, ◌∙◌, ◌∷◌, Aim, aim_level, Algebraic, ap, append-nil, append_assoc, AreItems}
+use Common.{Assign, assigned, before, Body, body_level, branch, branch_level, Branches, branches_of}
+use Common.{clause_kind, clauses_of, ClauseTree, compare, compared, Condition, Derivative}
+use Common.{derivative, Draft, EachClause, EachEquation, EachStatement, Element, equation_kind}
+use Common.{equations_of, EquationTree, false, in_branch, in_clauses, in_condition, in_equations}
+use Common.{in_range, in_starts, initial, inl, inr, IsBareClause, IsBareEquation, IsBareStatement}
+use Common.{IsCondition, IsItem, IsRange, IsReference, IsStatement, IsSum, Kind, level, List}
+use Common.{Listed, listed_end, listed_then, Loop, loop, mark, MaybeString, ModelTree, name}
+use Common.{new_branch, new_when, next_branch, no_items, no_more, one_more, OpenBranch, OpenWhen}
+use Common.{plain, put_clause, put_equation, put_start, put_statement, Range, range, Reference}
+use Common.{refl, Restart, restarted, statement_kind, statements_of, StatementTree, subst, suc, sym}
+use Common.{Symbol, true, Whole, with_clause, with_equation, with_initial, with_statement, word}
+use Rattle.mu_grammar.specs.Loops.{bare}
+use Rattle.mu_grammar.specs.BodyMachine.{end_branch, leave, begin_equation, begin_start}
+use Rattle.mu_grammar.specs.BodyMachine.{begin_clause, begin_statement, begin_bare, body_token}
+use Rattle.mu_grammar.specs.BodyMachine.{variable_token, target_token, follow_target}
+use Rattle.mu_grammar.specs.BodyMachine.{follow_target_name}
 use Rattle.mu_grammar.proofs.ConditionsSound.{CloseThen}
 use Rattle.mu_grammar.proofs.CompleteLoops.{over}
-use Rattle.mu_grammar.proofs.CompleteBodies.{filled_branch, equations_over, statements_over, clauses_over}
-use Rattle.mu_grammar.proofs.SoundStates.{Reads, FixedThen, WithinThen, PutThen, LoopsThen, EquationsThen, StartsThen, ClausesThen, EquationLoops, StartLoops, ClauseLoops, PutClause, BranchesThen, BranchEnd, StatementsThen, StatementLoops, BodyThen, RangeThen, TargetThen, ReferenceThen, CompletesModel, CompletesEffect}
+use Rattle.mu_grammar.proofs.CompleteBodies.{filled_branch, equations_over, statements_over}
+use Rattle.mu_grammar.proofs.CompleteBodies.{clauses_over}
+use Rattle.mu_grammar.proofs.SoundStates.{Reads, FixedThen, WithinThen, PutThen, LoopsThen}
+use Rattle.mu_grammar.proofs.SoundStates.{EquationsThen, StartsThen, ClausesThen, EquationLoops}
+use Rattle.mu_grammar.proofs.SoundStates.{StartLoops, ClauseLoops, PutClause, BranchesThen}
+use Rattle.mu_grammar.proofs.SoundStates.{BranchEnd, StatementsThen, StatementLoops, BodyThen}
+use Rattle.mu_grammar.proofs.SoundStates.{RangeThen, TargetThen, ReferenceThen, CompletesModel}
+use Rattle.mu_grammar.proofs.SoundStates.{CompletesEffect}
 use Rattle.mu_grammar.proofs.SoundLists.{item_goes_on}
 use Rattle.mu_grammar.proofs.SoundDeclarations.{between_follows}
+use Rattle.mu_lexer.specs.declared.token.Word.TheVariants as words
+use Rattle.mu_lexer.specs.declared.token.Mark.TheVariants as marks
+use Rattle.mu_grammar.specs.declared.symbol.Fixed.TheVariants as fixed
+use Rattle.mu_grammar.specs.Grammar as grammar
+use Rattle.mu_grammar.specs.Bodies as bodies
+use Rattle.mu_grammar.specs.ModelGrammar as models
 
 -- a loop whose range and items are read, and what follows it
 loop_goes_on : {T Ts : Type 0} (limit d : ℕ) (kind : Kind T Ts) (IsBare : ℕ → List Symbol → List Symbol → T → Type 0) (J : List Symbol → Type 0) (K : T → List Symbol → Type 0) (ls : List (Loop T)) (at : ℕ) (ts mid : List Symbol) (r : Range) →

@@ -1,25 +1,38 @@
 -- What the machine of a model reads as declarations and annotations, the grammar allows.
-use Rattle.std.proofs.Common.{◌≡◌, ℕ, ◌<◌, Bool, true, false, List, [], ◌∷◌, ◌++◌, ◌||◌, inl, inr, refl, ap, sym, ◌∙◌, subst, Option, Some, None, if◌then◌else◌}
-use Rattle.std.specs.Prelude.{codes}
+use Rattle.mu_grammar.proofs.Common
+use Common.{[], ℕ, ◌++◌, ◌<◌, ◌||◌, ◌∙◌, ◌∷◌, ◌≡◌, a_string, ap, argument_or_skipped, arguments}
+use Common.{at_type, begin_argument, begin_bare_mod, begin_first_item, begin_item, begin_mod}
+use Common.{begin_own, begin_setting, begin_skipped, begins_arg, begins_mod, begins_own, begins_set}
+use Common.{between, Bool, codes, Commas, Component, Draft, Expression, false, follow_component}
+use Common.{follow_declared, follow_modifications, follow_name, follow_size, follow_string}
+use Common.{follow_title, follow_value, head, if◌then◌else◌, import_end, import_token, inl, inr}
+use Common.{InRound, is_named, is_none, IsArg, IsBareMod, IsComponent, IsExperiment, IsImported}
+use Common.{IsKind, IsMod, IsMods, IsOwnAnnotation, IsOwnArg, IsSection, IsSet, IsSize, IsSum}
+use Common.{IsValue, last_one, List, mark, ModelTree, modifications, name, new_component, no_more}
+use Common.{no_string, None, not, number, of_component, of_model, one_more, one_then}
+use Common.{open_experiment, Option, own_arguments, own_or_skipped, Owner, Place, Prefix, quoted}
+use Common.{refl, Setting, setting_of, setting_or_skipped, SettingName, settings, settings_seen}
+use Common.{Settled, Some, start_or_skipped, subst, sym, Symbol, true, unsettled, with_component}
+use Common.{with_setting, word}
+use Rattle.mu_grammar.specs.DeclarationGrammar.{is_each}
+use Rattle.mu_grammar.specs.DeclarationMachine.{import_token as token_of_import, type_token}
+use Rattle.mu_grammar.specs.DeclarationMachine.{component_token}
+use Rattle.mu_grammar.proofs.CompleteDeclarations.{made, with_decls}
+use Rattle.mu_grammar.proofs.SoundStates.{Reads, StringThen, SizeFrom, same_size, new_size}
+use Rattle.mu_grammar.proofs.SoundStates.{ModsFrom, same_mods, new_mods, ValueFrom, same_value}
+use Rattle.mu_grammar.proofs.SoundStates.{new_value, OwnFrom, same_own, new_own, CommasThen}
+use Rattle.mu_grammar.proofs.SoundStates.{AnnotationThen, SectionsThen, HeadsThen, ComponentsThen}
+use Rattle.mu_grammar.proofs.SoundStates.{DeclaredThen, BehindAnnotation, BehindString, BehindValue}
+use Rattle.mu_grammar.proofs.SoundStates.{BehindMods, BehindSize, BehindName, ModItems, OwnItems}
+use Rattle.mu_grammar.proofs.SoundStates.{ArgumentsEnd, ArgumentItems, ExperimentEnd, ItemsThen}
+use Rattle.mu_grammar.proofs.SoundStates.{BehindItem, FirstItem, CompletesModel, CompletesEffect}
+use Rattle.mu_grammar.proofs.SoundLists.{commas_then, RoundThen, round_then, skipped_follows}
+use Rattle.mu_grammar.proofs.SoundLists.{closed_then}
 use Rattle.mu_lexer.specs.declared.token.Word.TheVariants as words
 use Rattle.mu_lexer.specs.declared.token.Mark.TheVariants as marks
-use Rattle.mu_tree.specs.declared.tree.Prefix.{Prefix}
 use Rattle.mu_tree.specs.declared.tree.Prefix.TheVariants as prefixes
-use Rattle.mu_tree.specs.declared.tree.SettingName.{SettingName}
-use Rattle.mu_tree.specs.Expression.{Expression}
-use Rattle.mu_tree.specs.ModelTree.{Setting, ModelTree}
-use Rattle.mu_grammar.specs.Grammar.{Symbol, number, name, quoted, word, mark, IsSum}
-use Rattle.mu_grammar.specs.Lists.{Commas, last_one, one_then, no_more, one_more, InRound, no_string, a_string}
-use Rattle.mu_grammar.specs.Skipped.{is_named, IsImported, import_end, import_token}
 use Rattle.mu_grammar.specs.DeclarationGrammar as grammar
-use Rattle.mu_grammar.specs.DeclarationGrammar.{not, is_each, begins_mod, begins_own, begins_arg, begins_set, is_none, setting_of, with_setting, IsBareMod, IsMod, IsMods, IsSet, IsExperiment, IsOwnArg, IsOwnAnnotation, Settled, IsArg, IsAnnotation, whole_of, IsKind, IsSize, IsValue, IsComponent, IsDeclaration}
 use Rattle.mu_grammar.specs.ModelGrammar as models
-use Rattle.mu_grammar.specs.ModelGrammar.{IsHead, IsSection}
-use Rattle.mu_grammar.specs.States.{Draft, Component, Owner, of_component, of_model, Place, modifications, own_arguments, arguments, settings, at_type}
-use Rattle.mu_grammar.specs.DeclarationMachine.{new_component, with_component, unsettled, settings_seen, between, head, follow_title, import_token as token_of_import, type_token, component_token, follow_declared, follow_component, follow_string, follow_value, follow_modifications, follow_size, follow_name, start_or_skipped, begin_bare_mod, begin_mod, own_or_skipped, begin_own, open_experiment, argument_or_skipped, begin_argument, setting_or_skipped, begin_setting, begin_item, begin_first_item, begin_skipped}
-use Rattle.mu_grammar.proofs.CompleteDeclarations.{made, with_decls}
-use Rattle.mu_grammar.proofs.SoundStates.{Reads, StringThen, SizeFrom, same_size, new_size, ModsFrom, same_mods, new_mods, ValueFrom, same_value, new_value, OwnFrom, same_own, new_own, CommasThen, AnnotationThen, SectionsThen, HeadsThen, ComponentsThen, DeclaredThen, BehindAnnotation, BehindString, BehindValue, BehindMods, BehindSize, BehindName, ModItems, OwnItems, ArgumentsEnd, ArgumentItems, ExperimentEnd, ItemsThen, BehindItem, FirstItem, CompletesModel, CompletesEffect}
-use Rattle.mu_grammar.proofs.SoundLists.{commas_then, RoundThen, round_then, skipped_follows, closed_then}
 
 -- a part that replaces none is that part
 size_from : (limit : ℕ) (ts rest : List Symbol) (z : Option Expression) → SizeFrom limit None ts rest z → IsSize limit ts rest z

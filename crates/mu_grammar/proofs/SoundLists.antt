@@ -1,25 +1,23 @@
 -- What the machine of a model reads in lists, loops and items that are read over, the grammar allows.
-use Rattle.std.proofs.Common.{◌≡◌, ℕ, suc, ◌<◌, Bool, true, false, List, [], ◌∷◌, ◌⊎◌, inl, inr, refl, ap, sym, ◌∙◌, subst, Some}
-use Rattle.mu_lexer.specs.declared.token.Word.TheVariants as words
-use Rattle.mu_lexer.specs.declared.token.Mark.{Mark}
-use Rattle.mu_lexer.specs.declared.token.Mark.TheVariants as marks
-use Rattle.mu_tree.specs.ModelTree.{ModelTree}
-use Rattle.mu_grammar.specs.declared.symbol.Fixed.{Fixed}
-use Rattle.mu_grammar.specs.declared.symbol.Fixed.TheVariants as fixed
-use Rattle.mu_grammar.specs.declared.symbol.Bracket.{Bracket}
-use Rattle.mu_grammar.specs.declared.symbol.Bracket.TheVariants as round
-use Rattle.mu_grammar.specs.declared.symbol.Shape.{Shape}
-use Rattle.mu_grammar.specs.declared.symbol.Shape.TheVariants as shapes
-use Rattle.mu_grammar.specs.Grammar.{Symbol, word, mark}
-use Rattle.mu_grammar.specs.Lists.{Commas, last_one, one_then, InRound, nothing_inside, some_inside}
-use Rattle.mu_grammar.specs.Skipped.{closer, is_plain_token, Balanced, balanced_end, balanced_token, balanced_nested, IsSkipped, skipped, skipped_nested}
-use Rattle.mu_grammar.specs.Loops.{Kind, IsItem, item_then}
-use Rattle.mu_grammar.specs.Shapes.{is_fixed, fixed_token, shape_of, is_same, closing}
-use Rattle.mu_grammar.specs.States.{Loop, of_component, of_model, Place, modifications, own_arguments, arguments, settings, State, level, place_level}
-use Rattle.mu_grammar.specs.DeclarationMachine.{closed, follow_item, close_bracket, skip_shape, skip_first, begin_skipped}
-use Rattle.mu_grammar.specs.ModelMachine.{meets}
+use Rattle.mu_grammar.proofs.Common
+use Common.{[], ℕ, ◌<◌, ◌∙◌, ◌∷◌, ◌≡◌, ◌⊎◌, ap, arguments, Balanced, balanced_end, balanced_nested}
+use Common.{balanced_token, begin_skipped, Bool, Bracket, close_bracket, closed, closer, closing}
+use Common.{Commas, false, Fixed, fixed_token, inl, inr, InRound, is_fixed, is_plain_token, is_same}
+use Common.{IsItem, IsSkipped, item_then, Kind, last_one, level, List, Loop, Mark, mark, meets}
+use Common.{ModelTree, modifications, nothing_inside, of_component, of_model, one_then}
+use Common.{own_arguments, Place, place_level, refl, settings, Shape, shape_of, skip_first}
+use Common.{skip_shape, skipped, skipped_nested, Some, some_inside, State, subst, suc, sym, Symbol}
+use Common.{true, word}
+use Rattle.mu_grammar.specs.DeclarationMachine.{follow_item}
 use Rattle.mu_grammar.proofs.CompleteLoops.{over-append}
-use Rattle.mu_grammar.proofs.SoundStates.{FixedThen, MarkThen, CommasThen, Behind, SkipThen, PutThen, LoopsThen, BehindItem, ClosedThen, CompletesModel, CompletesEffect}
+use Rattle.mu_grammar.proofs.SoundStates.{FixedThen, MarkThen, CommasThen, Behind, SkipThen}
+use Rattle.mu_grammar.proofs.SoundStates.{PutThen, LoopsThen, BehindItem, ClosedThen}
+use Rattle.mu_grammar.proofs.SoundStates.{CompletesModel, CompletesEffect}
+use Rattle.mu_lexer.specs.declared.token.Word.TheVariants as words
+use Rattle.mu_lexer.specs.declared.token.Mark.TheVariants as marks
+use Rattle.mu_grammar.specs.declared.symbol.Fixed.TheVariants as fixed
+use Rattle.mu_grammar.specs.declared.symbol.Bracket.TheVariants as round
+use Rattle.mu_grammar.specs.declared.symbol.Shape.TheVariants as shapes
 
 -- a token that is as expected
 pub fixed_is : (f : Fixed) (x : Symbol) → is_fixed f x ≡ true → (at : ℕ) × (x ≡ fixed_token f at)

@@ -1,28 +1,38 @@
 -- What the machine of a model reads, the grammar allows.
-use Rattle.std.proofs.Common.{ℕ, suc, true, List, ◌∷◌, refl, ap, sym, ◌∙◌, subst}
-use Rattle.mu_lexer.specs.declared.token.Word.TheVariants as words
-use Rattle.mu_lexer.specs.declared.token.Mark.TheVariants as marks
-use Rattle.mu_tree.specs.Expression.{Expression, Reference}
-use Rattle.mu_tree.specs.ModelTree.{Setting, ModelTree}
-use Rattle.mu_grammar.specs.declared.symbol.Fixed.TheVariants as fixed
-use Rattle.mu_grammar.specs.Grammar.{Symbol, name, quoted, word, mark}
-use Rattle.mu_grammar.specs.Lists.{no_string, a_string}
-use Rattle.mu_grammar.specs.DeclarationGrammar.{IsAnnotation, with_setting}
-use Rattle.mu_grammar.specs.ModelGrammar as models
-use Rattle.mu_grammar.specs.ModelGrammar.{model_of, SpellsModel}
-use Rattle.mu_grammar.specs.SumMachine as machine
-use Rattle.mu_grammar.specs.SumMachine.{Move, moves, opens, wrong, step, depth_at}
-use Rattle.mu_grammar.specs.ConditionMachine.{Turn, goes, nests, holds, fails, turn, depth_of}
-use Rattle.mu_grammar.specs.States.{Draft, OpenWhen, Aim, plain, derivative, initial, assigned, restarted, Body, modifications, own_arguments, settings, Waiting, for_size, for_start, for_value, for_quantum, for_setting, for_index, for_side, for_first, for_last, State, expects, in_sum, in_condition, at_model_name, behind_title, at_heads, importing, at_type, at_component, behind_name, behind_size, behind_modifications, behind_string, behind_annotation, at_first_item, at_item, at_each, behind_item, skipping, at_body, at_variable, at_target, behind_target_name, behind_target, at_end_name, at_last, level, outside}
-use Rattle.mu_grammar.specs.DeclarationMachine.{new_draft, with_start, with_value, with_quantum}
-use Rattle.mu_grammar.specs.BodyMachine.{new_branch, close_equation, close_assignment, close_restart, close_side, condition_turn}
-use Rattle.mu_grammar.specs.ModelMachine.{receive, sum_move, title_token, end_name_token, last_token, model_turn, model_machine}
+use Rattle.mu_grammar.proofs.Common
+use Common.{ℕ, ◌∙◌, ◌∷◌, a_string, Aim, ap, assigned, at_body, at_component, at_each, at_end_name}
+use Common.{at_first_item, at_heads, at_item, at_last, at_model_name, at_target, at_type}
+use Common.{at_variable, behind_annotation, behind_item, behind_modifications, behind_name}
+use Common.{behind_size, behind_string, behind_target, behind_target_name, behind_title, Body}
+use Common.{close_equation, condition_turn, depth_at, depth_of, derivative, Draft, expects}
+use Common.{Expression, fails, for_first, for_index, for_last, for_quantum, for_setting, for_side}
+use Common.{for_size, for_start, for_value, goes, holds, importing, in_condition, in_sum, initial}
+use Common.{IsAnnotation, level, List, mark, model_machine, model_of, model_turn, ModelTree}
+use Common.{modifications, Move, moves, name, nests, new_branch, new_draft, no_string, opens}
+use Common.{OpenWhen, outside, own_arguments, plain, quoted, receive, Reference, refl, restarted}
+use Common.{Setting, settings, skipping, SpellsModel, State, step, subst, suc, sum_move, sym}
+use Common.{Symbol, true, Turn, turn, Waiting, with_quantum, with_setting, with_start, with_value}
+use Common.{word, wrong}
+use Rattle.mu_grammar.specs.BodyMachine.{close_assignment, close_restart, close_side}
+use Rattle.mu_grammar.specs.ModelMachine.{title_token, end_name_token, last_token}
 use Rattle.mu_grammar.proofs.SumsSound.{CompletesMove, back}
 use Rattle.mu_grammar.proofs.ConditionsSound.{CompletesTurn, back_stage}
-use Rattle.mu_grammar.proofs.SoundStates.{FixedThen, MarkThen, NameThen, StringThen, Finishes, EndNameThen, HeadsThen, StatementsThen, BodyThen, BehindSide, SumThen, CompletesModel, CompletesEffect}
+use Rattle.mu_grammar.proofs.SoundStates.{FixedThen, MarkThen, NameThen, StringThen, Finishes}
+use Rattle.mu_grammar.proofs.SoundStates.{EndNameThen, HeadsThen, StatementsThen, BodyThen}
+use Rattle.mu_grammar.proofs.SoundStates.{BehindSide, SumThen, CompletesModel, CompletesEffect}
 use Rattle.mu_grammar.proofs.SoundLists.{fixed_follows, item_follows, skip_follows}
-use Rattle.mu_grammar.proofs.SoundDeclarations.{head_follows, title_follows, import_follows, component_begins, type_follows, component_follows, string_follows, value_follows, mods_follow, size_follows, name_follows, bare_mod_follows, items_follow, first_item_follows}
-use Rattle.mu_grammar.proofs.SoundBodies.{target_follows, target_name_follows, target_begins, variable_begins, body_follows}
+use Rattle.mu_grammar.proofs.SoundDeclarations.{head_follows, title_follows, import_follows}
+use Rattle.mu_grammar.proofs.SoundDeclarations.{component_begins, type_follows, component_follows}
+use Rattle.mu_grammar.proofs.SoundDeclarations.{string_follows, value_follows, mods_follow}
+use Rattle.mu_grammar.proofs.SoundDeclarations.{size_follows, name_follows, bare_mod_follows}
+use Rattle.mu_grammar.proofs.SoundDeclarations.{items_follow, first_item_follows}
+use Rattle.mu_grammar.proofs.SoundBodies.{target_follows, target_name_follows, target_begins}
+use Rattle.mu_grammar.proofs.SoundBodies.{variable_begins, body_follows}
+use Rattle.mu_lexer.specs.declared.token.Word.TheVariants as words
+use Rattle.mu_lexer.specs.declared.token.Mark.TheVariants as marks
+use Rattle.mu_grammar.specs.declared.symbol.Fixed.TheVariants as fixed
+use Rattle.mu_grammar.specs.ModelGrammar as models
+use Rattle.mu_grammar.specs.SumMachine as machine
 
 module _ (limit : ℕ) (out : ModelTree) where
   equation_closes : (b : Body) (x : Symbol) (ts : List Symbol) → CompletesEffect limit out (close_equation b x) ts → StringThen (FixedThen fixed.Semicolon (BodyThen limit out b)) (x ∷ ts)

@@ -1,32 +1,36 @@
 -- What each state of the machine of a model still wants, in pieces of the grammar.
-use Rattle.std.proofs.Common.{◌≡◌, ℕ, suc, ◌<◌, Bool, true, false, List, [], ◌∷◌, ◌++◌, ◌⊎◌, Option, Some}
-use Rattle.mu_lexer.specs.declared.token.Word.{Word}
-use Rattle.mu_lexer.specs.declared.token.Word.TheVariants as words
-use Rattle.mu_lexer.specs.declared.token.Mark.{Mark}
-use Rattle.mu_lexer.specs.declared.token.Mark.TheVariants as marks
-use Rattle.mu_tree.specs.declared.tree.Prefix.{Prefix}
-use Rattle.mu_tree.specs.Expression.{Expression, Reference, Element}
-use Rattle.mu_tree.specs.ModelTree.{Range, range, EquationTree, Derivative, Algebraic, StatementTree, Assign, Restart, ClauseTree, Branches, Setting, ModelTree}
-use Rattle.mu_grammar.specs.declared.symbol.Fixed.{Fixed}
-use Rattle.mu_grammar.specs.declared.symbol.Fixed.TheVariants as fixed
-use Rattle.mu_grammar.specs.declared.symbol.Bracket.{Bracket}
-use Rattle.mu_grammar.specs.Grammar.{Symbol, name, word, mark, IsSum, IsReference}
-use Rattle.mu_grammar.specs.Lists.{Commas, Runs, InRound, Listed, MaybeString}
-use Rattle.mu_grammar.specs.Skipped.{Balanced, IsImported}
-use Rattle.mu_grammar.specs.DeclarationGrammar.{IsBareMod, IsMod, IsSet, IsOwnArg, Settled, IsArg, IsAnnotation, whole_of, IsComponent, with_setting}
-use Rattle.mu_grammar.specs.Loops.{Kind, IsRange, AreItems}
-use Rattle.mu_grammar.specs.Bodies.{IsBareEquation, equation_kind, IsBareStatement, statement_kind, IsStatement, AreBranches, IsBareClause, clause_kind}
-use Rattle.mu_grammar.specs.ModelGrammar.{AddsEquation, AddsClause, AddsStart, IsSection, IsHead, model_of}
-use Rattle.mu_grammar.specs.ReaderMachines.{Effect, advances, descends, finishes, refuses}
-use Rattle.mu_grammar.specs.Shapes.{fixed_token, closing}
-use Rattle.mu_grammar.specs.States.{Draft, Component, Loop, OpenWhen, OpenBranch, Body, in_equations, in_starts, in_clauses, in_branch, Aim, plain, derivative, initial, assigned, restarted, Owner, of_component, of_model, Place, modifications, own_arguments, arguments, settings, Waiting, for_size, for_start, for_value, for_quantum, for_setting, for_index, for_side, for_first, for_last, State, expects, in_sum, in_condition, at_model_name, behind_title, at_heads, importing, at_type, at_component, behind_name, behind_size, behind_modifications, behind_string, behind_annotation, at_first_item, at_item, at_each, behind_item, skipping, at_body, at_variable, at_target, behind_target_name, behind_target, at_end_name, at_last, level, branch_level, body_level, aim_level, side_level, place_level, outside}
-use Rattle.mu_grammar.specs.DeclarationMachine.{new_draft, with_size, with_start, with_value, with_quantum, with_component, settings_seen}
-use Rattle.mu_grammar.specs.BodyMachine.{with_equation, with_initial, with_clause, with_statement, put_equation, put_start, put_statement, enter, branches_of, next_branch, new_branch}
+use Rattle.mu_grammar.proofs.Common
+use Common.{[], ℕ, ◌++◌, ◌<◌, ◌∷◌, ◌≡◌, ◌⊎◌, AddsClause, AddsEquation, AddsStart, advances, Aim}
+use Common.{aim_level, Algebraic, AreBranches, AreItems, arguments, Assign, assigned, at_body}
+use Common.{at_component, at_each, at_end_name, at_first_item, at_heads, at_item, at_last}
+use Common.{at_model_name, at_target, at_type, at_variable, Balanced, behind_annotation}
+use Common.{behind_item, behind_modifications, behind_name, behind_size, behind_string}
+use Common.{behind_target, behind_target_name, behind_title, Body, body_level, Bool, Bracket}
+use Common.{branch_level, Branches, branches_of, clause_kind, ClauseTree, closing, Commas}
+use Common.{Component, Derivative, derivative, descends, Draft, Effect, Element, enter}
+use Common.{equation_kind, EquationTree, expects, Expression, false, finishes, Fixed, fixed_token}
+use Common.{for_first, for_index, for_last, for_quantum, for_setting, for_side, for_size, for_start}
+use Common.{for_value, importing, in_branch, in_clauses, in_condition, in_equations, in_starts}
+use Common.{in_sum, initial, InRound, IsAnnotation, IsArg, IsBareClause, IsBareEquation, IsBareMod}
+use Common.{IsBareStatement, IsComponent, IsHead, IsImported, IsMod, IsOwnArg, IsRange, IsReference}
+use Common.{IsSection, IsSet, IsStatement, IsSum, Kind, level, List, Listed, Loop, Mark, mark}
+use Common.{MaybeString, model_of, ModelTree, modifications, name, new_branch, new_draft}
+use Common.{next_branch, of_component, of_model, OpenBranch, OpenWhen, Option, outside}
+use Common.{own_arguments, Owner, Place, place_level, plain, Prefix, put_equation, put_start}
+use Common.{put_statement, Range, range, Reference, refuses, Restart, restarted, Runs, Setting}
+use Common.{settings, settings_seen, Settled, skipping, Some, State, statement_kind, StatementTree}
+use Common.{suc, Symbol, true, Waiting, whole_of, with_clause, with_component, with_equation}
+use Common.{with_initial, with_quantum, with_setting, with_size, with_start, with_statement}
+use Common.{with_value, Word, word}
+use Rattle.mu_grammar.specs.States.{side_level}
 use Rattle.mu_grammar.proofs.SumsSound.{Completes}
 use Rattle.mu_grammar.proofs.ConditionsSound.{CompletesStage}
 use Rattle.mu_grammar.proofs.CompleteDeclarations.{made, with_decls}
 use Rattle.mu_grammar.proofs.CompleteLoops.{over}
 use Rattle.mu_grammar.proofs.CompleteBodies.{with_held, filled_branch}
+use Rattle.mu_lexer.specs.declared.token.Word.TheVariants as words
+use Rattle.mu_lexer.specs.declared.token.Mark.TheVariants as marks
+use Rattle.mu_grammar.specs.declared.symbol.Fixed.TheVariants as fixed
 
 -- a prefix of the tokens parses as a value, and K holds for the value and the remaining tokens
 pub record Reads {A : Type 0} (Is : List Symbol → List Symbol → A → Type 0) (K : A → List Symbol → Type 0) (ts : List Symbol) : Type 0 where

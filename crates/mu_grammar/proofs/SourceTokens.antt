@@ -1,16 +1,13 @@
 -- The tokens of a source are tokens of the grammar.
-use Rattle.std.proofs.Common.{◌≡◌, ℕ, ◌+◌, ◌-◌, List, take, drop, refl, ap, ◌∙◌, subst, arith}
-use Rattle.std.specs.List.{All}
+use Rattle.mu_grammar.proofs.Common
+use Common.{ℕ, ◌+◌, ◌-◌, ◌∙◌, ◌≡◌, All, All-cons, All-nil, ap, arith, drop, IsToken, List, refl}
+use Common.{SpellsToken, subst, symbol_of, symbol_with, symbols, take, Token}
 use Rattle.std.proofs.lemmas.List.{drop-drop}
-use Rattle.std.proofs.lemmas.List.Elements.{All-nil, All-cons}
-use Rattle.mu_lexer.specs.Tokens.{Reads, stay as at_end, blank as over_space, comment as over_remark, token as over_word, AreTokens}
-use Rattle.mu_lexer.specs.Spelling.{SpellsToken}
+use Rattle.mu_lexer.specs.Tokens.{Reads, stay as at_end, blank as over_space}
+use Rattle.mu_lexer.specs.Tokens.{comment as over_remark, token as over_word}
 use Rattle.mu_lexer.specs.declared.token.Kind.{Kind}
-use Rattle.mu_lexer.specs.declared.token.Kind.TheVariants as kind
-use Rattle.mu_lexer.specs.declared.token.Token.{Token}
-use Rattle.mu_grammar.specs.Prefixes.{IsToken}
 use Rattle.mu_grammar.specs.SourceTokens.{TokensAreTokens}
-use Rattle.mu_grammar.specs.Symbols.{symbol_with, symbol_of, symbols}
+use Rattle.mu_lexer.specs.declared.token.Kind.TheVariants as kind
 
 -- the tokens of a source are tokens
 is_token : (k : Kind) (text : List ℕ) (at : ℕ) → SpellsToken k text → IsToken (symbol_with k text at)

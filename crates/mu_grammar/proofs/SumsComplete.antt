@@ -1,12 +1,17 @@
 -- What the grammar allows, the machine reads, in any context of the sum.
-use Rattle.std.proofs.Common.{◌≡◌, ℕ, suc, ◌<◌, Bool, true, false, List, [], ◌∷◌, ◌++◌, refl, ap, sym, ◌∙◌, subst, append_assoc, append-nil}
-use Rattle.mu_lexer.specs.declared.token.Mark.{Mark}
+use Rattle.mu_grammar.proofs.Common
+use Common.{[], ℕ, ◌++◌, ◌<◌, ◌∙◌, ◌∷◌, ◌≡◌, after_factor, after_name, after_primary}
+use Common.{after_reference, after_sum, ap, append-nil, append_assoc, at_bracket, at_exponent}
+use Common.{at_name, at_operand, at_sum, at_term, Bool, bracket, depth, depth_at, Expression, false}
+use Common.{first_part, first_place, follow_term, Frame, index, IsFactor, IsPrimary, IsProduct}
+use Common.{IsReference, IsSum, List, Mark, mark, MoreFactors, MoreTerms, Move, moves, name, number}
+use Common.{opens, operand, Part, place, Position, previous, product_of, Reference, refl, Scaled}
+use Common.{scaled, Signed, signed, step, subst, suc, sum_of, sym, Symbol, true, Use, Variable}
+use Common.{Whole, with_term, wrong}
+use Rattle.mu_grammar.specs.SumMachine.{behind, next_factor, ends}
 use Rattle.mu_lexer.specs.declared.token.Mark.TheVariants as marks
-use Rattle.mu_tree.specs.Expression.{Expression, Variable, Reference, Whole, Signed, Scaled}
-use Rattle.mu_grammar.specs.Grammar.{Symbol, number, name, quoted, word, mark, place, first_place, sum_of, product_of, exponent_of, signed, scaled, IsSum, MoreTerms, IsProduct, MoreFactors, IsFactor, IsPrimary, IsReference}
 use Rattle.mu_grammar.specs.Grammar as grammar
 use Rattle.mu_grammar.specs.SumMachine as machine
-use Rattle.mu_grammar.specs.SumMachine.{Part, Use, previous, Frame, bracket, index, Position, at_sum, at_term, at_operand, at_bracket, at_name, after_name, after_reference, after_primary, at_exponent, after_factor, behind, depth, depth_at, first_part, next_factor, with_term, Move, moves, opens, wrong, after_sum, follow_term, follow_factor, follow_primary, follow_reference, follow_name, operand, begin_sum, ends, step}
 
 -- the token would go on with a sum before it
 abbrev pub continues : Symbol → Bool

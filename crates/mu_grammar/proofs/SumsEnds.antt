@@ -1,16 +1,16 @@
 -- From each position some tokens complete the sum.
-use Rattle.std.proofs.Common.{ℕ, false, List, [], ◌∷◌, refl}
-use Rattle.std.specs.List.{All}
-use Rattle.std.proofs.lemmas.List.Elements.{All-cons}
+use Rattle.mu_grammar.proofs.Common
+use Common.{[], ℕ, ◌∷◌, after_factor, after_name, after_primary, after_reference, All, All-cons}
+use Common.{at_bracket, at_exponent, at_name, at_operand, at_sum, at_term, bracket, Element}
+use Common.{Expression, false, first_part, Frame, index, IsToken, kind_spelled, List, mark, name}
+use Common.{Number, number, Part, Position, Power, Previous, previous, Reference, refl, sum_of}
+use Common.{Symbol, Use, Variable, Whole, with_term}
+use Rattle.mu_grammar.proofs.SumsComplete.{IsReader, GoodSum, sum_as_term, term_as_factor}
+use Rattle.mu_grammar.proofs.SumsComplete.{factor_as_primary, reference_as_name}
+use Rattle.mu_grammar.proofs.SumsComplete.{primary_as_reference}
 use Rattle.mu_lexer.specs.declared.token.Kind.TheVariants as kinds
-use Rattle.mu_lexer.proofs.TokenKinds.{kind_spelled}
 use Rattle.mu_lexer.specs.declared.token.Mark.TheVariants as marks
-use Rattle.mu_tree.specs.Expression.{Expression, Number, Variable, Previous, Power, Reference, Whole, Element}
-use Rattle.mu_grammar.specs.Grammar.{Symbol, number, name, mark, sum_of}
-use Rattle.mu_grammar.specs.Prefixes.{IsToken}
 use Rattle.mu_grammar.specs.SumMachine as machine
-use Rattle.mu_grammar.specs.SumMachine.{Part, Use, previous, Frame, bracket, index, Position, at_sum, at_term, at_operand, at_bracket, at_name, after_name, after_reference, after_primary, at_exponent, after_factor, behind, depth, depth_at, first_part, next_factor, with_term, Move, moves, opens, wrong, after_sum, follow_term, follow_factor, follow_primary, follow_reference, follow_name, operand, begin_sum, begin_bracket, begin_name, follow_caret, step}
-use Rattle.mu_grammar.proofs.SumsComplete.{IsReader, GoodSum, sum_as_term, term_as_factor, factor_as_primary, reference_as_name, primary_as_reference}
 
 -- a token before other tokens
 pub token_then : (x : Symbol) (ts : List Symbol) → IsToken x → All IsToken ts → All IsToken (x ∷ ts)

@@ -1,12 +1,20 @@
 -- What the machine reads, the grammar allows, in any context of the sum.
-use Rattle.std.proofs.Common.{◌≡◌, ℕ, suc, ◌<◌, true, false, List, [], ◌∷◌, ◌++◌, ◌⊎◌, inl, inr, refl, ap, sym, ◌∙◌, subst, Option, Some, None, append_assoc, append-nil}
+use Rattle.mu_grammar.proofs.Common
+use Common.{[], ℕ, ◌++◌, ◌<◌, ◌∙◌, ◌∷◌, ◌≡◌, ◌⊎◌, after_factor, after_name, after_primary}
+use Common.{after_reference, after_sum, ap, append-nil, append_assoc, at_bracket, at_exponent}
+use Common.{at_name, at_operand, at_sum, at_term, begin_sum, bracket, depth, depth_at, Element}
+use Common.{exponent_of, Expression, false, first_part, follow_term, Frame, index, inl, inr}
+use Common.{IsFactor, IsPrimary, IsProduct, IsReference, IsSum, List, mark, MoreFactors, MoreTerms}
+use Common.{Move, moves, name, None, Now, Number, number, opens, operand, Option, Part, place}
+use Common.{Position, Power, Previous, previous, product_of, Reference, refl, Scaled, scaled}
+use Common.{Signed, signed, Some, step, subst, suc, sum_of, sym, Symbol, true, Use, Variable, Whole}
+use Common.{with_term, word, wrong}
+use Rattle.mu_grammar.specs.SumMachine.{behind, follow_factor, follow_primary, follow_reference}
+use Rattle.mu_grammar.specs.SumMachine.{follow_name}
 use Rattle.mu_lexer.specs.declared.token.Word.TheVariants as words
 use Rattle.mu_lexer.specs.declared.token.Mark.TheVariants as marks
-use Rattle.mu_tree.specs.Expression.{Expression, Number, Variable, Now, Previous, Power, Reference, Whole, Element, Signed, Scaled}
-use Rattle.mu_grammar.specs.Grammar.{Symbol, number, name, quoted, word, mark, place, first_place, sum_of, product_of, exponent_of, signed, scaled, IsSum, MoreTerms, IsProduct, MoreFactors, IsFactor, IsPrimary, IsReference}
 use Rattle.mu_grammar.specs.Grammar as grammar
 use Rattle.mu_grammar.specs.SumMachine as machine
-use Rattle.mu_grammar.specs.SumMachine.{Part, Use, previous, Frame, bracket, index, Position, at_sum, at_term, at_operand, at_bracket, at_name, after_name, after_reference, after_primary, at_exponent, after_factor, behind, depth, depth_at, first_part, next_factor, with_term, Move, moves, opens, wrong, after_sum, follow_term, follow_factor, follow_primary, follow_reference, follow_name, operand, begin_sum, begin_bracket, begin_name, follow_caret, step}
 
 -- terms, and then what K wants of the sum
 pub record TermThen (limit d : ℕ) (K : Expression → List Symbol → Type 0) (terms : List Signed) (ts : List Symbol) : Type 0 where

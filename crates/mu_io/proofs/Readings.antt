@@ -1,18 +1,17 @@
 -- Readings that follow one another, and a world in which they are possible.
-use Rattle.std.proofs.Common.{◌≡◌, ◌<◌, ◌≤◌, ◌==◌, Bool, true, false, bytes_eq, if◌then◌else◌, ℕ}
-use Rattle.std.proofs.Common.{◌-◌, suc, List, [], ◌∷◌, ◌++◌, length, take, drop, refl, sym, ap, ◌∙◌}
-use Rattle.std.proofs.Common.{subst, arith, length-append, append-nil, append_assoc}
-use Rattle.std.specs.declared.option.Option.{Option}
-use Rattle.std.specs.Prelude.{None, Some, All, IfSome, IsSome, option_map}
+use Rattle.mu_io.proofs.Common
+use Common.{[], ℕ, ◌++◌, ◌-◌, ◌<◌, ◌∙◌, ◌∷◌, ◌≡◌, ◌≤◌, ap, append_assoc, arith, Bool, bytes_eq}
+use Common.{bytes_eq-Decides, bytes_left, Consumes, drop, false, file_of, Files, in_progress}
+use Common.{IsAtEnd, length, List, None, Option, option_map, reading, refl, Some, subst, suc, sym}
+use Common.{take, true}
+use Rattle.std.proofs.Common.{◌==◌, if◌then◌else◌, length-append, append-nil}
+use Rattle.std.specs.Prelude.{All, IfSome, IsSome}
 use Rattle.std.proofs.lemmas.List.Elements.{All-nil, All-cons, All-head, All-tail}
 use Rattle.std.specs.Io.{StartsWith}
-use Rattle.std.specs.Io.KnownBytes.{Consumes, IsAtEnd}
-use Rattle.std.proofs.lemmas.Slice.Eq.{bytes_eq-Decides}
 use Rattle.std.proofs.lemmas.List.{take_at, take_all, length-take-le}
 use Rattle.std.specs.Cmp.{unsigned_Decides}
-use Rattle.mu_io.specs.Files.{Files, file_of, bytes_left}
-use Rattle.mu_io.specs.Readings.{Reading, in_progress, fully_read, reading, World, later}
-use Rattle.mu_io.specs.Readings.{IsOf, IsOfContents, AreOf, AreOfKnown, since, with_bytes}
+use Rattle.mu_io.specs.Readings.{Reading, fully_read, World, later, IsOf, IsOfContents, AreOf}
+use Rattle.mu_io.specs.Readings.{AreOfKnown, since, with_bytes}
 
 -- the readings after the old ones are those that were put before them
 pub since-append : (rs old : List Reading) → since old (rs ++ old) ≡ rs

@@ -1,3 +1,4 @@
+mod Common
 mod Numbers
 pub mod Places
 pub mod Progress

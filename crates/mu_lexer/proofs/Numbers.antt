@@ -1,7 +1,10 @@
 -- A byte-by-byte test for numbers, and its correctness.
-use Rattle.std.proofs.Common.{◌≡◌, ℕ, Bool, true, false, List, [], ◌∷◌, ◌++◌, refl, ap, sym, ◌∙◌, subst, ◌==◌, ◌⊎◌, inl, inr, if◌then◌else◌, arith, append_assoc, append-nil}
-use Rattle.std.proofs.lemmas.Bool.{eqb-true}
-use Rattle.mu_lexer.specs.Spelling.{is_digit, is_exponent_mark, is_sign, is_digits, is_some_digits, IsMantissa, whole, with_point, behind_point, IsScale, no_scale, plain_scale, signed_scale, IsNumber}
+use Rattle.mu_lexer.proofs.Common
+use Common.{[], ℕ, ◌++◌, ◌==◌, ◌∙◌, ◌∷◌, ◌≡◌, ap, append_assoc, arith, Bool, eqb-true, false}
+use Common.{if◌then◌else◌, is_digit, is_digits, is_exponent_mark, is_sign, is_some_digits, List}
+use Common.{refl, sym, true}
+use Rattle.mu_lexer.specs.Spelling.{IsMantissa, whole, with_point, behind_point, IsScale, no_scale}
+use Rattle.mu_lexer.specs.Spelling.{plain_scale, signed_scale, IsNumber}
 
 -- what may follow e: a sign or none, and digits
 abbrev pub is_exponent : List ℕ → Bool

@@ -1,23 +1,21 @@
 -- Texts of tokens that are each followed by a blank are read as these tokens.
-use Rattle.std.proofs.Common.{◌≡◌, ℕ, ◌+◌, ◌<◌, ◌≤◌, Bool, true, false, List, [], ◌∷◌, ◌++◌, ◌⊎◌, length, get_or, take, drop, refl, ap, sym, ◌∙◌, subst, Option, Some, None, ◌==◌, ◌&&◌, ◌||◌, arith, append_assoc, length-append, zero-add}
-use Rattle.std.specs.List.{All, flat_map}
-use Rattle.std.specs.Option.{option_and_then}
-use Rattle.std.proofs.lemmas.Bool.{eqb-true}
+use Rattle.mu_lexer.proofs.Common
+use Common.{[], ℕ, ◌&&◌, ◌++◌, ◌+◌, ◌==◌, ◌||◌, ◌∙◌, ◌∷◌, ◌≡◌, ◌≤◌, All, ap, append_assoc}
+use Common.{AreTokens, arith, begins_comment, begins_slash, BeginsWith, blank, Bool, ending}
+use Common.{eqb-true, false, is_blank, Kind, kind_from, kind_of, length, List, Mark, named, next}
+use Common.{None, Option, option_and_then, Phase, Reads, refl, run, Some, SpellsToken, stay, subst}
+use Common.{sym, take, token, true}
+use Rattle.std.proofs.Common.{length-append, zero-add}
 use Rattle.std.proofs.lemmas.List.Elements.{All-head, All-tail}
 use Rattle.std.proofs.Math.Seq.{take-append_seam, drop-append_seam, get_or-append_seam}
-use Rattle.mu_lexer.specs.declared.token.Mark.{Mark}
-use Rattle.mu_lexer.specs.declared.token.Mark.TheVariants as mark
-use Rattle.mu_lexer.specs.declared.token.Kind.{Kind}
-use Rattle.mu_lexer.specs.declared.lexer.Phase.{Phase}
-use Rattle.mu_lexer.specs.declared.lexer.Phase.TheVariants as phase
-use Rattle.mu_lexer.specs.declared.token.Kind.TheVariants as kind
-use Rattle.mu_lexer.specs.declared.lexer.NextItem.TheVariants as standing
-use Rattle.mu_lexer.specs.Spelling.{SpellsToken}
-use Rattle.mu_lexer.specs.Automaton.{after_mark, begin, next, ending, run, kind_from, named, kind_of}
-use Rattle.mu_lexer.specs.Tokens.{is_blank, begins_blank, begins_slash, begins_comment, IsLongest, BeginsWith, Reads, stay, blank, token, AreTokens}
+use Rattle.mu_lexer.specs.Automaton.{after_mark}
 use Rattle.mu_lexer.specs.Spaced.{Piece, IsSpelled, spaced_text, spaced_tokens}
 use Rattle.mu_lexer.proofs.TokenKinds.{spelled_kind}
 use Rattle.mu_lexer.proofs.Runs.{run-take_more, stuck}
+use Rattle.mu_lexer.specs.declared.token.Mark.TheVariants as mark
+use Rattle.mu_lexer.specs.declared.lexer.Phase.TheVariants as phase
+use Rattle.mu_lexer.specs.declared.token.Kind.TheVariants as kind
+use Rattle.mu_lexer.specs.declared.lexer.NextItem.TheVariants as standing
 
 -- what holds of the four blanks holds of each blank
 at_blank : (P : ℕ → Type 0) → P 32 → P 9 → P 13 → P 10 → (c : ℕ) → is_blank c ≡ true → P c

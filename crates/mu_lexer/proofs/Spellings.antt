@@ -1,14 +1,12 @@
 -- The automaton accepts exactly the tokens of the definitions.
-use Rattle.std.proofs.Common.{◌≡◌, ℕ, Bool, true, false, List, [], ◌∷◌, refl, ap, sym, Option, Some, None, ◌==◌, ◌||◌, if◌then◌else◌, arith}
-use Rattle.std.proofs.lemmas.Bool.{eqb-true}
-use Rattle.std.specs.Option.{option_and_then}
-use Rattle.mu_lexer.specs.declared.token.Kind.{Kind}
-use Rattle.mu_lexer.specs.declared.token.Kind.TheVariants as kind
-use Rattle.mu_lexer.specs.declared.lexer.Phase.{Phase}
-use Rattle.mu_lexer.specs.declared.lexer.Phase.TheVariants as phase
-use Rattle.mu_lexer.specs.Spelling.{is_digit, is_letter, is_exponent_mark, is_sign, is_digits, is_some_digits, is_quoted, is_name_rest}
+use Rattle.mu_lexer.proofs.Common
+use Common.{[], ℕ, ◌==◌, ◌||◌, ◌∷◌, ◌≡◌, ap, arith, Bool, ending, eqb-true, false, if◌then◌else◌}
+use Common.{is_digit, is_digits, is_exponent_mark, is_letter, is_name_rest, is_quoted, is_sign}
+use Common.{is_some_digits, Kind, kind_from, List, None, Option, option_and_then, Phase, refl, run}
+use Common.{Some, sym, true}
 use Rattle.mu_lexer.proofs.Numbers.{is_exponent, is_fraction, is_whole}
-use Rattle.mu_lexer.specs.Automaton.{ending, run, kind_from}
+use Rattle.mu_lexer.specs.declared.token.Kind.TheVariants as kind
+use Rattle.mu_lexer.specs.declared.lexer.Phase.TheVariants as phase
 
 -- the kind, where the test holds
 abbrev pub kind_if : Bool → Kind → Option Kind

@@ -1,22 +1,22 @@
 -- A text is a token of a kind if and only if the automaton and the words determine this kind.
-use Rattle.std.proofs.Common.{◌≡◌, ℕ, Bool, true, false, List, [], ◌∷◌, refl, ap, sym, ◌∙◌, subst, Option, Some, None, ◌==◌, ◌&&◌, if◌then◌else◌, arith, rules}
-use Rattle.std.proofs.lemmas.Bool.{eqb-true}
-use Rattle.std.specs.Str.{bytes_eq}
+use Rattle.mu_lexer.proofs.Common
+use Common.{[], ℕ, ◌&&◌, ◌==◌, ◌∙◌, ◌∷◌, ◌≡◌, ap, arith, begin, Bool, bytes_eq, eqb-true, false}
+use Common.{if◌then◌else◌, is_digit, is_letter, is_name_rest, is_quoted, Kind, kind_from, kind_of}
+use Common.{List, Mark, named, None, Option, Phase, refl, Some, SpellsToken, subst, sym, true, Word}
+use Common.{word_among, word_text}
+use Rattle.std.proofs.Common.{rules}
 use Rattle.std.proofs.lemmas.Slice.Eq.{bytes_eq-Decides}
 use Rattle.std.specs.List.{AllByRecursion}
 use Rattle.mu_lexer.specs.declared.token.TheConstants.{WORDS}
-use Rattle.mu_lexer.specs.declared.token.Word.{Word}
-use Rattle.mu_lexer.specs.declared.token.Word.TheVariants as word
-use Rattle.mu_lexer.specs.declared.token.Mark.{Mark}
-use Rattle.mu_lexer.specs.declared.token.Mark.TheVariants as mark
-use Rattle.mu_lexer.specs.declared.token.Kind.{Kind}
-use Rattle.mu_lexer.specs.declared.token.Kind.TheVariants as kind
-use Rattle.mu_lexer.specs.declared.lexer.Phase.{Phase}
-use Rattle.mu_lexer.specs.declared.lexer.Phase.TheVariants as phase
-use Rattle.mu_lexer.specs.Spelling.{is_digit, is_letter, is_quoted, is_string, is_name, is_name_rest, word_text, mark_text, SpellsToken}
-use Rattle.mu_lexer.specs.Automaton.{begin, kind_from, lookup, single_marks, phase_of, word_among, kind_named, named, kind_of}
-use Rattle.mu_lexer.proofs.Numbers.{is_fraction, is_whole, is_point, is_number, tested_number, number_tested}
+use Rattle.mu_lexer.specs.Spelling.{is_string, is_name, mark_text}
+use Rattle.mu_lexer.specs.Automaton.{lookup, single_marks, phase_of, kind_named}
+use Rattle.mu_lexer.proofs.Numbers.{is_fraction, is_whole, is_point, is_number, tested_number}
+use Rattle.mu_lexer.proofs.Numbers.{number_tested}
 use Rattle.mu_lexer.proofs.Spellings.{kind_if, kind_on, fraction, whole, name_rest, quoted}
+use Rattle.mu_lexer.specs.declared.token.Word.TheVariants as word
+use Rattle.mu_lexer.specs.declared.token.Mark.TheVariants as mark
+use Rattle.mu_lexer.specs.declared.token.Kind.TheVariants as kind
+use Rattle.mu_lexer.specs.declared.lexer.Phase.TheVariants as phase
 
 -- what a kind other than a word implies for a text
 abbrev pub Reading : Kind → List ℕ → Type 0

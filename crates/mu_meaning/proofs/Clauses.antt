@@ -1,25 +1,15 @@
 -- The forms of the conditions and statements of a flat model have their values.
-use Rattle.std.proofs.Common.{◌≡◌, ◌∙◌, ◌<◌, ◌+◌, ℕ, List, [], ◌∷◌, true, sym, subst, inl, inr}
-use Rattle.std.proofs.Common.{length, get_or, arith}
-use Rattle.std.specs.Prelude.{All, Contains, ◌⊎◌, Result, Ok}
-use Prim.Native.Nat.{zero, suc}
-use Rattle.std.proofs.lemmas.List.Elements.{All-contains}
-use Rattle.mu_num.specs.Fraction.{difference}
-use Rattle.mu_tree.specs.FlatExpression.{FlatAction, Assign, Restart, FlatBranchTree, FlatModelTree}
-use Rattle.mu_tree.specs.FlatModels.{IsFlatModel, IsFlatAction, IsFlatBranch, IsFlatClause}
-use Rattle.mu_causal.proofs.Elements.{contained, none_contained}
-use Rattle.mu_affine.specs.declared.affine_fault.AffineErr.{AffineErr}
-use Rattle.mu_affine.specs.declared.exact_form.Sizes.{Sizes}
-use Rattle.mu_affine.specs.AffineForm.{AffineForm}
-use Rattle.mu_affine.specs.FormOf.{Context, form_of}
-use Rattle.mu_affine.specs.FormSequence.{FormsSoFar, forms_of, then_take, keep, keep_actions}
-use Rattle.mu_affine.specs.FormSequence.{keep_branches, keep_clauses, action_form, condition_form}
-use Rattle.mu_affine.specs.Solution.{sizes_of, clause_context}
-use Rattle.mu_affine.proofs.Solutions.{keep_same, actions_same, branches_same, clauses_same}
-use Rattle.mu_affine.proofs.Steps.{parts_of}
-use Rattle.mu_meaning.specs.Values.{Valuation, both, value, form_value, IsNumber}
-use Rattle.mu_meaning.specs.Meaning.{HasDenominators, IsValuation, HasProperAction, HasProperBranch}
-use Rattle.mu_meaning.specs.Meaning.{HasProperNumbers, assigned}
+use Rattle.mu_meaning.proofs.Common
+use Common.{[], ℕ, ◌∙◌, ◌∷◌, ◌≡◌, action_form, actions_same, AffineErr, AffineForm, All}
+use Common.{All-contains, Assign, both, branches_same, clause_context, clauses_same, condition_form}
+use Common.{Contains, Context, difference, FlatAction, FlatBranchTree, FlatModelTree, form_of}
+use Common.{form_value, forms_of, FormsSoFar, HasDenominators, HasProperAction, HasProperBranch}
+use Common.{HasProperNumbers, inl, inr, IsFlatAction, IsFlatBranch, IsFlatClause, IsFlatModel}
+use Common.{IsNumber, IsValuation, keep, keep_actions, keep_branches, keep_clauses, keep_same, List}
+use Common.{none_contained, Ok, parts_of, Restart, Result, Sizes, sizes_of, subst, sym, then_take}
+use Common.{true, Valuation, value}
+use Rattle.mu_causal.proofs.Elements.{contained}
+use Rattle.mu_meaning.specs.Meaning.{assigned}
 use Rattle.mu_meaning.proofs.Meaning.{forms_have_values}
 use Rattle.mu_meaning.proofs.Conditions.{conditions_have_values}
 use Rattle.mu_meaning.proofs.Models.{keep_kept, expression_sound, stages}

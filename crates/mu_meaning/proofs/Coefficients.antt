@@ -1,8 +1,12 @@
 -- The coefficients of rounded lists are the rounded coefficients.
-use Rattle.std.proofs.Common.{◌≡◌, ◌∙◌, ℕ, ◌<◌, ◌^◌, List, [], ◌∷◌, cond, map, ℤ, pos, ◌+ℤ◌, ◌*ℤ◌}
-use Rattle.std.proofs.Common.{Bool, true, false, refl, sym, ap, arith}
-use Rattle.std.specs.Prelude.{◌&&◌, ◌==◌, if◌then◌else◌, Some, unwrap_or}
-use Rattle.std.specs.List.{filter, AllByRecursion}
+use Rattle.mu_meaning.proofs.Common
+use Common.{[], ℕ, ℤ, ◌&&◌, ◌*ℤ◌, ◌+ℤ◌, ◌<◌, ◌^◌, ◌∙◌, ◌∷◌, ◌≡◌, AllByRecursion, ap, arith, Bool}
+use Common.{coefficient_of, false, Fraction, if◌then◌else◌, ints, IsRounded, List, map, none, pos}
+use Common.{product_coefficient, refl, rounded_entries, rounded_products, Some, sym, true}
+use Common.{unwrap_or, zero-*ℤ}
+use Rattle.std.proofs.Common.{cond}
+use Rattle.std.specs.Prelude.{◌==◌}
+use Rattle.std.specs.List.{filter}
 use Rattle.std.specs.List.Sorted.{IsStrictlySortedBy}
 use Rattle.std.specs.declared.cmp.Ordering.{Ordering}
 use Rattle.std.specs.declared.cmp.Ordering.TheVariants.{Less, Equal, Greater}
@@ -10,25 +14,19 @@ use Rattle.std.specs.Ordering.{ordering_then, nat_cmp, is_eq}
 use Rattle.std.specs.Cmp.{ranked}
 use Rattle.std.specs.BTreeMap.{is_at}
 use Rattle.std.specs.Map.{lookup, keys_of}
-use Rattle.std.proofs.Math.IntN.{+ℤ_idl, +ℤ_idr, zero-*ℤ}
-use Rattle.std.proofs.lemmas.Int.{ints}
+use Rattle.std.proofs.Math.IntN.{+ℤ_idl, +ℤ_idr}
 use Rattle.std.proofs.lemmas.Map.Keys.{sorted_head, sorted_tail}
-use Rattle.mu_num.specs.Fraction.{Fraction}
 use Rattle.mu_num.specs.IndexedSums.{sum_over}
 use Rattle.mu_num.specs.Rounding.{nearest_of}
 use Rattle.mu_num.proofs.Quotients.{nearest_meets, nearest-zero}
 use Rattle.mu_num.proofs.Tests.{eqb-yes, eqb-no}
 use Rattle.mu_affine.specs.declared.exact_form.ExactEntry.{ExactEntry}
 use Rattle.mu_affine.specs.declared.exact_form.ExactProduct.{ExactProduct}
-use Rattle.mu_affine.specs.AffineForm.{none}
 use Rattle.mu_affine.specs.FormRows.{named, paired, pair_cmp, value_at}
-use Rattle.mu_affine.specs.Rounded.{rounded, is_some_number, entry_of, rounded_entries, product_of}
-use Rattle.mu_affine.specs.Rounded.{rounded_products}
+use Rattle.mu_affine.specs.Rounded.{rounded, is_some_number, entry_of, product_of}
 use Rattle.mu_affine.proofs.RowForms.{IsKeyOrder, nat_order, pair_order}
 use Rattle.qss_machine.specs.declared.machine_parts.Entry.{Entry}
 use Rattle.qss_machine.specs.declared.machine_parts.Product.{Product}
-use Rattle.qss_machine.specs.Slopes.{coefficient_of}
-use Rattle.mu_meaning.specs.MachineNumbers.{IsRounded, product_coefficient}
 
 -- a rounded number is near the exact one
 pub rounded_near : (bits : ℕ) (a : Fraction) → 0 < a.den → IsRounded bits a (rounded bits a)

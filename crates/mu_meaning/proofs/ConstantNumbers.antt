@@ -1,43 +1,34 @@
 -- The values of constant expressions, declarations and settings have positive denominators.
-use Rattle.std.proofs.Common.{◌≡◌, ℕ, ◌<◌, List, [], ◌∷◌, IfOk, refl, subst, arith, Bool, true}
-use Rattle.std.proofs.Common.{false}
-use Rattle.std.specs.Prelude.{pos, Option, Some, None, IfSome, Result, Ok, Err, if◌then◌else◌}
-use Rattle.std.specs.Prelude.{nat_eq, unsigned_abs, bytes_eq, unwrap_or}
-use Rattle.std.specs.List.{AllByRecursion}
+use Rattle.mu_meaning.proofs.Common
+use Common.{[], ℕ, ◌<◌, ◌∷◌, ◌≡◌, AllByRecursion, arith, Bool, bytes_eq, checked, decimal_value}
+use Common.{difference, Element, Err, Expression, Factors, false, Fraction, IfOk, IfSome}
+use Common.{if◌then◌else◌, Known, List, lowest, ModelTree, multiplied, nat_eq, nat_tests, None}
+use Common.{Number, NumErr, Ok, one-le-pow, Option, passed, pos, positive_product, power, product}
+use Common.{quotient, Range, Reference, refl, Result, scope_of, Settings, Some, subst, sum, Terms}
+use Common.{true, unsigned_abs, unwrap_or, Whole, whole, ZeroDivisor}
 use Rattle.std.specs.Option.{option_or}
-use Rattle.std.proofs.Math.Nat.{one-le-pow}
-use Rattle.std.proofs.lemmas.Bool.Decides.{nat_tests}
-use Rattle.mu_num.specs.Fraction.{Fraction, whole, sum, difference, product, quotient, power}
-use Rattle.mu_num.specs.Fraction.{checked, lowest}
-use Rattle.mu_num.specs.Decimal.{decimal_value, scaled_value, is_in_range, fraction_of}
-use Rattle.mu_num.specs.Decimal.{written_parts}
-use Rattle.mu_num.specs.declared.NumErr.{NumErr}
-use Rattle.mu_num.specs.declared.NumErr.TheVariants.{Range, ZeroDivisor}
-use Rattle.mu_tree.specs.declared.flat.Settings.{Settings}
+use Rattle.mu_num.specs.Decimal.{scaled_value, is_in_range, fraction_of, written_parts}
 use Rattle.mu_tree.specs.declared.tree.SettingName.{SettingName}
-use Rattle.mu_tree.specs.declared.tree.SettingName.TheVariants as setting
-use Rattle.mu_tree.specs.Expression.{Expression, Number, Variable, Now, Previous, Sum, Product}
-use Rattle.mu_tree.specs.Expression.{Power, Reference, Whole, Element, Terms, no_terms, term}
-use Rattle.mu_tree.specs.Expression.{Factors, no_factors, factor}
-use Rattle.mu_tree.specs.ModelTree.{Declaration, Setting, ModelTree}
+use Rattle.mu_tree.specs.Expression.{Variable, Now, Previous, Sum, Product, Power, no_terms, term}
+use Rattle.mu_tree.specs.Expression.{no_factors, factor}
+use Rattle.mu_tree.specs.ModelTree.{Declaration, Setting}
 use Rattle.mu_names.specs.declared.constant_values.Meaning.{Meaning}
-use Rattle.mu_names.specs.declared.declared_scope.Known.{Known}
 use Rattle.mu_names.specs.declared.declared_scope.DeclarationValues.{DeclarationValues}
 use Rattle.mu_names.specs.declared.name_kind.NameKind.{NameKind}
 use Rattle.mu_names.specs.declared.name_kind.NameKind.TheVariants.{Loop, Declared, Missing}
 use Rattle.mu_names.specs.declared.name_kind.Role.{Role}
 use Rattle.mu_names.specs.declared.name_kind.Role.TheVariants.{State, Discrete, Algebraic}
 use Rattle.mu_names.specs.declared.name_kind.Role.TheVariants.{Parameter}
-use Rattle.mu_names.specs.Constant.{value_of, joined, multiplied, raised, both, one, constant_of}
+use Rattle.mu_names.specs.Constant.{value_of, joined, raised, both, one, constant_of}
 use Rattle.mu_names.specs.Constant.{reference_value, value, sum_value, product_value}
 use Rattle.mu_names.specs.DeclarationFaults.{meaning_of, meaning_after, optional_value, is_constant}
 use Rattle.mu_names.specs.DeclarationFaults.{constants_with, no_constants, constants_after}
 use Rattle.mu_names.specs.DeclarationFaults.{all_valued}
 use Rattle.mu_names.specs.DeclaredRoles.{declared_in, derived_in, role_of}
 use Rattle.mu_names.specs.Roles.{with_setting, default_settings, settings_from, role_value}
-use Rattle.mu_names.specs.Roles.{all_known, meaning_in, settings_in, scope_of}
-use Rattle.mu_affine.proofs.Fractions.{positive_product, passed}
+use Rattle.mu_names.specs.Roles.{all_known, meaning_in, settings_in}
 use Rattle.mu_meaning.proofs.Numbers.{equal, power_equal, lowest_equal}
+use Rattle.mu_tree.specs.declared.tree.SettingName.TheVariants as setting
 
 -- a positive denominator
 abbrev pub IsProper : Fraction → Type 0

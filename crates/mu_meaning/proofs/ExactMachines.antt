@@ -1,25 +1,11 @@
 -- A machine whose numbers are exactly those of its flat model has the model's equations.
-use Rattle.std.proofs.Common.{◌≡◌, ◌∙◌, ℕ, ◌+◌, ◌<◌, ℤ, pos, Bool, refl, ap, subst, arith}
-use Rattle.std.specs.Prelude.{Ok}
-use Rattle.std.proofs.Math.IntN.{*ℤ_comm}
-use Rattle.std.proofs.Math.Nat.{one-le-pow}
-use Rattle.std.proofs.lemmas.List.Elements.{All-contains}
-use Rattle.mu_num.specs.Fraction.{Fraction}
-use Rattle.mu_tree.specs.declared.flat.FlatRole.TheVariants.{State}
-use Rattle.mu_tree.specs.FlatExpression.{FlatExpression}
-use Rattle.mu_tree.specs.FlatModels.{HasRole, IsFlatEquation, target_role}
-use Rattle.mu_causal.specs.Dependencies.{wants_equation}
-use Rattle.qss_machine.specs.declared.machine_parts.SlopeRow.{SlopeRow}
-use Rattle.qss_machine.specs.Machines.{row_at}
-use Rattle.mu_affine.specs.AffineForm.{AffineForm}
-use Rattle.mu_affine.specs.FormOf.{form_of}
-use Rattle.mu_affine.specs.FormSequence.{right_side}
-use Rattle.mu_affine.specs.Solution.{sizes_of, equation_context}
-use Rattle.mu_affine.proofs.Bridges.{state_place}
-use Rattle.mu_affine.proofs.Solutions.{right_is}
-use Rattle.mu_meaning.specs.Values.{Equals, value, form_value}
-use Rattle.mu_meaning.specs.Meaning.{HasDenominators}
-use Rattle.mu_meaning.specs.MachineNumbers.{IsExactly, IsRowOf}
+use Rattle.mu_meaning.proofs.Common
+use Common.{*ℤ_comm, ℕ, ℤ, ◌+◌, ◌<◌, ◌∙◌, ◌≡◌, AffineForm, All-contains, ap, arith, Bool, Equals}
+use Common.{equation_context, FlatExpression, form_of, form_value, Fraction, HasDenominators}
+use Common.{HasRole, IsFlatEquation, IsRowOf, Ok, one-le-pow, pos, refl, right_is, right_side}
+use Common.{row_at, sizes_of, SlopeRow, State, state_place, subst, target_role, value}
+use Common.{wants_equation}
+use Rattle.mu_meaning.specs.MachineNumbers.{IsExactly}
 use Rattle.mu_meaning.specs.MachineEquations.{units, row_form, ExactMachinesHaveEquations}
 use Rattle.mu_meaning.proofs.Numbers.{zero_equal}
 use Rattle.mu_meaning.proofs.Forms.{FormEquals, form_equal}

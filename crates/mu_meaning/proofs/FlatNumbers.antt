@@ -1,44 +1,34 @@
 -- The numbers of the flat model of a syntax tree have positive denominators.
-use Rattle.std.proofs.Common.{◌≡◌, ℕ, ◌+◌, List, [], ◌∷◌, ◌++◌, IfOk, All, subst, arith, Bool, true}
-use Rattle.std.proofs.Common.{false}
-use Rattle.std.specs.Prelude.{ℤ, pos, ◌+ℤ◌, Option, Some, None, IfSome, Result, Ok, Err}
-use Rattle.std.specs.Prelude.{if◌then◌else◌, bytes_eq, nat_lt, ◌^◌, unwrap_or, ⊤}
-use Rattle.std.specs.List.{AllByRecursion}
-use Prim.Native.Nat.{zero, suc}
+use Rattle.mu_meaning.proofs.Common
+use Common.{[], ℕ, ℤ, ◌++◌, ◌+ℤ◌, ◌+◌, ◌^◌, ◌∷◌, ◌≡◌, All, All-head, All-tail, AllByRecursion}
+use Common.{arith, Bool, bytes_eq, decimal_value, Element, Err, Expression, Factors, false}
+use Common.{FlatAction, FlatBranchTree, FlatEquationTree, FlatExpression, FlatModelTree}
+use Common.{FlatVariable, Fraction, HasProperAction, HasProperBranch, HasProperConstants}
+use Common.{HasProperNumbers, HaveProperFactors, HaveProperTerms, IfOk, IfSome, if◌then◌else◌}
+use Common.{IsProperVariable, Known, List, ModelTree, multiplied, nat_lt, None, Number, NumErr, Ok}
+use Common.{Option, pos, Reference, Result, scope_of, Some, subst, suc, target_role, Terms, true}
+use Common.{UnrollErr, unwrap_or, Whole, whole, zero}
+use Rattle.std.specs.Prelude.{⊤}
 use Rattle.std.proofs.lemmas.List.Elements.{All-from_recursion, All-nil, All-push, All-append}
-use Rattle.std.proofs.lemmas.List.Elements.{All-cons, All-head, All-tail}
-use Rattle.mu_num.specs.declared.NumErr.{NumErr}
-use Rattle.mu_num.specs.Decimal.{decimal_value}
-use Rattle.mu_num.specs.Fraction.{Fraction, whole}
+use Rattle.std.proofs.lemmas.List.Elements.{All-cons}
 use Rattle.mu_tree.specs.declared.flat.FlatRole.{FlatRole}
-use Rattle.mu_tree.specs.declared.flat.FlatRole.TheVariants as flat_role
-use Rattle.mu_tree.specs.Expression.{Expression, Number, Variable, Now, Previous, Sum, Product}
-use Rattle.mu_tree.specs.Expression.{Power, Reference, Whole, Element, Terms, no_terms, term}
-use Rattle.mu_tree.specs.Expression.{Factors, no_factors, factor}
-use Rattle.mu_tree.specs.FlatExpression.{FlatExpression, FlatSigned, FlatScaled, FlatVariable}
-use Rattle.mu_tree.specs.FlatExpression.{FlatEquationTree}
-use Rattle.mu_tree.specs.FlatExpression.{FlatAction, FlatBranchTree, FlatModelTree, flat_terms_of}
-use Rattle.mu_tree.specs.FlatExpression.{flat_factors_of}
-use Rattle.mu_tree.specs.FlatExpression as flat
-use Rattle.mu_tree.specs.FlatModels.{target_role}
+use Rattle.mu_tree.specs.Expression.{Variable, Now, Previous, Sum, Product, Power, no_terms, term}
+use Rattle.mu_tree.specs.Expression.{no_factors, factor}
+use Rattle.mu_tree.specs.FlatExpression.{FlatSigned, FlatScaled, flat_terms_of, flat_factors_of}
 use Rattle.mu_tree.specs.ModelTree.{Range, EquationTree, Derivative, Algebraic, EachEquation}
 use Rattle.mu_tree.specs.ModelTree.{EquationTrees, no_equations, equation_then, StatementTree}
 use Rattle.mu_tree.specs.ModelTree.{Assign, Restart, EachStatement, StatementTrees, no_statements}
 use Rattle.mu_tree.specs.ModelTree.{statement_then, BranchTree, ClauseTree, Branches, EachClause}
 use Rattle.mu_tree.specs.ModelTree.{ClauseTrees, no_clauses, clause_then, equations_of}
-use Rattle.mu_tree.specs.ModelTree.{statements_of, clauses_of, ModelTree}
-use Rattle.mu_names.specs.declared.declared_scope.Known.{Known}
-use Rattle.mu_names.specs.Constant.{joined, multiplied, raised}
-use Rattle.mu_names.specs.Roles.{scope_of}
+use Rattle.mu_tree.specs.ModelTree.{statements_of, clauses_of}
+use Rattle.mu_names.specs.Constant.{joined, raised}
 use Rattle.mu_unroll.specs.declared.unroll_counts.Counts.{Counts}
-use Rattle.mu_unroll.specs.declared.unroll_fault.UnrollErr.{UnrollErr}
 use Rattle.mu_unroll.specs.declared.unroll_fault.UnrollErr.TheVariants.{TooMany}
 use Rattle.mu_unroll.specs.declared.unrolled_values.Rounds.{Rounds}
 use Rattle.mu_unroll.specs.declared.environment.ResolvedReference.{ResolvedReference}
 use Rattle.mu_unroll.specs.declared.environment.ResolvedReference.TheVariants.{Value, Numbered}
 use Rattle.mu_unroll.specs.declared.environment.ResolvedReference.TheVariants.{Unfound}
 use Rattle.mu_unroll.specs.declared.environment.NameDenotation.{NameDenotation}
-use Rattle.mu_unroll.specs.declared.environment.NameDenotation.TheVariants as meant
 use Rattle.mu_unroll.specs.declared.environment.LoopVar.{LoopVar}
 use Rattle.mu_unroll.specs.ConstantValues.{bind_result, placed, zero_value, constant_or_zero}
 use Rattle.mu_unroll.specs.ConstantValues.{constant_value, reference_value, sum_value}
@@ -61,13 +51,13 @@ use Rattle.mu_unroll.specs.VariablePlaces.{scalars_of_kind, scalars_in, scalar_c
 use Rattle.mu_unroll.specs.VariablePlaces.{count_of_kind, meant_after, first_meant, loop_value}
 use Rattle.mu_unroll.specs.VariablePlaces.{meant_in, constant_of}
 use Rattle.mu_unroll.proofs.Stepping.{each_then, any_answer}
-use Rattle.mu_meaning.specs.Meaning.{HasProperConstants, HaveProperTerms, HaveProperFactors}
-use Rattle.mu_meaning.specs.Meaning.{HasProperAction, HasProperBranch, IsProperVariable}
-use Rattle.mu_meaning.specs.Meaning.{HasProperNumbers}
 use Rattle.mu_meaning.specs.SourceNumbers.{FlatModelsAreProper}
 use Rattle.mu_meaning.proofs.ConstantNumbers.{IsProper, joined_proper, multiplied_proper}
 use Rattle.mu_meaning.proofs.ConstantNumbers.{raised_proper, decimal_proper, IsProperName}
 use Rattle.mu_meaning.proofs.ConstantNumbers.{scope_proper, model_settings_proper}
+use Rattle.mu_tree.specs.declared.flat.FlatRole.TheVariants as flat_role
+use Rattle.mu_tree.specs.FlatExpression as flat
+use Rattle.mu_unroll.specs.declared.environment.NameDenotation.TheVariants as meant
 
 -- ---- names
 

@@ -1,14 +1,10 @@
 -- Rounded rows and forms have the rounded numbers of their affine forms.
-use Rattle.std.proofs.Common.{◌≡◌, ℕ, ◌+◌, pos, Bool, true, false, refl, sym, subst}
-use Rattle.mu_affine.specs.declared.exact_form.ExactForm.{ExactForm}
-use Rattle.mu_affine.specs.declared.exact_form.Place.{Place}
-use Rattle.mu_affine.specs.AffineForm.{is_nonzero}
-use Rattle.mu_affine.specs.FinishedForms.{form_meaning, IsFinished}
-use Rattle.mu_affine.specs.Rounded.{rounded_entries, rounded_products, rounded_row, rounded_form}
-use Rattle.mu_affine.proofs.Fractions.{zero_num}
-use Rattle.qss_machine.specs.Slopes.{coefficient_of}
-use Rattle.mu_meaning.specs.Meaning.{HasDenominators}
-use Rattle.mu_meaning.specs.MachineNumbers.{IsRounded, IsRowOf, IsFormOf, product_coefficient}
+use Rattle.mu_meaning.proofs.Common
+use Common.{ℕ, ◌+◌, ◌≡◌, Bool, coefficient_of, ExactForm, false, form_meaning, HasDenominators}
+use Common.{is_nonzero, IsFormOf, IsRounded, IsRowOf, Place, pos, product_coefficient, refl}
+use Common.{rounded_entries, rounded_form, rounded_products, rounded_row, subst, sym, true}
+use Common.{zero_num}
+use Rattle.mu_affine.specs.FinishedForms.{IsFinished}
 use Rattle.mu_meaning.proofs.Coefficients.{rounded_near, coefficient_of_entry, products_coefficient}
 
 -- the coefficients of a finished form

@@ -1,45 +1,30 @@
 -- The machine of a flat model has the model's numbers, each rounded once.
-use Rattle.std.proofs.Common.{◌≡◌, ◌∙◌, ℕ, ◌+◌, ◌<◌, ◌≤◌, List, [], ◌∷◌, length, map, take, drop}
-use Rattle.std.proofs.Common.{get_or, pos, refl, sym, ap, subst, arith, true}
-use Rattle.std.specs.Prelude.{Some, slice_get, slice_index_or, Result, Ok, All, Contains}
+use Rattle.mu_meaning.proofs.Common
+use Common.{[], ℕ, ◌+◌, ◌<◌, ◌∙◌, ◌∷◌, ◌≡◌, ◌≤◌, action_form, actions_same, AffineErr, AffineForm}
+use Common.{All, All-head, All-tail, ap, arith, Assign, branches_same, clause_context, clauses_same}
+use Common.{condition_form, Contains, Context, equation_context, ExactForm, FlatAction}
+use Common.{FlatBranchTree, FlatEquationTree, FlatModelTree, FlatVariable, form_meaning, form_of}
+use Common.{FormsSoFar, get_or, get_or as slice_index_or, HasDenominators, HasProperAction}
+use Common.{HasProperBranch, ints, IsFlatAction, IsFlatBranch, IsFlatClause, IsFlatModel, IsFormOf}
+use Common.{IsProperVariable, IsRounded, IsRowOf, IsSound, keep, keep_actions, keep_branches}
+use Common.{keep_clauses, keep_same, length, List, map, none, nothing_taken, Ok, parts_of, pos}
+use Common.{refl, Restart, Result, right_side, rounded_form, rounded_row, row_at, sizes_of}
+use Common.{slice_get, SlopeRow, Some, subst, suc, sym, then_take, true, whole, zero}
+use Rattle.std.proofs.Common.{take, drop}
 use Rattle.std.specs.List.{AllZip}
-use Prim.Native.Nat.{zero, suc}
-use Rattle.std.proofs.lemmas.Int.{ints}
 use Rattle.std.proofs.lemmas.List.{get_or-map}
-use Rattle.std.proofs.lemmas.List.Elements.{All-head, All-tail, All-take, All-drop}
-use Rattle.mu_num.specs.Fraction.{whole}
+use Rattle.std.proofs.lemmas.List.Elements.{All-take, All-drop}
 use Rattle.mu_num.proofs.Quotients.{floor_meets, ceiling_meets}
-use Rattle.mu_tree.specs.FlatExpression.{FlatVariable, FlatEquationTree, FlatAction, Assign}
-use Rattle.mu_tree.specs.FlatExpression.{Restart}
-use Rattle.mu_tree.specs.FlatExpression.{FlatBranchTree, FlatModelTree}
-use Rattle.mu_tree.specs.FlatModels.{IsFlatModel, IsFlatAction, IsFlatBranch, IsFlatClause}
-use Rattle.qss_machine.specs.declared.machine_parts.SlopeRow.{SlopeRow}
-use Rattle.qss_machine.specs.Machines.{row_at}
-use Rattle.mu_affine.specs.declared.affine_fault.AffineErr.{AffineErr}
-use Rattle.mu_affine.specs.declared.exact_form.ExactForm.{ExactForm}
 use Rattle.mu_affine.specs.declared.exact_form.Forms.{Forms}
-use Rattle.mu_affine.specs.AffineForm.{AffineForm, none}
-use Rattle.mu_affine.specs.FinishedForms.{form_meaning}
-use Rattle.mu_affine.specs.FormOf.{Context, form_of}
 use Rattle.mu_affine.specs.FormPlaces.{is_state, state_count, states_of, discretes_of, branch_forms}
 use Rattle.mu_affine.specs.FormPlaces.{clause_forms, form_at, action_of, actions_of, branch_of}
 use Rattle.mu_affine.specs.FormPlaces.{clauses_of, placed}
-use Rattle.mu_affine.specs.FormSequence.{FormsSoFar, then_take, keep, keep_actions, keep_branches}
-use Rattle.mu_affine.specs.FormSequence.{keep_clauses, action_form, condition_form, nothing_taken}
-use Rattle.mu_affine.specs.FormSequence.{right_side}
 use Rattle.mu_affine.specs.KeptForms.{AreForms, equation_place, clause_place}
-use Rattle.mu_affine.specs.Rounded.{rounded_row, rounded_form, rounded_state, rounded_discrete}
-use Rattle.mu_affine.specs.Rounded.{rounded_up}
-use Rattle.mu_affine.specs.Solution.{sizes_of, equation_context, clause_context}
+use Rattle.mu_affine.specs.Rounded.{rounded_state, rounded_discrete, rounded_up}
 use Rattle.mu_affine.proofs.FinishedForms.{states_counted, keep_length, actions_length}
 use Rattle.mu_affine.proofs.FinishedForms.{branches_length, solve_length, states_length}
-use Rattle.mu_affine.proofs.Solutions.{keep_same, actions_same, branches_same, clauses_same}
-use Rattle.mu_affine.proofs.Steps.{parts_of}
-use Rattle.mu_meaning.specs.Meaning.{HasDenominators, IsSound, HasProperAction, HasProperBranch}
-use Rattle.mu_meaning.specs.Meaning.{IsProperVariable}
-use Rattle.mu_meaning.specs.MachineNumbers.{IsRounded, IsRoundedUp, IsRowOf, IsFormOf, IsStateOf}
-use Rattle.mu_meaning.specs.MachineNumbers.{IsDiscreteOf, IsActionOf, IsBranchOf, IsClauseOf}
-use Rattle.mu_meaning.specs.MachineNumbers.{HasRowOf, MachinesAreRounded}
+use Rattle.mu_meaning.specs.MachineNumbers.{IsRoundedUp, IsStateOf, IsDiscreteOf, IsActionOf}
+use Rattle.mu_meaning.specs.MachineNumbers.{IsBranchOf, IsClauseOf, HasRowOf, MachinesAreRounded}
 use Rattle.mu_meaning.proofs.Leaves.{constant_positive}
 use Rattle.mu_meaning.proofs.Meaning.{forms_have_values}
 use Rattle.mu_meaning.proofs.Conditions.{conditions_have_values}

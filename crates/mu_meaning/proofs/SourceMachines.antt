@@ -1,13 +1,8 @@
 -- A compiled source has a meaning as equations of numbers.
-use Rattle.std.proofs.Common.{ℕ, ◌<◌, List, IfOk, sym, subst}
-use Rattle.std.specs.Prelude.{Result}
-use Rattle.mu_tree.specs.FlatExpression.{FlatModelTree}
-use Rattle.mu_tree.specs.FlatModels.{IsFlatModel}
-use Rattle.mu_tree.specs.ModelTree.{ModelTree}
-use Rattle.mu_names.specs.Roles.{scope_of}
-use Rattle.mu_unroll.specs.declared.unroll_fault.UnrollErr.{UnrollErr}
+use Rattle.mu_meaning.proofs.Common
+use Common.{ℕ, ◌<◌, FlatModelTree, IfOk, IsFlatModel, List, ModelTree, Result, scope_of, Settings}
+use Common.{subst, sym, UnrollErr}
 use Rattle.mu_unroll.proofs.FlatModels.{flat_model_right}
-use Rattle.mu_tree.specs.declared.flat.Settings.{Settings}
 use Rattle.qss_compile.specs.Compilation.{SourceParsesAs, FlatSource, IsFlatOf}
 use Rattle.qss_compile.proofs.WellFormed.{well_formed}
 use Rattle.mu_meaning.specs.SourceMachines.{SourcesHaveMeaning}

@@ -1,32 +1,17 @@
 -- The forms of equations have no coefficient of time.
-use Rattle.std.proofs.Common.{◌≡◌, ◌∙◌, ℕ, ◌+◌, ◌*◌, pos, ◌*ℤ◌, refl, ap, subst, arith, Bool, true}
-use Rattle.std.proofs.Common.{false, List, [], ◌∷◌, Contains}
-use Rattle.std.specs.Prelude.{if◌then◌else◌, nat_eq, nat_lt, Result, Ok, Err}
-use Rattle.std.proofs.Math.IntN.{zero-*ℤ, *ℤ_comm}
-use Rattle.std.proofs.lemmas.Int.{ints}
-use Rattle.mu_num.specs.Fraction.{Fraction, whole, sign, checked, power}
-use Rattle.mu_num.specs.declared.NumErr.{NumErr}
-use Rattle.mu_num.specs.declared.NumErr.TheVariants.{ZeroDivisor}
-use Rattle.mu_tree.specs.FlatExpression.{FlatExpression, Constant, Variable, Previous, Now, Sum}
-use Rattle.mu_tree.specs.FlatExpression.{Product, Power, FlatTerms, no_terms, term, FlatFactors}
-use Rattle.mu_tree.specs.FlatExpression.{no_factors, factor, FlatEquationTree, FlatModelTree}
-use Rattle.mu_affine.specs.declared.affine_fault.AffineErr.{AffineErr}
-use Rattle.mu_affine.specs.declared.affine_fault.AffineErr.TheVariants.{NotAffine, ConstFault}
-use Rattle.mu_affine.specs.declared.affine_fault.AffineErr.TheVariants.{TimeHere}
-use Rattle.mu_affine.specs.declared.exact_form.Place.{Place}
-use Rattle.mu_affine.specs.AffineForm.{AffineForm, is_nonzero, constant_form, name_form, time_form}
-use Rattle.mu_affine.specs.AffineForm.{has_coefficient, may_multiply, combined, product_form}
-use Rattle.mu_affine.specs.AffineForm.{quotient_form, lowest_form, checked_form}
-use Rattle.mu_affine.specs.FormRows.{joined}
-use Rattle.mu_affine.specs.FormParts.{placed, kept, then_form, join_forms, multiply_forms}
-use Rattle.mu_affine.specs.FormParts.{raise_form}
-use Rattle.mu_affine.specs.FormOf.{Context, form_of, sum_form, product_of, variable_form}
-use Rattle.mu_affine.specs.Solution.{sizes_of, equation_context}
-use Rattle.mu_affine.specs.FormSequence.{FormsSoFar, then_take, counted, right_side, solve}
-use Rattle.mu_affine.specs.FormSequence.{solve_all}
-use Rattle.mu_affine.proofs.Fractions.{lowest-zero, nonzero_size}
-use Rattle.mu_affine.proofs.Steps.{parts_of, same_ok}
-use Rattle.mu_meaning.specs.Meaning.{HasDenominators, IsSound, AreSoundTerms, AreSoundFactors}
+use Rattle.mu_meaning.proofs.Common
+use Common.{*ℤ_comm, [], ℕ, ◌*ℤ◌, ◌*◌, ◌+◌, ◌∙◌, ◌∷◌, ◌≡◌, AffineErr, AffineForm, ap}
+use Common.{AreSoundFactors, AreSoundTerms, arith, Bool, checked, checked_form, combined, Constant}
+use Common.{constant_form, ConstFault, Contains, Context, counted, equation_context, Err, factor}
+use Common.{false, FlatEquationTree, FlatExpression, FlatFactors, FlatModelTree, FlatTerms, form_of}
+use Common.{FormsSoFar, Fraction, has_coefficient, HasDenominators, if◌then◌else◌, ints, is_nonzero}
+use Common.{IsSound, join_forms, joined, kept, List, lowest_form, may_multiply, multiply_forms}
+use Common.{name_form, nat_eq, nat_lt, no_factors, no_terms, nonzero_size, NotAffine, Now, NumErr}
+use Common.{Ok, parts_of, Place, placed, pos, Power, power, Previous, Product, product_form}
+use Common.{product_of, quotient_form, raise_form, refl, Result, right_side, same_ok, sign}
+use Common.{sizes_of, solve, solve_all, subst, Sum, sum_form, term, then_form, then_take, time_form}
+use Common.{TimeHere, true, Variable, variable_form, whole, zero-*ℤ, ZeroDivisor}
+use Rattle.mu_affine.proofs.Fractions.{lowest-zero}
 use Rattle.mu_meaning.proofs.Forms.{joined_positive, quotient_positive}
 use Rattle.mu_meaning.proofs.Leaves.{constant_positive}
 use Rattle.mu_meaning.proofs.Products.{product_positive}

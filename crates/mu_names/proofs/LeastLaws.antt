@@ -1,13 +1,17 @@
 -- The least fault is found, and no fault is before it.
-use Rattle.std.proofs.Common.{◌≡◌, List, [], ◌∷◌, refl, sym, subst, arith, inl, inr}
-use Rattle.std.specs.Prelude.{Bool, true, false, Some, None, Contains, ◌⊎◌, if◌then◌else◌}
-use Prim.Native.Nat.{zero, suc}
+use Rattle.mu_names.proofs.Common
+use Common.{[], ◌∷◌, ◌≡◌, arith, Bool, Duplicate, EndName, false, if◌then◌else◌, inl, inr, least_of}
+use Common.{lesser, List, model_faults, NameErr, None, refl, Some, suc, sym, true}
+use Rattle.std.proofs.Common.{subst}
+use Rattle.std.specs.Prelude.{Contains, ◌⊎◌}
+use Prim.Native.Nat.{zero}
 use Rattle.std.proofs.lemmas.Bool.Decides.{nat_tests}
-use Rattle.mu_names.specs.declared.name_fault.NameErr.{NameErr}
-use Rattle.mu_names.specs.declared.name_fault.NameErr.TheVariants.{EndName, Duplicate, Unknown, Misused, NoValue, NotWhole, Size, ConstFault, Memory}
+use Rattle.mu_names.specs.declared.name_fault.NameErr.TheVariants.{Unknown, Misused, NoValue}
+use Rattle.mu_names.specs.declared.name_fault.NameErr.TheVariants.{NotWhole, Size, ConstFault}
+use Rattle.mu_names.specs.declared.name_fault.NameErr.TheVariants.{Memory}
 use Rattle.mu_tree.specs.ModelTree.{ModelTree}
-use Rattle.mu_names.specs.Roles.{model_faults, IsRefusal}
-use Rattle.mu_names.specs.LeastFaults.{is_before, lesser, least_of, IsLeastFault}
+use Rattle.mu_names.specs.Roles.{IsRefusal}
+use Rattle.mu_names.specs.LeastFaults.{is_before, IsLeastFault}
 
 -- no fault is before itself
 before_self : (f : NameErr) → is_before f f ≡ false

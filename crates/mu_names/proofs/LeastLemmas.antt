@@ -1,8 +1,6 @@
 -- The least fault of two lists.
-use Rattle.std.proofs.Common.{◌≡◌, List, [], ◌∷◌, ◌++◌, refl, sym, ap, ◌∙◌}
-use Rattle.std.specs.Prelude.{Option}
-use Rattle.mu_names.specs.declared.name_fault.NameErr.{NameErr}
-use Rattle.mu_names.specs.LeastFaults.{least_of, lesser}
+use Rattle.mu_names.proofs.Common
+use Common.{[], ◌++◌, ◌∙◌, ◌∷◌, ◌≡◌, ap, least_of, lesser, List, NameErr, Option, refl, sym}
 
 -- the least fault of two lists is found one list after the other
 pub least_of_append : (least : Option NameErr) (xs ys : List NameErr) → least_of least (xs ++ ys) ≡ least_of (least_of least xs) ys

@@ -1,3 +1,4 @@
+mod Common
 mod LeastLemmas
 pub mod Shapes
 pub mod LeastLaws

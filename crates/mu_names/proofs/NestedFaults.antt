@@ -1,16 +1,13 @@
 -- The faults of items inside loops, noted one item after the other.
-use Rattle.std.proofs.Common.{◌≡◌, ◌∙◌, ℕ, ◌+◌, ◌-◌, ◌<◌, List, [], ◌∷◌, ◌++◌, length, take, drop, get_or, map, add-one, refl, sym, ap, arith}
-use Rattle.std.specs.Prelude.{Option}
-use Rattle.std.specs.List.{flat_map}
-use Rattle.std.proofs.Math.Seq.{drop-cons}
+use Rattle.mu_names.proofs.Common
+use Common.{[], ℕ, ◌++◌, ◌+◌, ◌<◌, ◌∙◌, ◌∷◌, ◌≡◌, add-one, ap, arith, drop, drop-cons, flat_map}
+use Common.{get_or, least_of, length, List, map, name_kind_in, NameErr, NameKind, Option, refl, sym}
+use Common.{take}
+use Rattle.std.proofs.Common.{◌-◌}
 use Rattle.std.proofs.lemmas.Grind.{common_steps}
 use Rattle.std.proofs.lemmas.List.Concat.{flat_map-cons}
 use Rattle.mu_tree.specs.ModelTree.{Range}
 use Rattle.mu_tree.specs.Nests.{NestTree, NestTrees, One, items_of}
-use Rattle.mu_names.specs.declared.name_fault.NameErr.{NameErr}
-use Rattle.mu_names.specs.declared.name_kind.NameKind.{NameKind}
-use Rattle.mu_names.specs.DeclaredRoles.{name_kind_in}
-use Rattle.mu_names.specs.LeastFaults.{least_of}
 use Rattle.mu_names.specs.Naming.{item_faults, items_faults, list_faults, range_faults, unless_loop}
 use Rattle.mu_names.proofs.LeastLemmas.{noted_both, noted_first}
 

@@ -1,19 +1,22 @@
 -- The logical value of an expression, case by case.
-use Rattle.std.proofs.Common.{◌≡◌, ◌∙◌, ◌+◌, ◌<◌, ℕ, List, [], ◌∷◌, ◌++◌, length, take, drop, get_or, map, add-one, refl, sym, ap, Box, Global}
-use Rattle.std.specs.Prelude.{Some}
-use Rattle.std.proofs.Math.Seq.{drop-cons, take-suc}
+use Rattle.mu_names.proofs.Common
+use Common.{[], ℕ, ◌++◌, ◌+◌, ◌<◌, ◌∙◌, ◌∷◌, ◌≡◌, add-one, ap, branch, declaration, drop, drop-cons}
+use Common.{Expression, expression, expression_step, factors_of, fold_out-Ref, get_or, Global}
+use Common.{length, List, map, out-Ref, Power, Ref, Reference, reference, reference_step, refl}
+use Common.{Scaled, scaled, scaled_step, setting, Signed, signed, signed_step, Some, sym, take}
+use Common.{terms_of}
+use Rattle.std.proofs.Common.{Box}
+use Rattle.std.proofs.Math.Seq.{take-suc}
 use Rattle.std.proofs.lemmas.List.{map-append}
 use Rattle.mu_tree.specs.declared.tree.Branch.{Branch}
 use Rattle.mu_tree.specs.declared.tree.Decl.{Decl}
 use Rattle.mu_tree.specs.declared.tree.SettingItem.{SettingItem}
-use Rattle.mu_tree.specs.ModelTree.{branch, declaration, setting}
 use Rattle.mu_tree.specs.declared.expr.Expr.{Expr, Pow, fold-roll-Expr}
 use Rattle.mu_tree.specs.declared.expr.Expr.TheVariants.{rolls-Pow}
-use Rattle.mu_tree.specs.declared.expr.Expr.TheOpen as layer
-use Rattle.mu_tree.specs.declared.expr.Ref.{Ref, out-Ref, fold_out-Ref}
 use Rattle.mu_tree.specs.declared.expr.Term.{Term, out-Term, fold_out-Term}
 use Rattle.mu_tree.specs.declared.expr.Factor.{Factor, out-Factor, fold_out-Factor}
-use Rattle.mu_tree.specs.Expression.{Expression, Scaled, Signed, Power, Reference, term, factor, expression, reference, signed, scaled, terms_of, factors_of, Element, expression_step, scaled_step, reference_step, signed_step}
+use Rattle.mu_tree.specs.Expression.{term, factor, Element}
+use Rattle.mu_tree.specs.declared.expr.Expr.TheOpen as layer
 
 -- the branches from a place on
 pub branches_from : (es : List Branch) (i : ℕ) (d : Branch) → i < length es → d ≡ get_or es i d →

@@ -1,13 +1,17 @@
 -- Tables of names, and what is declared.
-use Rattle.std.proofs.Common.{◌≡◌, ◌∙◌, ◌<◌, ℕ, List, [], ◌∷◌, ◌++◌, length, get_or, set, drop, ◌+◌, add-one, refl, sym, ap, subst, arith, inl, inr}
-use Rattle.std.specs.Prelude.{Bool, true, false, ◌||◌, cond, bytes_eq, nat_eq, is_some, is_none, if◌then◌else◌, Option, Some, None, unwrap_or}
+use Rattle.mu_names.proofs.Common
+use Common.{[], ℕ, ◌++◌, ◌+◌, ◌<◌, ◌||◌, ◌∙◌, ◌∷◌, ◌≡◌, add-one, added_at, all_valued, ap, arith}
+use Common.{Bool, bytes_eq, constants_with, Declaration, declared_by, drop, drop-cons, entry_at}
+use Common.{Expression, expression_step, false, first_declared, fold_out-Ref, Fraction, fun_ext}
+use Common.{get_or, if◌then◌else◌, inl, inr, is_set, is_some, length, List, meaning_after, NameKind}
+use Common.{None, Option, out-Ref, Ref, Reference, reference, reference_step, refl, Scaled}
+use Common.{scaled_step, set, Setting, setting_number, SettingName, Signed, signed_step, Some, suc}
+use Common.{sym, true}
+use Rattle.std.specs.Prelude.{cond, nat_eq, is_none}
 use Rattle.std.specs.Option.{option_or, option_map}
-use Rattle.std.specs.List.{list_any}
 use Rattle.std.specs.Map.{update, lookup}
 use Rattle.std.specs.Cmp.Lexicographic.{slice_cmp}
 use Rattle.std.specs.Ordering.{nat_cmp}
-use Rattle.std.proofs.Math.Path.{fun_ext}
-use Rattle.std.proofs.Math.Seq.{drop-cons}
 use Rattle.std.specs.BTreeMap.{BTreeMap, IsEmpty, is_at}
 use denote.Ref.{Bor}
 use Rattle.std.proofs.lemmas.Slice.Eq.{bytes_eq-Decides}
@@ -16,18 +20,9 @@ use Rattle.std.proofs.lemmas.List.{get_or-set_other}
 use Rattle.std.proofs.lemmas.Grind.{get_or-set_at}
 use Rattle.std.proofs.lemmas.Bool.{cases_eq, cases_Bool, eqb-true}
 use Rattle.std.proofs.Common.{eq-eqb}
-use Rattle.mu_tree.specs.declared.tree.SettingName.{SettingName}
+use Rattle.mu_tree.specs.Expression.{reference_with}
+use Rattle.mu_names.specs.DeclaredRoles.{name_of}
 use Rattle.mu_tree.specs.declared.tree.SettingName.TheVariants as named
-use Rattle.mu_tree.specs.declared.expr.Ref.{Ref, out-Ref, fold_out-Ref}
-use Rattle.mu_tree.specs.Expression.{Expression, Scaled, Signed, Reference, expression, reference, reference_with, expression_step, scaled_step, reference_step, signed_step}
-use Rattle.mu_tree.specs.ModelTree.{Declaration, Setting}
-use Rattle.mu_names.specs.declared.name_kind.NameKind.{NameKind}
-use Prim.Native.Nat.{suc}
-use Rattle.mu_num.specs.Fraction.{Fraction}
-use Rattle.mu_names.specs.DeclarationFaults.{all_valued, constants_with, meaning_after}
-use Rattle.mu_names.specs.Roles.{is_set, setting_number}
-use Rattle.mu_names.specs.DeclaredRoles.{declared_by, first_declared, name_of}
-use Rattle.mu_names.specs.NameTables.{added_at, entry_at}
 
 -- two names that test as one are one
 pub same_bytes : (a b : List ℕ) → bytes_eq a b ≡ true → a ≡ b

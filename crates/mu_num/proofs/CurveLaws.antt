@@ -1,9 +1,9 @@
 -- How a number moves along a parabola.
-use Rattle.std.proofs.Common.{◌≡◌, ℕ, zero, suc, ◌+◌, ◌-◌, ◌<◌, ◌≤◌, ℤ, pos, ◌+ℤ◌, ◌*ℤ◌, neg_ℤ, ◌≤ℤ◌, ◌<ℤ◌, unsigned_abs, refl, ap, ◌∙◌, subst, arith, inl, inr, ◌⊎◌}
-use Rattle.std.specs.Prelude.{Option, Some, None}
-use Rattle.std.proofs.Math.IntN.{zero-*ℤ, suc_ℤ-*ℤ}
-use Rattle.std.proofs.lemmas.Int.{ints}
-use Rattle.mu_num.specs.Curves.{sum_to, curve_at, IsFirstUpTo, FirstUpTo, IsFirstReaching, FirstReaching}
+use Rattle.mu_num.proofs.Common
+use Common.{ℕ, ℤ, ◌*ℤ◌, ◌+ℤ◌, ◌+◌, ◌-◌, ◌<ℤ◌, ◌<◌, ◌∙◌, ◌≡◌, ◌≤ℤ◌, ◌≤◌, ◌⊎◌, ap, arith, curve_at}
+use Common.{inl, inr, ints, neg_ℤ, None, Option, pos, refl, Some, subst, suc, suc_ℤ-*ℤ}
+use Common.{unsigned_abs, zero, zero-*ℤ}
+use Rattle.mu_num.specs.Curves.{sum_to, IsFirstUpTo, FirstUpTo, IsFirstReaching, FirstReaching}
 use Rattle.mu_num.proofs.Integers.{add-mul, mul-neg, mul-nonneg, mul-nonpos}
 
 pub below_both : (x y z : ℤ) → x ≤ℤ y → y <ℤ z → x <ℤ z

@@ -1,15 +1,15 @@
 -- A number token has its written value.
-use Rattle.std.proofs.Common.{◌≡◌, ◌≢◌, ◌∙◌, ◌<◌, ◌≤◌, ◌+◌, ◌-◌, ◌*◌, ◌/◌, ◌%◌, ◌^◌, ℕ, zero, suc, List, [], ◌∷◌, refl, sym, ap, arith, inl, inr, lit≤}
-use Rattle.std.specs.Prelude.{Bool, true, false, if◌then◌else◌, nat_eq, Ok, Err, pos, ◌⊎◌, ◌*ℤ◌, fold, unsigned_abs}
-use Rattle.std.proofs.Math.Nat.{pow-suc, pow-le-pow_right, mul_assoc, one-le-pow, mul-div_cancel, eq-one_of_dvd-one}
-use Rattle.std.proofs.Math.IntN.{zero-*ℤ}
-use Rattle.std.proofs.lemmas.Nat.{pow-add}
-use Rattle.std.proofs.lemmas.Bool.{cases_lt}
-use Rattle.std.proofs.lemmas.Bool.Decides.{nat_tests}
-use Rattle.mu_num.specs.declared.NumErr.TheVariants.{Range}
-use Rattle.mu_num.specs.Decimal.{DecimalParts, is_digit, digit_after, number_of, mantissa, places, up_of, down_of, written_parts, fraction_of, IsInRange, zeros_at_end, fits, is_in_range, scaled_value, decimal_value}
-use Rattle.mu_num.specs.Fraction.{Fraction, whole, lowest, checked, IsSameValue}
-use Rattle.mu_num.specs.Significand.{Significand, byte_after, significand, scaled, value_read}
+use Rattle.mu_num.proofs.Common
+use Common.{[], ℕ, ◌%◌, ◌*ℤ◌, ◌*◌, ◌+◌, ◌-◌, ◌/◌, ◌<◌, ◌^◌, ◌∙◌, ◌∷◌, ◌≡◌, ◌≢◌, ◌≤◌, ◌⊎◌, ap, arith}
+use Common.{Bool, byte_after, cases_lt, checked, digit_after, eq-one_of_dvd-one, Err, false}
+use Common.{Fraction, if◌then◌else◌, inl, inr, is_digit, IsSameValue, List, lit≤, lowest}
+use Common.{mul-div_cancel, mul_assoc, nat_eq, nat_tests, number_of, Ok, one-le-pow, pos, pow-add}
+use Common.{pow-le-pow_right, pow-suc, Range, refl, scaled, Significand, significand, suc, sym}
+use Common.{true, unsigned_abs, value_read, whole, zero, zero-*ℤ}
+use Rattle.std.specs.Prelude.{fold}
+use Rattle.mu_num.specs.Decimal.{DecimalParts, mantissa, places, up_of, down_of, written_parts}
+use Rattle.mu_num.specs.Decimal.{fraction_of, IsInRange, zeros_at_end, fits, is_in_range}
+use Rattle.mu_num.specs.Decimal.{scaled_value, decimal_value}
 use Rattle.mu_num.proofs.Tests.{eqb-true, eqb-false, eqb-yes, eqb-no}
 use Rattle.mu_num.proofs.Lowest.{lowest_terms, lowest_only, lowest_is, checked_ok}
 use Rattle.mu_num.proofs.Reading.{power_more, scaled_in, scaled_out, scaled_zero}

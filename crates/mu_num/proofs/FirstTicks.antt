@@ -1,7 +1,8 @@
 -- First ticks at which facts hold, under other facts and from later ticks.
-use Rattle.std.proofs.Common.{◌≡◌, ℕ, ◌+◌, ◌-◌, ◌<◌, Bool, true, false, refl, sym, subst, arith, Option, Some, None, nat_le}
-use Rattle.std.specs.Prelude.{if◌then◌else◌}
-use Rattle.std.proofs.lemmas.Bool.Decides.{nat_tests}
+use Rattle.mu_num.proofs.Common
+use Common.{ℕ, ◌+◌, ◌-◌, ◌<◌, ◌≡◌, arith, Bool, false, if◌then◌else◌, nat_tests, None, Option, refl}
+use Common.{Some, subst, sym, true}
+use Rattle.std.proofs.Common.{nat_le}
 use Rattle.mu_num.specs.Ticks.{FirstAfter, later_tick}
 use Rattle.mu_num.specs.Limits.{tick_limit}
 

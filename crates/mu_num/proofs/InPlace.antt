@@ -1,5 +1,6 @@
 -- Elements that are written in place.
-use Rattle.std.proofs.Common.{◌≡◌, List, length, sym, ◌∙◌, Vec, Global}
+use Rattle.mu_num.proofs.Common.{◌∙◌, ◌≡◌, length, List, sym}
+use Rattle.std.proofs.Common.{Vec, Global}
 use Rattle.std.specs.Vec.{with_items}
 
 -- elements that are written in place keep their number

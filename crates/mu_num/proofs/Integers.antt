@@ -1,9 +1,9 @@
 -- Lemmas about products and absolute values of integers.
-use Rattle.std.proofs.Common.{◌≡◌, ℕ, zero, suc, ◌*◌, ◌/◌, ◌<◌, ℤ, pos, negsuc, ◌+ℤ◌, ◌-ℤ◌, ◌*ℤ◌, ◌≤ℤ◌, ◌<ℤ◌, neg_ℤ, refl, sym, ◌∙◌, ap, arith}
-use Rattle.std.specs.Prelude.{int_div}
-use Rattle.std.proofs.Math.Nat.{mul-div_cancel, zero-div}
-use Rattle.std.proofs.Math.IntN.{zero-*ℤ, suc_ℤ-*ℤ, pred_ℤ-*ℤ, *ℤ_comm, *ℤ-zero, *ℤ-one, +ℤ_invr}
-use Rattle.std.proofs.lemmas.Int.{ints}
+use Rattle.mu_num.proofs.Common
+use Common.{*ℤ-one, ℕ, ℤ, ◌*ℤ◌, ◌*◌, ◌+ℤ◌, ◌-ℤ◌, ◌/◌, ◌<ℤ◌, ◌<◌, ◌∙◌, ◌≡◌, ◌≤ℤ◌, ap, arith, int_div}
+use Common.{ints, mul-div_cancel, neg_ℤ, negsuc, pos, refl, suc, suc_ℤ-*ℤ, sym, zero, zero-*ℤ}
+use Rattle.std.proofs.Math.Nat.{zero-div}
+use Rattle.std.proofs.Math.IntN.{pred_ℤ-*ℤ, *ℤ_comm, *ℤ-zero, +ℤ_invr}
 
 -- a product with a sum
 pub mul-add : (a b c : ℤ) → a *ℤ (b +ℤ c) ≡ a *ℤ b +ℤ a *ℤ c

@@ -1,3 +1,4 @@
+mod Common
 pub mod Integers
 pub mod Tests
 pub mod SizeTests

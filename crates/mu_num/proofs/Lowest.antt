@@ -1,17 +1,15 @@
 -- A fraction in lowest terms is the one with the least denominator.
-use Rattle.std.proofs.Common.{◌≡◌, ℕ, ◌+◌, ◌*◌, ◌%◌, ◌/◌, ◌<◌, ◌≤◌, ◌≢◌, refl, sym, ◌∙◌, ap, subst, arith, eq-eqb, inl, inr}
-use Rattle.std.specs.Int.{IsGcd}
-use Rattle.std.specs.Prelude.{ℤ, pos, negsuc, ◌*ℤ◌, neg_ℤ, unsigned_abs, int_div, nat_eq, if◌then◌else◌, Bool, true, false, ◌⊎◌, Ok, Err, ◌^◌}
-use Prim.Native.Nat.{◌∣◌, zero, suc}
-use Rattle.std.proofs.Math.Nat.{mul_comm, dvd-mul_left, dvd-mul_right, dvd_iff_mod-eq-zero, le_of_dvd, mul-div_cancel, div-mul_cancel, mul-dvd-mul_right, pos_of_dvd_of_pos, mul-le-mul_right, div-le_self}
-use Rattle.std.proofs.lemmas.Bool.{eqb-true, cases_lt}
-use Rattle.std.proofs.lemmas.Int.{unsigned_abs-mul, ints}
-use Rattle.mu_num.specs.Fraction.{Fraction, IsCoprime, IsSameValue, least_multiplier, least_denominator, lowest, checked}
-use Rattle.mu_num.specs.declared.NumErr.TheVariants.{Range}
-use Rattle.std.proofs.lemmas.Bool.Decides.{nat_tests}
+use Rattle.mu_num.proofs.Common
+use Common.{ℕ, ℤ, ◌%◌, ◌*ℤ◌, ◌*◌, ◌+◌, ◌/◌, ◌<◌, ◌^◌, ◌∙◌, ◌∣◌, ◌≡◌, ◌≢◌, ◌≤◌, ◌⊎◌, ap, arith, Bool}
+use Common.{cases_lt, checked, dvd-mul_right, eq-eqb, eqb-true, Err, false, Fraction, if◌then◌else◌}
+use Common.{inl, inr, int_div, ints, IsCoprime, IsGcd, IsGcd-from_mod, IsGcd-from_zero, IsSameValue}
+use Common.{le_of_dvd, lowest, mod_below, mul-div_cancel, mul-le-mul_right, nat_eq, nat_tests}
+use Common.{neg_ℤ, negsuc, Ok, pos, pos_of_dvd_of_pos, Range, refl, subst, suc, sym, true}
+use Common.{unsigned_abs, unsigned_abs-mul, zero}
+use Rattle.std.proofs.Math.Nat.{mul_comm, dvd-mul_left, dvd_iff_mod-eq-zero, div-mul_cancel}
+use Rattle.std.proofs.Math.Nat.{mul-dvd-mul_right, div-le_self}
+use Rattle.mu_num.specs.Fraction.{least_multiplier, least_denominator}
 use Rattle.mu_num.proofs.Divisors.{dvd_of_coprime}
-use Rattle.std.proofs.lemmas.Nat.{mod_below}
-use Rattle.std.proofs.lemmas.Nat.Gcd.{IsGcd-from_mod, IsGcd-from_zero}
 use Rattle.mu_num.proofs.Integers.{mul_assoc, mul_swap, neg-mul, div-of_mul}
 
 -- one step of the search, where the rest of it is right

@@ -1,8 +1,6 @@
 -- The named rules take levels that are less than one level away.
-use Rattle.std.proofs.Common.{ℤ, pos, ◌<ℤ◌, arith}
-use Rattle.std.proofs.lemmas.Int.{ints}
+use Rattle.mu_num.proofs.Common.{ℤ, ◌<ℤ◌, arith, ceiling_of, ints, pos}
 use Rattle.mu_num.specs.Levels.{IsWithinOneLevel, floor_level, near_level, inward_level}
-use Rattle.mu_num.specs.Rounding.{ceiling_of}
 use Rattle.mu_num.proofs.Quotients.{floor_meets, ceiling_meets, nearest_meets}
 use Rattle.mu_num.proofs.Tests.{if_cases}
 

@@ -1,18 +1,15 @@
 -- That the quotients of Rounding are the numbers that their inequalities allow.
-use Rattle.std.proofs.Common.{Bool, true, false, ◌≡◌, ℕ, zero, suc, ◌+◌, ◌-◌, ◌*◌, ◌%◌, ◌^◌, ◌≤◌, ◌<◌, ℤ, pos, negsuc, ◌+ℤ◌, ◌-ℤ◌, ◌*ℤ◌, ◌≤ℤ◌, ◌<ℤ◌, neg_ℤ, refl, sym, ◌∙◌, ap, arith, ◌≢◌}
-use Rattle.std.proofs.lemmas.Int.{ints, unsigned_abs-mul, int_rem_euclid_is}
-use Rattle.std.proofs.lemmas.Nat.{pow-add, pow_pos}
-use Rattle.std.proofs.Math.Nat.{mul-le-mul_right}
-use Rattle.std.proofs.Math.IntN.{*ℤ-one}
+use Rattle.mu_num.proofs.Common
+use Common.{*ℤ-one, ℕ, ℤ, ◌%◌, ◌*ℤ◌, ◌*◌, ◌+ℤ◌, ◌+◌, ◌-ℤ◌, ◌-◌, ◌<ℤ◌, ◌<◌, ◌^◌, ◌∙◌, ◌≡◌, ◌≢◌, ◌≤ℤ◌}
+use Common.{◌≤◌, ap, arith, Bool, ceiling_of, even_of, false, FitsSigned, floor_of, if◌then◌else◌}
+use Common.{int_lt, int_rem_euclid, ints, IsCeiling, IsFloor, IsNearest, mul-le-mul_right}
+use Common.{nearest_of, neg_ℤ, negsuc, of_z, pos, pow-add, pow_pos, refl, suc, sym, true}
+use Common.{unsigned_abs-mul, w128, zero}
+use Rattle.std.proofs.lemmas.Int.{int_rem_euclid_is}
 use Rattle.mu_num.proofs.Integers.{mul-add, mul-neg, mul-above}
 use Rattle.mu_num.proofs.Tests.{if_cases, int_lt-true, int_lt-false, eqb-true, eqb-false}
-use Rattle.std.specs.Int.RustNames.{unsigned_abs, int_lt, FitsSigned}
-use Rattle.std.specs.Prelude.{if◌then◌else◌}
-use Rattle.std.specs.Int.{int_rem_euclid}
+use Rattle.std.specs.Int.RustNames.{unsigned_abs}
 use Rattle.std.specs.Int.Signed.{shr_z}
-use Rattle.mu_num.specs.Rounding.{IsFloor, IsCeiling, IsNearest, floor_of, ceiling_of, nearest_of, even_of}
-use mir.Syntax.{w128}
-use mir.Val.{of_z}
 
 pub floor_meets : (n d : ℤ) → pos 0 <ℤ d → IsFloor n d (floor_of n d)
 floor_meets (pos a) (pos b) h = record { at_most = omega (arith, ints); greatest = omega (arith, ints) }

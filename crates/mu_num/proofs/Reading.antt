@@ -1,15 +1,13 @@
 -- Reading digits.
-use Rattle.std.proofs.Common.{◌≡◌, ◌≢◌, ◌∙◌, ◌<◌, ◌≤◌, ◌+◌, ◌-◌, ◌*◌, ◌^◌, ℕ, List, [], ◌∷◌, ◌++◌, length, get_or, take, min, refl, sym, ap, arith, inl, inr, add-one, lit≤}
-use Rattle.std.specs.Prelude.{Bool, true, false, if◌then◌else◌, nat_eq, Ok, Err, pos, ◌⊎◌}
-use Rattle.std.proofs.Math.Nat.{pow-suc, pow-le-pow_right, mul_assoc, le-mul_of_pos_right, one-le-pow}
+use Rattle.mu_num.proofs.Common
+use Common.{[], ℕ, ◌*◌, ◌++◌, ◌+◌, ◌-◌, ◌<◌, ◌^◌, ◌∙◌, ◌∷◌, ◌≡◌, ◌≢◌, ◌≤◌, ◌⊎◌, add-one, ap, arith}
+use Common.{Bool, byte_after, cases_Bool, cases_lt, checked, digit_after, eqb-true, Err, false}
+use Common.{get_or, if◌then◌else◌, inl, inr, is_digit, length, List, lit≤, min, mul_assoc, nat_eq}
+use Common.{nat_tests, number_of, Ok, one-le-pow, pos, pow-le-pow_right, pow-suc, Range, refl}
+use Common.{scaled, Significand, significand, sym, take, true, whole}
+use Rattle.std.proofs.Math.Nat.{le-mul_of_pos_right}
 use Rattle.std.proofs.Math.Seq.{take-suc}
-use Rattle.std.proofs.lemmas.Bool.{cases_lt, cases_Bool, eqb-true}
-use Rattle.std.proofs.lemmas.Bool.Decides.{nat_tests}
 use Rattle.std.proofs.lemmas.List.Sums.{fold-append}
-use Rattle.mu_num.specs.Decimal.{is_digit, digit_after, number_of}
-use Rattle.mu_num.specs.Significand.{Significand, byte_after, significand, scaled}
-use Rattle.mu_num.specs.Fraction.{checked, whole}
-use Rattle.mu_num.specs.declared.NumErr.TheVariants.{Range}
 
 -- the number after one more byte of a text
 pub number_of-push : (bs : List ℕ) (b : ℕ) → number_of (bs ++ b ∷ []) ≡ digit_after (number_of bs) b

@@ -1,12 +1,15 @@
 -- Strictly increasing indices.
-use Rattle.std.proofs.Common.{◌≡◌, ◌≢◌, ℕ, zero, suc, ◌+◌, ◌<◌, ◌≤◌, true, false, eqb, List, [], ◌∷◌, ◌++◌, length, get_or, take, refl, sym, ap, ◌∙◌, subst, inl, inr, ◌⊎◌, arith}
-use Rattle.std.proofs.lemmas.Bool.{eqb-true, ne_eqb, or_from, or_cases, cases_eq, both_ways, false_from_ne_true}
-use Rattle.std.proofs.lemmas.List.{take_more, append-nil, get_or-take, length-take-le}
+use Rattle.mu_num.proofs.Common
+use Common.{[], ℕ, ◌++◌, ◌+◌, ◌<◌, ◌∙◌, ◌∷◌, ◌≡◌, ◌≢◌, ◌≤◌, ◌⊎◌, ap, arith, both_ways, cases_eq}
+use Common.{eqb-true, false, get_or, inl, inr, is_listed, length, List, nat_eq as eqb, or_cases}
+use Common.{refl, subst, suc, sym, take, take_more, true, zero}
+use Rattle.std.proofs.lemmas.Bool.{ne_eqb, or_from, false_from_ne_true}
+use Rattle.std.proofs.lemmas.List.{append-nil, get_or-take, length-take-le}
 use Rattle.std.proofs.lemmas.List.Concat.{flat_map-append}
 use Rattle.std.proofs.lemmas.List.Kept.{AllPairs-from_increasing}
 use Rattle.std.specs.List.{flat_map, range_with_len}
 use Rattle.std.specs.List.Sorted.{IsStrictlyIncreasing}
-use Rattle.mu_num.specs.ListedPlaces.{is_listed, AreRisingBelow}
+use Rattle.mu_num.specs.ListedPlaces.{AreRisingBelow}
 use Rattle.mu_num.proofs.Writes.{index_of, among_head, among_rest}
 
 -- rising numbers are at least their places

@@ -1,8 +1,6 @@
 -- What follows from the size test.
-use Rattle.std.proofs.Common.{◌≡◌, ℕ, ◌^◌, true, false, ℤ, pos, neg_ℤ, ◌<ℤ◌, ◌≤ℤ◌, arith}
-use Rattle.std.proofs.lemmas.Int.{ints}
-use Rattle.std.proofs.lemmas.Bool.Decides.{nat_tests}
-use Rattle.std.specs.Int.RustNames.{int_lt}
+use Rattle.mu_num.proofs.Common
+use Common.{ℕ, ℤ, ◌<ℤ◌, ◌^◌, ◌≡◌, ◌≤ℤ◌, arith, false, int_lt, ints, nat_tests, neg_ℤ, pos, true}
 use Rattle.mu_num.specs.Sizes.{IsWithin, exceeds}
 
 -- what does not pass is within

@@ -1,8 +1,9 @@
 -- Sums over lists and indices.
-use Rattle.std.proofs.Common.{◌≡◌, ◌≢◌, ℕ, zero, suc, ◌+◌, ◌<◌, List, [], ◌∷◌, ◌++◌, length, get_or, take, ℤ, pos, ◌+ℤ◌, ◌-ℤ◌, ◌≤ℤ◌, refl, sym, ◌∙◌, ap, arith, add-zero, add-suc, inl, inr}
+use Rattle.mu_num.proofs.Common
+use Common.{[], ℕ, ℤ, ◌++◌, ◌+ℤ◌, ◌+◌, ◌-ℤ◌, ◌<◌, ◌∙◌, ◌∷◌, ◌≡◌, ◌≢◌, ◌≤ℤ◌, ap, arith, get_or, inl}
+use Common.{inr, ints, length, List, pos, refl, suc, sym, take, take_more, zero}
+use Rattle.std.proofs.Common.{add-zero, add-suc}
 use Rattle.std.proofs.lemmas.Bool.Decides.{eqb_tells}
-use Rattle.std.proofs.lemmas.Int.{ints}
-use Rattle.std.proofs.lemmas.List.{take_more}
 use Rattle.mu_num.specs.IndexedSums.{sum_over, sum_below}
 
 -- ---- over a list

@@ -1,6 +1,8 @@
 -- Tables of the values of a function.
-use Rattle.std.proofs.Common.{◌≡◌, ℕ, ◌<◌, List, [], ◌∷◌, length, map, ℤ, pos, refl, ap, ◌∙◌, arith}
-use Rattle.std.proofs.lemmas.List.FromFn.{length-map-range_with_len, get_or-map-range_with_len, fill_by_all}
+use Rattle.mu_num.proofs.Common.{[], ℕ, ℤ, ◌<◌, ◌∙◌, ◌∷◌, ◌≡◌, ap, arith, length, List, pos, refl}
+use Rattle.std.proofs.Common.{map}
+use Rattle.std.proofs.lemmas.List.FromFn.{length-map-range_with_len, get_or-map-range_with_len}
+use Rattle.std.proofs.lemmas.List.FromFn.{fill_by_all}
 use Rattle.mu_num.specs.IndexedSums.{int_at, tabulate}
 
 -- two tables of the same values are one

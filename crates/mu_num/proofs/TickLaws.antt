@@ -1,7 +1,5 @@
 -- What does not rise passes no distance that it does not pass at once.
-use Rattle.std.proofs.Common.{ℕ, zero, suc, ◌<◌, ℤ, pos, ◌*ℤ◌, ◌≤ℤ◌, ◌<ℤ◌, arith}
-use Rattle.std.proofs.Math.IntN.{suc_ℤ-*ℤ}
-use Rattle.std.proofs.lemmas.Int.{ints}
+use Rattle.mu_num.proofs.Common.{ℕ, ℤ, ◌*ℤ◌, ◌<ℤ◌, ◌<◌, ◌≤ℤ◌, arith, ints, pos, suc, suc_ℤ-*ℤ, zero}
 use Rattle.mu_num.proofs.Integers.{mul-nonpos}
 
 -- what does not rise never passes what it does not pass in one tick

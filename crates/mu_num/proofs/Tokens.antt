@@ -1,9 +1,10 @@
 -- The value of a number token from what its parts were read as.
-use Rattle.std.proofs.Common.{◌≡◌, ◌∙◌, ◌≤◌, ◌+◌, ◌^◌, ℕ, List, take, drop, min, ap, arith}
-use Rattle.std.specs.Prelude.{true, false, count_by}
-use Rattle.std.specs.List.{list_any, position_or_len}
-use Rattle.mu_num.specs.Decimal.{is_digit, is_exponent_mark, is_point, is_minus, number_of}
-use Rattle.mu_num.specs.Significand.{Significand, significand, scaled, value_read}
+use Rattle.mu_num.proofs.Common
+use Common.{ℕ, ◌+◌, ◌^◌, ◌∙◌, ◌≡◌, ◌≤◌, ap, arith, count_by, false, is_digit, is_exponent_mark}
+use Common.{is_minus, is_point, List, list_any, min, number_of, scaled, Significand, significand}
+use Common.{take, true, value_read}
+use Rattle.std.proofs.Common.{drop}
+use Rattle.std.specs.List.{position_or_len}
 use Rattle.mu_num.proofs.Reading.{scaled_cut_number, scaled_cut_up, scaled_cut_down}
 
 -- the parts of a token, and what was read of them

@@ -1,9 +1,12 @@
 -- Numbers among others, and lists that are written at some places.
-use Rattle.std.proofs.Common.{◌≡◌, ◌≢◌, ℕ, suc, ◌+◌, ◌<◌, ◌≤◌, true, false, eqb, ◌||◌, List, [], ◌∷◌, ◌++◌, length, get_or, set, take, refl, sym, ◌∙◌, subst, inl, inr, ◌⊎◌, arith}
-use Rattle.std.proofs.lemmas.Bool.{eqb-true, eqb-false, eq-eqb, or_parts, or_cases, or_left, or_right, cases_eq, cases_Bool, both_ways}
+use Rattle.mu_num.proofs.Common
+use Common.{[], ℕ, ◌++◌, ◌+◌, ◌<◌, ◌∙◌, ◌∷◌, ◌≡◌, ◌≢◌, ◌≤◌, ◌⊎◌, arith, both_ways, cases_Bool}
+use Common.{cases_eq, eq-eqb, eqb-true, false, get_or, inl, inr, is_listed, length, List}
+use Common.{nat_eq as eqb, or_cases, refl, subst, suc, sym, take, true}
+use Rattle.std.proofs.Common.{◌||◌, set}
+use Rattle.std.proofs.lemmas.Bool.{eqb-false, or_parts, or_left, or_right}
 use Rattle.std.proofs.lemmas.List.{length-set, get_or-set_same, get_or-set_other, take_all}
 use Rattle.std.proofs.lemmas.List.Folds.{list_any_more, list_any-append, list_any_at}
-use Rattle.mu_num.specs.ListedPlaces.{is_listed}
 use Rattle.mu_num.specs.Writes.{IsWritten}
 
 -- one more number, as at a step of a loop

@@ -1,17 +1,16 @@
 -- The end of the innermost loop of a body.
-use Rattle.std.proofs.Common.{◌≡◌, ◌∙◌, ◌∷◌, List, [], Option, None, Some, Result, Ok, Err}
-use Rattle.std.proofs.Common.{IfOk, refl, sym, ap}
+use Rattle.mu_parser.proofs.Common.{◌∙◌, ◌≡◌, ap, effect_of, end_loop, IfOk, List, Range, refl, sym}
+use Rattle.std.proofs.Common.{◌∷◌, [], Option, None, Some, Result, Ok, Err}
 use Rattle.std.specs.Prelude.{IsOkAnd}
 use Rattle.std.specs.Option.{option_map}
-use Rattle.mu_tree.specs.ModelTree.{ModelTree, Range}
+use Rattle.mu_tree.specs.ModelTree.{ModelTree}
 use Rattle.mu_grammar.specs.Grammar.{Symbol}
-use Rattle.mu_grammar.specs.ReaderMachines as machines
-use Rattle.mu_grammar.specs.States as model
-use Rattle.mu_grammar.specs.BodyMachine.{end_loop}
 use Rattle.mu_parser.specs.declared.section.state.Body.{Body}
 use Rattle.mu_parser.specs.declared.section.state.Effect.{Effect}
 use Rattle.mu_parser.specs.OpenLoops.{closed}
-use Rattle.mu_parser.specs.SectionViews.{body_of, effect_of}
+use Rattle.mu_parser.specs.SectionViews.{body_of}
+use Rattle.mu_grammar.specs.ReaderMachines as machines
+use Rattle.mu_grammar.specs.States as model
 
 -- no loop is open
 pub none_open : {T A : Type 0} (tree : T → A) (each : Range → List A → A)

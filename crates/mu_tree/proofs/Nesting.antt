@@ -1,6 +1,6 @@
 -- Lists of items that occur in loops, and the trees of loops.
-use Rattle.std.proofs.Common.{◌≡◌, ◌∙◌, ◌+◌, ◌<◌, ◌≤◌, ℕ, List, [], ◌∷◌, length, drop, get_or}
-use Rattle.std.proofs.Common.{map, add-one, refl, sym, ap, arith, Global}
+use Rattle.std.proofs.Common.{◌≡◌, ◌∙◌, ◌+◌, ◌<◌, ◌≤◌, ℕ, List, [], ◌∷◌, length, drop, get_or, map}
+use Rattle.std.proofs.Common.{add-one, refl, sym, ap, arith, Global}
 use Rattle.std.proofs.Math.Seq.{drop-cons}
 use Rattle.std.specs.declared.vec.Vec.{Vec}
 use Prim.Native.Nat.{zero, suc}
@@ -8,25 +8,24 @@ use Rattle.mu_tree.specs.declared.expr.Expr.{Expr}
 use Rattle.mu_tree.specs.declared.expr.Ref.{Ref}
 use Rattle.mu_tree.specs.declared.tree.Branch.{Branch}
 use Rattle.mu_tree.specs.declared.tree.Clause.{Clause, fold-roll-Clause}
+use Rattle.mu_tree.specs.declared.tree.Equation.{Equation, fold-roll-Equation}
+use Rattle.mu_tree.specs.declared.tree.Statement.{Statement, fold-roll-Statement}
+use Rattle.mu_tree.specs.Expression.{expression, reference}
+use Rattle.mu_tree.specs.ModelTree.{Algebraic, Assign, Branches, ClauseTree, Derivative, EachClause}
+use Rattle.mu_tree.specs.ModelTree.{EachEquation, EachStatement, EquationTree, Range, Restart}
+use Rattle.mu_tree.specs.ModelTree.{StatementTree, branch, clause, clause_step, clauses_of}
+use Rattle.mu_tree.specs.ModelTree.{equation, equation_step, equations_of, range, statement}
+use Rattle.mu_tree.specs.ModelTree.{statement_step, statements_of}
+use Rattle.mu_tree.specs.Nests.{Each, NestTree, item_size, items_of, items_size, list_size}
 use Rattle.mu_tree.specs.declared.tree.Clause as clauses
 use Rattle.mu_tree.specs.declared.tree.Clause.TheOpen as clause_layer
 use Rattle.mu_tree.specs.declared.tree.Clause.TheVariants as clause_variants
-use Rattle.mu_tree.specs.declared.tree.Equation.{Equation, fold-roll-Equation}
 use Rattle.mu_tree.specs.declared.tree.Equation as equations
 use Rattle.mu_tree.specs.declared.tree.Equation.TheOpen as equation_layer
 use Rattle.mu_tree.specs.declared.tree.Equation.TheVariants as equation_variants
-use Rattle.mu_tree.specs.declared.tree.Statement.{Statement, fold-roll-Statement}
 use Rattle.mu_tree.specs.declared.tree.Statement as statements
 use Rattle.mu_tree.specs.declared.tree.Statement.TheOpen as statement_layer
 use Rattle.mu_tree.specs.declared.tree.Statement.TheVariants as statement_variants
-use Rattle.mu_tree.specs.Expression.{expression, reference}
-use Rattle.mu_tree.specs.ModelTree.{Algebraic, Assign, Branches, ClauseTree, Derivative}
-use Rattle.mu_tree.specs.ModelTree.{EachClause, EachEquation, EachStatement, EquationTree, Range}
-use Rattle.mu_tree.specs.ModelTree.{Restart, StatementTree, branch, clause, clause_step, clauses_of}
-use Rattle.mu_tree.specs.ModelTree.{equation, equation_step, equations_of, range, statement}
-use Rattle.mu_tree.specs.ModelTree.{statement_step, statements_of}
-use Rattle.mu_tree.specs.Nests.{Each, NestTree, item_size, items_of, items_size}
-use Rattle.mu_tree.specs.Nests.{list_size}
 
 -- the tree of an item that is no loop
 pub equation-Der : (target : Ref) (value : Expr)
@@ -102,8 +101,11 @@ pub item_within : {T Tree L : Type 0} (tree : T → Tree) (item : Tree → NestT
     (i : ℕ) (x : T) → i < length xs → x ≡ get_or xs i x
     → item_size (item (tree x)) ≤ list_size tree item xs
 item_within {T} {Tree} {L} tree item xs i x h e =
-    omega (arith, drop_size tree item xs i,
-    ap (λ ts. items_size (items_of (map item ts))) (trees_from tree xs i x h e))
+    omega (
+      arith,
+      drop_size tree item xs i,
+      ap (λ ts. items_size (items_of (map item ts))) (trees_from tree xs i x h e),
+    )
 
 -- a loop has one item more than its body
 pub loop_size : {T Tree L : Type 0} (tree : T → Tree) (each : Range → List Tree → Tree)

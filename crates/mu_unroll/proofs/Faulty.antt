@@ -1,11 +1,8 @@
 -- Faults of steps that follow each other.
-use Rattle.std.proofs.Common.{◌≡◌, ◌∙◌, refl, sym, ap}
-use Rattle.std.specs.Prelude.{Result, Ok, Err}
-use Rattle.mu_unroll.specs.declared.unroll_fault.UnrollErr.{UnrollErr}
-use Rattle.mu_unroll.specs.declared.unroll_fault.UnrollErr.TheVariants.{Index, NotWhole, TooMany}
-use Rattle.mu_unroll.specs.declared.unroll_fault.UnrollErr.TheVariants.{ConstFault, Memory}
-use Rattle.mu_unroll.specs.UnrollFaults.{IsFault}
-use Rattle.mu_unroll.specs.ConstantValues.{bind_result}
+use Rattle.mu_unroll.proofs.Common
+use Common.{◌∙◌, ◌≡◌, ap, bind_result, Err, Index, IsFault, Ok, Result, sym, TooMany, UnrollErr}
+use Rattle.mu_unroll.specs.declared.unroll_fault.UnrollErr.TheVariants.{NotWhole, ConstFault}
+use Rattle.mu_unroll.specs.declared.unroll_fault.UnrollErr.TheVariants.{Memory}
 
 -- a defined fault is one
 pub is_fault : {A : Type 0} (r : Result A UnrollErr) (f : UnrollErr) → r ≡ Err f → IsFault r f

@@ -1,49 +1,29 @@
 -- The result of unrolling satisfies the invariant of flat models.
-use Rattle.std.proofs.Common.{◌≡◌, ◌∙◌, ℕ, ◌+◌, ◌^◌, ◌<◌, ◌≤◌, List, [], ◌∷◌, ◌++◌, length, map}
-use Rattle.std.proofs.Common.{All, IfOk, sum_by, refl, sym, ap, subst, arith}
-use Rattle.std.specs.Prelude.{ℤ, pos, ◌+ℤ◌, nat_lt, Bool, true, false, if◌then◌else◌, Option, Some}
-use Rattle.std.specs.Prelude.{None, Contains, Result, Ok, Err, ⊤}
-use Rattle.std.proofs.lemmas.Bool.Decides.{nat_tests}
-use Rattle.std.proofs.lemmas.List.{length-map}
+use Rattle.mu_unroll.proofs.Common
+use Common.{[], ℕ, ⊤, ◌+◌, ◌^◌, ◌∙◌, ◌∷◌, ◌≡◌, ◌≤◌, Algebraic, ap, arith, Assign, bind_result, Bool}
+use Common.{clauses_of, constant_value, constants_in, count_of_kind, Counts, declared_in}
+use Common.{Derivative, EachEquation, EachStatement, equation_then, EquationHas, equations_of}
+use Common.{EquationsHave, EquationTree, EquationTrees, Err, Expression, false, FlatBranchTree}
+use Common.{FlatExpression, FlatModelTree, FlatRole, FlatVariable, found, Fraction, HasSmallPowers}
+use Common.{IfOk, if◌then◌else◌, inside, IsFlatClause, IsFlatExpression, IsFlatModel, IsNumbered}
+use Common.{IsWellFormed, Known, length, length-map, List, LoopVar, meant_in, ModelTree}
+use Common.{NameDenotation, nat_lt, nat_tests, no_counts, no_equations, no_statements, Ok}
+use Common.{one_start, Progress, progress, Reference, refl, ResolvedReference, Restart, Result}
+use Common.{scalar_count, scalars_in, start_at, statement_then, statements_of, StatementTree}
+use Common.{StatementTrees, subst, suc, sym, TooMany, true, unrolled, unrolled_clauses}
+use Common.{unrolled_equations, unrolled_start, unrolled_starts, unrolled_with, UnrollErr}
+use Common.{with_item, with_start, zero}
 use Rattle.std.proofs.lemmas.List.Elements.{All-contains}
-use Prim.Native.Nat.{zero, suc}
-use Rattle.mu_num.specs.Fraction.{Fraction}
-use Rattle.mu_tree.specs.declared.flat.FlatRole.{FlatRole}
-use Rattle.mu_tree.specs.declared.flat.FlatRole.TheVariants as flat_role
-use Rattle.mu_tree.specs.Expression.{Expression, Reference}
-use Rattle.mu_tree.specs.FlatExpression.{FlatExpression, FlatVariable, FlatEquationTree}
-use Rattle.mu_tree.specs.FlatExpression.{FlatBranchTree, FlatModelTree}
-use Rattle.mu_tree.specs.FlatModels.{IsFlatExpression, IsFlatClause, IsFlatModel}
-use Rattle.mu_tree.specs.ModelTree.{Range, EquationTree, Derivative, Algebraic, EachEquation}
-use Rattle.mu_tree.specs.ModelTree.{EquationTrees, no_equations, equation_then, StatementTree}
-use Rattle.mu_tree.specs.ModelTree.{Assign, Restart, EachStatement, StatementTrees, no_statements}
-use Rattle.mu_tree.specs.ModelTree.{statement_then, equations_of, statements_of, clauses_of}
-use Rattle.mu_tree.specs.ModelTree.{ModelTree}
-use Rattle.mu_causal.specs.Dependencies.{IsNumbered, names_of}
-use Rattle.mu_names.specs.declared.declared_scope.Known.{Known}
-use Rattle.mu_unroll.specs.declared.unroll_counts.Counts.{Counts}
-use Rattle.mu_unroll.specs.declared.unroll_fault.UnrollErr.{UnrollErr}
-use Rattle.mu_unroll.specs.declared.unroll_fault.UnrollErr.TheVariants.{TooMany}
-use Rattle.mu_unroll.specs.declared.environment.ResolvedReference.{ResolvedReference}
-use Rattle.mu_unroll.specs.declared.environment.ResolvedReference.TheVariants as found_as
-use Rattle.mu_unroll.specs.declared.environment.LoopVar.{LoopVar}
-use Rattle.mu_unroll.specs.declared.environment.NameDenotation.{NameDenotation}
-use Rattle.mu_unroll.specs.Counting.{no_counts, with_item}
-use Rattle.mu_unroll.specs.Flattening.{constants_in, found}
-use Rattle.mu_unroll.specs.VariablePlaces.{count_of_kind, meant_in, scalar_count, scalars_in}
-use Rattle.mu_unroll.specs.Unrolling.{Progress, declared_in, inside, one_start, progress, start_at}
-use Rattle.mu_unroll.specs.Unrolling.{unrolled, unrolled_clauses, unrolled_equations}
-use Rattle.mu_unroll.specs.Unrolling.{unrolled_start, unrolled_starts, unrolled_with, with_start}
-use Rattle.mu_unroll.specs.ConstantValues.{constant_value, bind_result}
-use Rattle.mu_unroll.specs.WellFormed.{EquationHas, EquationsHave, HasSmallPowers, IsWellFormed}
 use Rattle.mu_unroll.proofs.FlatParts.{AreNamed, expression_flat, expression_named}
-use Rattle.mu_unroll.proofs.Keeping.{IsCounted, IsOfCounts, IsEquationOf, IsSameCount, Kept}
-use Rattle.mu_unroll.proofs.Keeping.{KeptClauses, KeptEquations, clause_items, clause_nodes}
-use Rattle.mu_unroll.proofs.Keeping.{clauses_kept, equation_nodes, equations_kept, item_counted}
-use Rattle.mu_unroll.proofs.Keeping.{kept_none, loop_keeps, sum_ones}
-use Rattle.mu_unroll.proofs.Numbering.{AllPoint, all_point, all_roles, in_kinds, in_order}
-use Rattle.mu_unroll.proofs.Numbering.{length_in_kinds, roles_of}
+use Rattle.mu_unroll.proofs.Keeping.{IsCounted, IsOfCounts, IsEquationOf, Kept, KeptClauses}
+use Rattle.mu_unroll.proofs.Keeping.{KeptEquations, clause_items, clause_nodes, clauses_kept}
+use Rattle.mu_unroll.proofs.Keeping.{equation_nodes, equations_kept, item_counted, kept_none}
+use Rattle.mu_unroll.proofs.Keeping.{loop_keeps, sum_ones}
+use Rattle.mu_unroll.proofs.Numbering.{AllPoint, all_point, all_roles, in_order, length_in_kinds}
+use Rattle.mu_unroll.proofs.Numbering.{roles_of}
 use Rattle.mu_unroll.proofs.Stepping.{any_answer, each_then}
+use Rattle.mu_tree.specs.declared.flat.FlatRole.TheVariants as flat_role
+use Rattle.mu_unroll.specs.declared.environment.ResolvedReference.TheVariants as found_as
 
 -- a start value changes no role
 start_roles : (vars : List FlatVariable) (v : ℕ) (a : Fraction) → roles_of (start_at vars v a) ≡ roles_of vars

@@ -1,41 +1,34 @@
 -- What holds of references and expressions with constants put in.
-use Rattle.std.proofs.Common.{◌≡◌, ◌∙◌, ℕ, ◌+◌, ◌-◌, ◌<◌, ◌≤◌, ◌≤ℤ◌, List, [], ◌∷◌, ◌++◌, length}
-use Rattle.std.proofs.Common.{All, IfOk, refl, sym, ap, ap₂, subst, arith}
-use Rattle.std.specs.Prelude.{ℤ, pos, ◌&&◌, int_le, unsigned_abs, Bool, true, false, if◌then◌else◌}
-use Rattle.std.specs.Prelude.{Option, Some, None, IfSome, Result, Ok, Err, slice_get, ⊤}
-use Rattle.std.proofs.lemmas.Int.{ints}
-use Rattle.std.proofs.lemmas.List.Elements.{All-append, All-nil, All-cons}
-use Rattle.mu_num.specs.Fraction.{Fraction}
+use Rattle.mu_unroll.proofs.Common
+use Common.{[], ℕ, ℤ, ⊤, ◌+◌, ◌-◌, ◌<◌, ◌∷◌, ◌≡◌, ◌≤ℤ◌, All, All-nil, ap, ap₂, arith, bind_result}
+use Common.{Bool, constant_value, constants_in, Discrete, Err, Expression, factor_nodes, Factors}
+use Common.{false, FlatExpression, FlatRole, FlatScaled, FlatSigned, flattened, flattened_factors}
+use Common.{flattened_terms, FlatVariable, found, Fraction, HasSmallPowers, IfOk, IfSome}
+use Common.{if◌then◌else◌, Index, int_le, ints, IsFlatExpression, length, List, NameDenotation}
+use Common.{node_count, None, number_of_kind, Ok, Option, pos, Reference, refl, ResolvedReference}
+use Common.{Result, slice_get, Some, State, subst, term_nodes, Terms, true, UnrollErr, unsigned_abs}
+use Common.{whole_at}
+use Rattle.std.specs.Prelude.{◌&&◌}
+use Rattle.std.proofs.lemmas.List.Elements.{All-append, All-cons}
 use Rattle.mu_num.specs.Decimal.{decimal_value}
-use Rattle.mu_tree.specs.declared.flat.FlatRole.{FlatRole}
-use Rattle.mu_tree.specs.declared.flat.FlatRole.TheVariants.{State, Discrete, Algebraic}
-use Rattle.mu_tree.specs.Expression.{Expression, Number, Variable, Now, Previous, Sum, Product}
-use Rattle.mu_tree.specs.Expression.{Power, Reference, Whole, Element, Terms, no_terms, term}
-use Rattle.mu_tree.specs.Expression.{Factors, no_factors, factor}
-use Rattle.mu_tree.specs.FlatExpression.{FlatExpression, FlatSigned, FlatScaled, FlatVariable}
+use Rattle.mu_tree.specs.declared.flat.FlatRole.TheVariants.{Algebraic}
+use Rattle.mu_tree.specs.Expression.{Number, Variable, Now, Previous, Sum, Product, Power, Whole}
+use Rattle.mu_tree.specs.Expression.{Element, no_terms, term, no_factors, factor}
 use Rattle.mu_tree.specs.FlatExpression.{flat_terms_of, flat_factors_of}
-use Rattle.mu_tree.specs.FlatModels.{IsFlatExpression, AreFlatTerms, AreFlatFactors}
-use Rattle.mu_tree.specs.FlatExpression as trees
-use Rattle.mu_tree.specs.FlatModels as flat
+use Rattle.mu_tree.specs.FlatModels.{AreFlatTerms, AreFlatFactors}
 use Rattle.mu_causal.specs.Dependencies.{names_of, names_of_terms, names_of_factors}
-use Rattle.mu_unroll.specs.declared.unroll_fault.UnrollErr.{UnrollErr}
-use Rattle.mu_unroll.specs.declared.unroll_fault.UnrollErr.TheVariants.{Index}
-use Rattle.mu_unroll.specs.declared.environment.ResolvedReference.{ResolvedReference}
 use Rattle.mu_unroll.specs.declared.environment.ResolvedReference.TheVariants.{Value, Numbered}
 use Rattle.mu_unroll.specs.declared.environment.ResolvedReference.TheVariants.{Unfound}
-use Rattle.mu_unroll.specs.declared.environment.NameDenotation.{NameDenotation}
-use Rattle.mu_unroll.specs.declared.environment.NameDenotation.TheVariants as meant
-use Rattle.mu_unroll.specs.Counting.{node_count, term_nodes, factor_nodes}
-use Rattle.mu_unroll.specs.Flattening.{constants_in, element_found, flattened, flattened_factors}
-use Rattle.mu_unroll.specs.Flattening.{flattened_terms, found, index_in, literal_part}
-use Rattle.mu_unroll.specs.Flattening.{number_of_kind, part_of, place_of, previous_part}
-use Rattle.mu_unroll.specs.Flattening.{whole_found}
-use Rattle.mu_unroll.specs.VariablePlaces.{is_kind, width}
-use Rattle.mu_unroll.specs.ConstantValues.{constant_value, placed, bind_result, whole_at}
-use Rattle.mu_unroll.specs.WellFormed.{HasSmallPowers, HaveSmallPowersTerms, HaveSmallPowersFactors}
+use Rattle.mu_unroll.specs.Flattening.{element_found, index_in, literal_part, part_of, place_of}
+use Rattle.mu_unroll.specs.Flattening.{previous_part, whole_found}
+use Rattle.mu_unroll.specs.ConstantValues.{placed}
+use Rattle.mu_unroll.specs.WellFormed.{HaveSmallPowersTerms, HaveSmallPowersFactors}
 use Rattle.mu_unroll.proofs.Numbering.{AllPoint, PointsTo, below_all, role_at, roles_of}
 use Rattle.mu_unroll.proofs.Rounding.{le_of}
 use Rattle.mu_unroll.proofs.Stepping.{any_answer, each_then}
+use Rattle.mu_tree.specs.FlatExpression as trees
+use Rattle.mu_tree.specs.FlatModels as flat
+use Rattle.mu_unroll.specs.declared.environment.NameDenotation.TheVariants as meant
 
 -- an index is below the size
 index_fits : (at size : ℕ) (i : ℤ) → IfOk (index_in at size i) (λ k. k < size)

@@ -1,30 +1,18 @@
 -- Constant folding of expressions: parts with short indices.
-use Rattle.std.proofs.Common.{◌≡◌, ◌∙◌, ◌+◌, ◌<◌, ◌++◌, ◌∷◌, [], ℕ, List, length, map, take, get_or}
-use Rattle.std.proofs.Common.{add-one}
-use Rattle.std.proofs.Common.{refl, sym, ap, subst, arith}
-use Rattle.std.specs.Prelude.{Bool, Result, Ok, Err}
-use Rattle.std.proofs.Math.Seq.{take-suc}
-use Rattle.std.proofs.lemmas.List.{map-append}
-use Rattle.mu_tree.specs.Expression.{Expression, Reference, Scaled}
-use Rattle.mu_tree.specs.Expression.{Signed}
-use Rattle.mu_tree.specs.Expression.{expression, factors_of, scaled, signed, terms_of}
-use Rattle.mu_tree.specs.Expression.{expression_step, reference_step, scaled_step}
+use Rattle.mu_unroll.proofs.Common
+use Common.{[], ℕ, ◌++◌, ◌+◌, ◌<◌, ◌∙◌, ◌∷◌, ◌≡◌, add-one, ap, arith, bind_result, Bool, Err}
+use Common.{Expression, expression, factor_nodes, factors_of, FlatExpression, FlatScaled}
+use Common.{FlatSigned, flattened, flattened_factors, flattened_terms, get_or, IsSameExpression}
+use Common.{IsSameFactors, IsSameTerms, length, List, map, map-append, meant_in, NameDenotation}
+use Common.{node_count, Ok, Reference, refl, Result, scaled, signed, subst, sym, take, take-suc}
+use Common.{term_nodes, terms_of, UnrollErr}
+use Rattle.mu_tree.specs.Expression.{Scaled, Signed, expression_step, reference_step, scaled_step}
 use Rattle.mu_tree.specs.Expression.{signed_step}
 use Rattle.mu_tree.specs.declared.expr.Expr.{Expr}
 use Rattle.mu_tree.specs.declared.expr.Factor.{Factor, fold-roll-Factor, fold_out-Factor}
-use Rattle.mu_tree.specs.declared.expr.Factor.{out-Factor}
-use Rattle.mu_tree.specs.declared.expr.Factor.{roll-Factor}
+use Rattle.mu_tree.specs.declared.expr.Factor.{out-Factor, roll-Factor}
 use Rattle.mu_tree.specs.declared.expr.Term.{Term, fold-roll-Term, fold_out-Term, out-Term}
 use Rattle.mu_tree.specs.declared.expr.Term.{roll-Term}
-use Rattle.mu_tree.specs.FlatExpression.{FlatExpression, FlatScaled, FlatSigned}
-use Rattle.mu_unroll.specs.declared.unroll_fault.UnrollErr.{UnrollErr}
-use Rattle.mu_unroll.specs.declared.environment.NameDenotation.{NameDenotation}
-use Rattle.mu_unroll.specs.ConstantFolding.{IsSameExpression, IsSameFactors}
-use Rattle.mu_unroll.specs.ConstantFolding.{IsSameTerms}
-use Rattle.mu_unroll.specs.ConstantValues.{bind_result}
-use Rattle.mu_unroll.specs.Counting.{factor_nodes, node_count, term_nodes}
-use Rattle.mu_unroll.specs.Flattening.{flattened, flattened_factors, flattened_terms}
-use Rattle.mu_unroll.specs.VariablePlaces.{meant_in}
 
 -- the results of the items of a list
 record IsListed {S T : Type 0} (value : S → Result FlatExpression UnrollErr)

@@ -1,25 +1,14 @@
 -- Constant folding of equations, statements, branches and clauses.
-use Rattle.std.proofs.Common.{◌≡◌, ◌∙◌, ◌+◌, ◌<◌, ◌++◌, ◌∷◌, [], ℕ, List, length, map}
-use Rattle.std.proofs.Common.{take, get_or}
-use Rattle.std.proofs.Common.{refl, sym, ap}
-use Rattle.std.specs.Prelude.{Option, Some, None, Result, Ok, true, false, is_some}
-use Rattle.mu_num.specs.Fraction.{Fraction}
-use Rattle.mu_tree.specs.Expression.{Expression}
-use Rattle.mu_tree.specs.FlatExpression.{FlatAction, FlatBranchTree, FlatExpression}
-use Rattle.mu_tree.specs.ModelTree.{BranchTree, Condition, branch, range, statements_of}
-use Rattle.mu_tree.specs.declared.tree.Branch.{Branch}
-use Rattle.mu_unroll.specs.declared.unroll_fault.UnrollErr.{UnrollErr}
-use Rattle.mu_unroll.specs.declared.environment.LoopVar.{LoopVar}
-use Rattle.mu_unroll.specs.declared.environment.NameDenotation.{NameDenotation}
-use Rattle.mu_unroll.specs.ConstantFolding.{IsSameBranch, IsSameBranches, IsSameConstant}
-use Rattle.mu_unroll.specs.ConstantFolding.{IsSameExpression, IsSameStatements, IsSameStep}
-use Rattle.mu_unroll.specs.ConstantValues.{bind_result}
-use Rattle.mu_unroll.specs.Counting.{node_count, with_item}
-use Rattle.mu_unroll.specs.Flattening.{flattened}
-use Rattle.mu_unroll.specs.ListUnrolling.{in_order, in_rounds}
-use Rattle.mu_unroll.specs.Unrolling.{Progress, Step, progress, unrolled_branch}
-use Rattle.mu_unroll.specs.Unrolling.{unrolled_branches, unrolled_statements, with_more}
-use Rattle.mu_unroll.specs.VariablePlaces.{constant_of, meant_in}
+use Rattle.mu_unroll.proofs.Common
+use Common.{[], ℕ, ◌++◌, ◌+◌, ◌<◌, ◌∙◌, ◌∷◌, ◌≡◌, ap, bind_result, Branch, branch, BranchTree}
+use Common.{constant_of, Expression, false, FlatAction, FlatBranchTree, FlatExpression, flattened}
+use Common.{Fraction, get_or, in_order, in_rounds, is_some, IsSameBranches, IsSameConstant}
+use Common.{IsSameExpression, IsSameStatements, IsSameStep, length, List, LoopVar, map, meant_in}
+use Common.{NameDenotation, node_count, None, Ok, Option, Progress, progress, range, refl, Result}
+use Common.{Some, statements_of, Step, sym, take, true, unrolled_branch, unrolled_branches}
+use Common.{unrolled_statements, UnrollErr, with_item, with_more}
+use Rattle.mu_tree.specs.ModelTree.{Condition}
+use Rattle.mu_unroll.specs.ConstantFolding.{IsSameBranch}
 use Rattle.mu_unroll.proofs.Folding.{IsSequence, bind_same, copy_pushed, loop_same}
 
 -- a name that is no constant
@@ -56,7 +45,7 @@ pub loop_folded : {T X : Type 0} (one : T → Step X) (declared : List ℕ → N
 loop_folded {T} {X} one declared copied item copy var at f t g u new body copies is named none from
     to same =
     let rounds : IsSameStep declared (in_rounds one (range var at f t) new declared)
-        (in_rounds one (range var at g u) body declared) =
+    (in_rounds one (range var at g u) body declared) =
     loop_same declared var at f t g u (in_order one new declared) (in_order one body declared)
     (none_of (constant_of (declared var)) none) from to same in
     record {

@@ -1,33 +1,14 @@
 -- Constant folding in loops: equal values, bounds, rounds and steps.
-use Rattle.std.proofs.Common.{◌≡◌, ◌∙◌, ◌+◌, ◌<◌, ◌++◌, ◌∷◌, [], ℕ, List, length, map, take, get_or}
-use Rattle.std.proofs.Common.{add-one}
-use Rattle.std.proofs.Common.{refl, sym, ap, ap₂, subst}
-use Rattle.std.specs.Prelude.{ℤ, pos, ◌+ℤ◌, Bool, true, false, bytes_eq, if◌then◌else◌, Option}
-use Rattle.std.specs.Prelude.{Some, None}
-use Rattle.std.specs.Prelude.{Result, Ok, Err, IfOk, IfErr}
-use Rattle.std.proofs.Math.Seq.{take-suc}
-use Rattle.std.proofs.lemmas.List.{map-append}
-use Prim.Native.Nat.{zero, suc}
-use Rattle.mu_num.specs.Fraction.{Fraction, whole}
-use Rattle.mu_tree.specs.Expression.{Expression}
-use Rattle.mu_tree.specs.Expression.{Terms, Factors}
-use Rattle.mu_tree.specs.ModelTree.{range}
+use Rattle.mu_unroll.proofs.Common
+use Common.{[], ℕ, ℤ, ◌++◌, ◌+ℤ◌, ◌+◌, ◌<◌, ◌∙◌, ◌∷◌, ◌≡◌, add-one, ap, ap₂, bind_result, Bool}
+use Common.{bounds_of, bytes_eq, constant_of, constant_value, constants_in, Err, Expression}
+use Common.{Factors, false, Fraction, get_or, IfErr, IfOk, if◌then◌else◌, inside, IsFault}
+use Common.{IsSameConstant, IsSameStep, length, List, loop_value, looped, LoopVar, meant_in}
+use Common.{NameDenotation, None, Ok, Option, pos, product_value, Progress, progress, range, refl}
+use Common.{repeated, Result, Rounds, rounds_from, Some, subst, suc, sum_value, sym, take, take-suc}
+use Common.{Terms, true, UnrollErr, whole, whole_at, with_round, zero, zero_value}
 use Rattle.std.proofs.lemmas.Slice.Eq.{bytes_eq-Decides}
-use Rattle.mu_unroll.specs.declared.unroll_fault.UnrollErr.{UnrollErr}
-use Rattle.mu_unroll.specs.declared.environment.LoopVar.{LoopVar}
-use Rattle.mu_unroll.specs.declared.environment.NameDenotation.{NameDenotation}
-use Rattle.mu_unroll.specs.declared.unrolled_values.Rounds.{Rounds}
-use Rattle.mu_unroll.specs.ConstantFolding.{HidesNoConstant, IsSameConstant}
-use Rattle.mu_unroll.specs.ConstantFolding.{IsSameStep}
-use Rattle.mu_unroll.specs.ConstantValues.{bind_result, constant_value, product_value}
-use Rattle.mu_unroll.specs.ConstantValues.{sum_value}
-use Rattle.mu_unroll.specs.ConstantValues.{whole_at, zero_value}
-use Rattle.mu_unroll.specs.Counting.{with_round}
-use Rattle.mu_unroll.specs.Flattening.{constants_in}
-use Rattle.mu_unroll.specs.LoopBounds.{bounds_of}
-use Rattle.mu_unroll.specs.UnrollFaults.{IsFault}
-use Rattle.mu_unroll.specs.Unrolling.{Progress, inside, looped, progress, repeated, rounds_from}
-use Rattle.mu_unroll.specs.VariablePlaces.{constant_of, loop_value, meant_in}
+use Rattle.mu_unroll.specs.ConstantFolding.{HidesNoConstant}
 
 -- equal steps after an equal result
 pub bind_same : {A B : Type 0} (r : Result A UnrollErr) (f g : A → Result B UnrollErr)

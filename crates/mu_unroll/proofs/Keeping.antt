@@ -1,50 +1,32 @@
 -- What holds of what was made and counted, kept from item to item.
-use Rattle.std.proofs.Common.{◌≡◌, ◌∙◌, ℕ, ◌+◌, ◌^◌, ◌<◌, ◌≤◌, List, [], ◌∷◌, ◌++◌, length, map}
-use Rattle.std.proofs.Common.{All, IfOk, sum_by, refl, sym, ap, subst, arith, length-append}
-use Rattle.std.specs.Prelude.{ℤ, pos, ◌+ℤ◌, nat_lt, Bool, true, false, if◌then◌else◌, Option, Some}
-use Rattle.std.specs.Prelude.{None, IfSome, Result, Ok, Err, slice_get}
-use Rattle.std.proofs.lemmas.Bool.Decides.{nat_tests}
-use Rattle.std.proofs.lemmas.List.Elements.{All-nil, All-push, All-head, All-tail}
+use Rattle.mu_unroll.proofs.Common
+use Common.{[], ℕ, ℤ, ◌+ℤ◌, ◌+◌, ◌<◌, ◌^◌, ◌∷◌, ◌≡◌, ◌≤◌, Algebraic, All, All-nil, arith, Assign}
+use Common.{assign_to, bind_result, Bool, bounds_of, Branches, BranchTree, clause_then, ClauseTree}
+use Common.{ClauseTrees, Counts, Derivative, Discrete, EachClause, EachEquation, EachStatement}
+use Common.{equation_for, equation_then, EquationHas, EquationsHave, EquationTree, EquationTrees}
+use Common.{Err, Expression, false, FlatAction, FlatBranchTree, FlatEquationTree, FlatExpression}
+use Common.{FlatRole, flattened, FlatVariable, found, HasRole, HasSmallPowers, IfOk, IfSome}
+use Common.{if◌then◌else◌, inside, IsFlatClause, IsFlatExpression, length, length-append, List}
+use Common.{looped, LoopVar, meant_in, NameDenotation, nat_lt, nat_tests, no_clauses, no_equations}
+use Common.{no_statements, node_count, None, number_of_kind, Ok, Option, pos, Progress, progress}
+use Common.{Range, Reference, refl, repeated, Restart, restart_of, Result, Rounds, rounds_from}
+use Common.{slice_get, Some, State, statement_then, statements_of, StatementTree, StatementTrees}
+use Common.{suc, TooMany, true, unrolled_branch, unrolled_branches, unrolled_clause}
+use Common.{unrolled_clauses, unrolled_equation, unrolled_equations, unrolled_statement}
+use Common.{unrolled_statements, UnrollErr, with_item, with_maybe, with_more, with_round, zero}
+use Rattle.std.proofs.Common.{sum_by}
+use Rattle.std.proofs.lemmas.List.Elements.{All-push, All-head, All-tail}
 use Rattle.std.proofs.lemmas.List.Sums.{sum_by_push, sum_by-cons}
-use Prim.Native.Nat.{zero, suc}
-use Rattle.mu_tree.specs.declared.flat.FlatRole.{FlatRole}
-use Rattle.mu_tree.specs.declared.flat.FlatRole.TheVariants.{State, Discrete}
-use Rattle.mu_tree.specs.Expression.{Expression, Reference}
-use Rattle.mu_tree.specs.FlatExpression.{FlatExpression, FlatVariable, FlatEquationTree, FlatAction}
-use Rattle.mu_tree.specs.FlatExpression.{FlatBranchTree}
-use Rattle.mu_tree.specs.FlatExpression as trees
-use Rattle.mu_tree.specs.FlatModels.{HasRole, IsFlatExpression, IsFlatAction, IsFlatBranch}
-use Rattle.mu_tree.specs.FlatModels.{IsFlatClause, action_nodes, target_role}
-use Rattle.mu_tree.specs.FlatModels as flat
-use Rattle.mu_tree.specs.ModelTree.{Range, EquationTree, Derivative, Algebraic, EachEquation}
-use Rattle.mu_tree.specs.ModelTree.{EquationTrees, no_equations, equation_then, StatementTree}
-use Rattle.mu_tree.specs.ModelTree.{Assign, Restart, EachStatement, StatementTrees, no_statements}
-use Rattle.mu_tree.specs.ModelTree.{statement_then, BranchTree, ClauseTree, Branches, EachClause}
-use Rattle.mu_tree.specs.ModelTree.{ClauseTrees, no_clauses, clause_then, statements_of}
-use Rattle.mu_unroll.specs.declared.unroll_counts.Counts.{Counts}
-use Rattle.mu_unroll.specs.declared.unroll_fault.UnrollErr.{UnrollErr}
-use Rattle.mu_unroll.specs.declared.unroll_fault.UnrollErr.TheVariants.{TooMany}
-use Rattle.mu_unroll.specs.declared.environment.ResolvedReference.{ResolvedReference}
-use Rattle.mu_unroll.specs.declared.environment.LoopVar.{LoopVar}
-use Rattle.mu_unroll.specs.declared.environment.NameDenotation.{NameDenotation}
-use Rattle.mu_unroll.specs.declared.unrolled_values.Rounds.{Rounds}
-use Rattle.mu_unroll.specs.LoopBounds.{bounds_of}
-use Rattle.mu_unroll.specs.Counting.{node_count, with_item, with_round}
-use Rattle.mu_unroll.specs.Flattening.{flattened, found, number_of_kind}
-use Rattle.mu_unroll.specs.VariablePlaces.{meant_in}
-use Rattle.mu_unroll.specs.Unrolling.{Progress, assign_to, equation_for, inside, looped, one_action}
-use Rattle.mu_unroll.specs.Unrolling.{one_clause, one_equation, progress, repeated, restart_of}
-use Rattle.mu_unroll.specs.Unrolling.{rounds_from, unrolled_branch, unrolled_branches}
-use Rattle.mu_unroll.specs.Unrolling.{unrolled_clause, unrolled_clauses, unrolled_equation}
-use Rattle.mu_unroll.specs.Unrolling.{unrolled_equations, unrolled_statement, unrolled_statements}
-use Rattle.mu_unroll.specs.Unrolling.{with_maybe, with_more}
-use Rattle.mu_unroll.specs.ConstantValues.{bind_result}
-use Rattle.mu_unroll.specs.WellFormed.{EquationHas, EquationsHave, StatementHas, StatementsHave}
-use Rattle.mu_unroll.specs.WellFormed.{BranchHas, ClauseHas, ClausesHave, HasSmallPowers}
+use Rattle.mu_tree.specs.FlatModels.{IsFlatAction, IsFlatBranch, action_nodes, target_role}
+use Rattle.mu_unroll.specs.Unrolling.{one_action, one_clause, one_equation}
+use Rattle.mu_unroll.specs.WellFormed.{StatementHas, StatementsHave, BranchHas, ClauseHas}
+use Rattle.mu_unroll.specs.WellFormed.{ClausesHave}
 use Rattle.mu_unroll.proofs.FlatParts.{Flattens, IsFlat, IsFoundIn, expression_flat, found_in}
 use Rattle.mu_unroll.proofs.FlatParts.{number_in}
 use Rattle.mu_unroll.proofs.Numbering.{AllPoint, points_inside, role_at, roles_of}
 use Rattle.mu_unroll.proofs.Stepping.{any_answer, each_then}
+use Rattle.mu_tree.specs.FlatExpression as trees
+use Rattle.mu_tree.specs.FlatModels as flat
 
 -- one more item: what is counted then, and its limits
 pub record IsCounted (c : Counts) (n : ℕ) (d : Counts) : Type 0 where

@@ -1,3 +1,4 @@
+mod Common
 mod Faulty
 mod Totals
 mod Rounding

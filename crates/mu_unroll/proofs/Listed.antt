@@ -1,49 +1,29 @@
 -- If no limit is exceeded, the result of unrolling is the lists by recursion on the tree.
-use Rattle.std.proofs.Common.{◌≡◌, ◌∙◌, ℕ, ◌+◌, ◌^◌, List, [], ◌∷◌, ◌++◌, IfOk, refl, sym, ap}
-use Rattle.std.proofs.Common.{append_assoc, append-nil}
-use Rattle.std.specs.Prelude.{ℤ, pos, ◌+ℤ◌, nat_lt, Bool, true, false, if◌then◌else◌, Option, Some}
-use Rattle.std.specs.Prelude.{None, Result, Ok, Err, option_to_list}
-use Prim.Native.Nat.{zero, suc}
-use Rattle.mu_num.specs.Fraction.{Fraction}
-use Rattle.mu_tree.specs.declared.flat.FlatRole.{FlatRole}
-use Rattle.mu_tree.specs.declared.flat.FlatRole.TheVariants as flat_role
-use Rattle.mu_tree.specs.Expression.{Expression, Reference}
-use Rattle.mu_tree.specs.FlatExpression.{FlatExpression, FlatVariable, FlatEquationTree, FlatAction}
-use Rattle.mu_tree.specs.FlatExpression.{FlatBranchTree, FlatModelTree}
-use Rattle.mu_tree.specs.ModelTree.{Range, EquationTree, Derivative, Algebraic, EachEquation}
-use Rattle.mu_tree.specs.ModelTree.{EquationTrees, no_equations, equation_then, StatementTree}
-use Rattle.mu_tree.specs.ModelTree.{Assign, Restart, EachStatement, StatementTrees, no_statements}
-use Rattle.mu_tree.specs.ModelTree.{statement_then, BranchTree, ClauseTree, Branches, EachClause}
-use Rattle.mu_tree.specs.ModelTree.{ClauseTrees, no_clauses, clause_then, equations_of}
-use Rattle.mu_tree.specs.ModelTree.{statements_of, clauses_of, ModelTree}
-use Rattle.mu_names.specs.declared.declared_scope.Known.{Known}
-use Rattle.mu_unroll.specs.declared.unroll_counts.Counts.{Counts}
-use Rattle.mu_unroll.specs.declared.unroll_fault.UnrollErr.{UnrollErr}
-use Rattle.mu_unroll.specs.declared.unroll_fault.UnrollErr.TheVariants.{TooMany}
-use Rattle.mu_unroll.specs.declared.environment.ResolvedReference.{ResolvedReference}
-use Rattle.mu_unroll.specs.declared.environment.LoopVar.{LoopVar}
-use Rattle.mu_unroll.specs.declared.environment.NameDenotation.{NameDenotation}
-use Rattle.mu_unroll.specs.declared.unrolled_values.Rounds.{Rounds}
-use Rattle.mu_unroll.specs.LoopBounds.{bounds_of}
-use Rattle.mu_unroll.specs.Counting.{no_counts, node_count, with_item, with_round}
-use Rattle.mu_unroll.specs.Flattening.{constants_in, found, flattened, number_of_kind}
-use Rattle.mu_unroll.specs.Listing.{StartValue, each_round, each_value, followed, listed}
-use Rattle.mu_unroll.specs.Listing.{listed_branches, listed_clause, listed_clauses, listed_equation}
+use Rattle.mu_unroll.proofs.Common
+use Common.{[], ℕ, ℤ, ◌++◌, ◌+ℤ◌, ◌+◌, ◌^◌, ◌∙◌, ◌∷◌, ◌≡◌, Algebraic, ap, append-nil, append_assoc}
+use Common.{Assign, assign_to, bind_result, Bool, bounds_of, Branches, BranchTree, clause_then}
+use Common.{clauses_of, ClauseTree, ClauseTrees, constant_value, constants_in, Counts, declared_in}
+use Common.{Derivative, EachClause, EachEquation, EachStatement, equation_for, equation_then}
+use Common.{equations_of, EquationTree, EquationTrees, Err, Expression, false, FlatAction}
+use Common.{FlatBranchTree, FlatEquationTree, FlatExpression, FlatModelTree, flattened}
+use Common.{FlatVariable, found, Fraction, IfOk, if◌then◌else◌, inside, Known, List, listed, looped}
+use Common.{LoopVar, meant_in, ModelTree, NameDenotation, nat_lt, no_clauses, no_counts}
+use Common.{no_equations, no_statements, node_count, None, number_of_kind, Ok, one_start, Option}
+use Common.{pos, Progress, progress, Range, Reference, refl, repeated, ResolvedReference, Restart}
+use Common.{restart_of, Result, Rounds, rounds_from, scalar_count, scalars_in, Some, statement_then}
+use Common.{statements_of, StatementTree, StatementTrees, suc, sym, TooMany, true, unrolled}
+use Common.{unrolled_branch, unrolled_branches, unrolled_clause, unrolled_clauses}
+use Common.{unrolled_equation, unrolled_equations, unrolled_start, unrolled_starts}
+use Common.{unrolled_statement, unrolled_statements, unrolled_with, UnrollErr, with_item}
+use Common.{with_maybe, with_more, with_round, with_start, zero}
+use Rattle.std.specs.Prelude.{option_to_list}
+use Rattle.mu_unroll.specs.Listing.{StartValue, each_round, each_value, followed, listed_branches}
+use Rattle.mu_unroll.specs.Listing.{listed_clause, listed_clauses, listed_equation}
 use Rattle.mu_unroll.specs.Listing.{listed_equations, listed_start, listed_starts, listed_statement}
-use Rattle.mu_unroll.specs.Listing.{listed_statements, started, the_action, the_branch}
-use Rattle.mu_unroll.specs.Listing.{the_equation}
-use Rattle.mu_unroll.specs.VariablePlaces.{meant_in, scalar_count, scalars_in}
-use Rattle.mu_unroll.specs.Unrolling.{Progress, assign_to, declared_in, equation_for, inside}
-use Rattle.mu_unroll.specs.Unrolling.{looped, one_action, one_clause, one_equation, one_start}
-use Rattle.mu_unroll.specs.Unrolling.{progress, repeated, restart_of, rounds_from, unrolled}
-use Rattle.mu_unroll.specs.Unrolling.{unrolled_branch, unrolled_branches, unrolled_clause}
-use Rattle.mu_unroll.specs.Unrolling.{unrolled_clauses, unrolled_equation, unrolled_equations}
-use Rattle.mu_unroll.specs.Unrolling.{unrolled_start, unrolled_starts, unrolled_statement}
-use Rattle.mu_unroll.specs.Unrolling.{unrolled_statements, unrolled_with, with_maybe, with_more}
-use Rattle.mu_unroll.specs.Unrolling.{with_start}
-use Rattle.mu_unroll.specs.ConstantValues.{constant_value, bind_result}
+use Rattle.mu_unroll.specs.Listing.{listed_statements, started, the_branch}
 use Rattle.mu_unroll.proofs.Faulty.{after}
 use Rattle.mu_unroll.proofs.Stepping.{any_answer, each_then, each_weaker, itself}
+use Rattle.mu_tree.specs.declared.flat.FlatRole.TheVariants as flat_role
 
 -- a way to go on with a list
 record IsJoin {X Y : Type 0} (join : List X → List Y → List X) : Type 0 where

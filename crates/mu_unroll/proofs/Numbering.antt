@@ -1,27 +1,18 @@
 -- The roles of the scalar variables by number, and the variables that names stand for.
-use Rattle.std.proofs.Common.{◌≡◌, ◌∙◌, ℕ, ◌+◌, ◌<◌, ◌≤◌, List, [], ◌∷◌, ◌++◌, length, map}
-use Rattle.std.proofs.Common.{replicate, slice_get, slice_index_or, refl, sym, ap, ap₂, subst}
-use Rattle.std.proofs.Common.{arith, append_assoc, append-nil, length-append, le_trans, le_refl}
-use Rattle.std.specs.Prelude.{Bool, true, false, bytes_eq, if◌then◌else◌, Option, Some, None}
-use Rattle.std.specs.Prelude.{IfSome, unwrap_or}
+use Rattle.mu_unroll.proofs.Common
+use Common.{[], ℕ, ◌++◌, ◌+◌, ◌<◌, ◌∙◌, ◌∷◌, ◌≡◌, ◌≤◌, ap, append-nil, append_assoc, ap₂, arith}
+use Common.{Bool, bytes_eq, Constant, count_of_kind, declared_in, Discrete, elements_from, false}
+use Common.{first_meant, first_of_kind, FlatRole, FlatVariable, Fraction, get_or as slice_index_or}
+use Common.{has_kind, HasRole, if◌then◌else◌, kind_of, Known, length, length-append, List}
+use Common.{loop_value, LoopVar, map, map-append, meant_after, meant_in, NameDenotation, None}
+use Common.{Nothing, Option, refl, scalar, scalars_in, scalars_of_kind, slice_get, Some, State}
+use Common.{subst, suc, sym, true, unwrap_or, Variable, width, zero}
+use Rattle.std.proofs.Common.{replicate, le_trans, le_refl}
 use Rattle.std.specs.List.Sorted.{IsNonDecreasing}
-use Rattle.std.proofs.lemmas.List.{map-append, replicate-append-replicate, length-replicate}
-use Prim.Native.Nat.{zero, suc}
-use Rattle.mu_num.specs.Fraction.{Fraction}
-use Rattle.mu_tree.specs.declared.flat.FlatRole.{FlatRole}
-use Rattle.mu_tree.specs.declared.flat.FlatRole.TheVariants.{State, Discrete, Algebraic}
-use Rattle.mu_tree.specs.FlatExpression.{FlatVariable}
-use Rattle.mu_tree.specs.FlatModels.{HasRole, rank}
-use Rattle.mu_names.specs.declared.declared_scope.Known.{Known}
-use Rattle.mu_unroll.specs.declared.environment.LoopVar.{LoopVar}
-use Rattle.mu_unroll.specs.declared.environment.NameDenotation.{NameDenotation}
-use Rattle.mu_unroll.specs.declared.environment.NameDenotation.TheVariants.{Constant, Variable}
-use Rattle.mu_unroll.specs.declared.environment.NameDenotation.TheVariants.{Nothing}
-use Rattle.mu_unroll.specs.VariablePlaces.{count_of_kind, elements_from, first_meant, first_of_kind}
-use Rattle.mu_unroll.specs.VariablePlaces.{has_kind, kind_of, loop_value, meant_after, meant_in}
-use Rattle.mu_unroll.specs.VariablePlaces.{scalar, scalar_count, scalars_in, scalars_of}
-use Rattle.mu_unroll.specs.VariablePlaces.{scalars_of_kind, width}
-use Rattle.mu_unroll.specs.Unrolling.{declared_in}
+use Rattle.std.proofs.lemmas.List.{replicate-append-replicate, length-replicate}
+use Rattle.mu_tree.specs.declared.flat.FlatRole.TheVariants.{Algebraic}
+use Rattle.mu_tree.specs.FlatModels.{rank}
+use Rattle.mu_unroll.specs.VariablePlaces.{scalars_of}
 use Rattle.mu_unroll.proofs.Placing.{count-append, count-one, width_of}
 
 -- the roles of variables

@@ -1,25 +1,14 @@
 -- Lists of equations, statements and clauses are unrolled in order.
-use Rattle.std.proofs.Common.{◌≡◌, ◌∙◌, ℕ, List, [], map, ap, sym}
-use Rattle.std.specs.Prelude.{Ok, Result}
-use Rattle.mu_tree.specs.FlatExpression.{FlatAction, FlatBranchTree, FlatEquationTree}
-use Rattle.mu_tree.specs.FlatExpression.{FlatModelTree, FlatVariable}
-use Rattle.mu_tree.specs.ModelTree.{ModelTree, clauses_of, equations_of, statement}
-use Rattle.mu_tree.specs.ModelTree.{statements_of}
-use Rattle.mu_tree.specs.Nests.{NestTree, NestTrees, items_of, statement_item}
-use Rattle.mu_tree.specs.Nests.{statement_items_of}
-use Rattle.mu_tree.specs.declared.tree.Statement.{Statement}
-use Rattle.mu_unroll.specs.declared.environment.LoopVar.{LoopVar}
-use Rattle.mu_unroll.specs.declared.environment.NameDenotation.{NameDenotation}
-use Rattle.mu_unroll.specs.declared.unroll_fault.UnrollErr.{UnrollErr}
-use Rattle.mu_unroll.specs.ConstantFolding.{IsSameStatements, IsSameStep}
-use Rattle.mu_unroll.specs.ConstantValues.{bind_result}
-use Rattle.mu_unroll.specs.Counting.{no_counts}
-use Rattle.mu_unroll.specs.ListUnrolling.{in_order, items_in_order}
-use Rattle.mu_unroll.specs.UnrollFaults.{IsFault}
-use Rattle.mu_unroll.specs.Unrolling.{Progress, Step, progress, statement_once, unrolled_clauses}
-use Rattle.mu_unroll.specs.Unrolling.{unrolled_equations, unrolled_item, unrolled_items}
-use Rattle.mu_unroll.specs.Unrolling.{unrolled_starts, unrolled_statement, unrolled_statements}
-use Rattle.mu_unroll.specs.Unrolling.{unrolled_with}
+use Rattle.mu_unroll.proofs.Common
+use Common.{[], ℕ, ◌∙◌, ◌≡◌, ap, bind_result, clauses_of, equations_of, FlatAction, FlatBranchTree}
+use Common.{FlatEquationTree, FlatModelTree, FlatVariable, in_order, IsFault, IsSameStatements}
+use Common.{IsSameStep, List, LoopVar, map, ModelTree, NameDenotation, no_counts, Ok, Progress}
+use Common.{progress, Result, Statement, statement, statement_item, statement_items_of}
+use Common.{statements_of, Step, sym, unrolled_clauses, unrolled_equations, unrolled_starts}
+use Common.{unrolled_statement, unrolled_statements, unrolled_with, UnrollErr}
+use Rattle.mu_tree.specs.Nests.{NestTree, NestTrees, items_of}
+use Rattle.mu_unroll.specs.ListUnrolling.{items_in_order}
+use Rattle.mu_unroll.specs.Unrolling.{statement_once, unrolled_item, unrolled_items}
 use Rattle.mu_unroll.proofs.Faulty.{after, fault_after, fault_then}
 
 -- items whose trees are those of a list

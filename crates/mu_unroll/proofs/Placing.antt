@@ -1,28 +1,18 @@
 -- Where the variables of declared names stand.
-use Rattle.std.proofs.Common.{◌≡◌, ◌∙◌, ℕ, ◌+◌, ◌-◌, ◌≤◌, ◌<◌, List, [], ◌∷◌, ◌++◌, length, take}
-use Rattle.std.proofs.Common.{drop, get_or, refl, sym, ap, subst, arith, append_assoc, append-nil}
-use Rattle.std.proofs.Common.{add-one}
-use Rattle.std.specs.Prelude.{Bool, true, false, bytes_eq, if◌then◌else◌, Option, Some, None}
-use Rattle.std.specs.Prelude.{unwrap_or}
+use Rattle.mu_unroll.proofs.Common
+use Common.{[], ℕ, ◌++◌, ◌+◌, ◌-◌, ◌<◌, ◌∙◌, ◌∷◌, ◌≡◌, ◌≤◌, add-one, added_at, ap, append-nil}
+use Common.{append_assoc, ArePlaced, arith, Bool, bytes_eq, Constant, count_of_kind, declared_in}
+use Common.{Discrete, drop, element_name, elements_from, false, first_meant, first_of_kind}
+use Common.{FlatRole, get_or, has_kind, if◌then◌else◌, kind_of, Known, length, List, meant_after}
+use Common.{NameDenotation, next_number, None, Nothing, Option, refl, scalar, scalar_count, Some}
+use Common.{State, suc, sym, take, take-suc, true, unwrap_or, Variable, width}
 use Rattle.std.specs.Option.{option_or}
 use Rattle.std.proofs.Math.Path.{fun_ext}
-use Rattle.std.proofs.Math.Seq.{take-suc}
 use Rattle.std.proofs.lemmas.List.{take-append-drop}
-use Prim.Native.Nat.{zero, suc}
-use Rattle.mu_tree.specs.declared.flat.FlatRole.{FlatRole}
-use Rattle.mu_tree.specs.declared.flat.FlatRole.TheVariants.{State, Discrete, Algebraic}
-use Rattle.mu_names.specs.declared.declared_scope.Known.{Known}
-use Rattle.mu_names.specs.NameTables.{added_at}
-use Rattle.mu_unroll.specs.declared.environment.NameDenotation.{NameDenotation}
-use Rattle.mu_unroll.specs.declared.environment.NameDenotation.TheVariants.{Constant, Variable}
-use Rattle.mu_unroll.specs.declared.environment.NameDenotation.TheVariants.{Nothing}
+use Rattle.mu_tree.specs.declared.flat.FlatRole.TheVariants.{Algebraic}
 use Rattle.mu_unroll.specs.declared.flat_variables.Next.{Next}
-use Rattle.mu_unroll.specs.Nexts.{next_number, next_after, meant_at_next, after_known}
-use Rattle.mu_unroll.specs.VariablePlaces.{ArePlaced, IsPlaced, count_of_kind, element_name}
-use Rattle.mu_unroll.specs.VariablePlaces.{elements_from, first_meant, first_of_kind, has_kind}
-use Rattle.mu_unroll.specs.VariablePlaces.{is_kind, kind_of, meant_after, scalar, scalar_count}
-use Rattle.mu_unroll.specs.VariablePlaces.{width}
-use Rattle.mu_unroll.specs.Unrolling.{declared_in}
+use Rattle.mu_unroll.specs.Nexts.{next_after, meant_at_next, after_known}
+use Rattle.mu_unroll.specs.VariablePlaces.{IsPlaced, is_kind}
 
 -- one element and those after it
 pub elements_step : (kind : FlatRole) (k : Known) (before count : ℕ) → before < count → elements_from kind k (before + 1) (count - before) ≡ scalar kind k (element_name k.name (before + 1)) ∷ elements_from kind k (before + 1 + 1) (count - (before + 1))

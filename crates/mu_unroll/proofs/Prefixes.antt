@@ -1,9 +1,7 @@
 -- Lists that were made before others.
-use Rattle.std.proofs.Common.{◌≡◌, ◌∙◌, List, [], ◌∷◌, ◌++◌, refl, sym, ap, append_assoc}
-use Rattle.std.proofs.Common.{append-nil}
-use Rattle.std.specs.Prelude.{Result, Ok, Err}
-use Rattle.mu_unroll.specs.declared.unroll_fault.UnrollErr.{UnrollErr}
-use Rattle.mu_unroll.specs.ConstantValues.{bind_result}
+use Rattle.mu_unroll.proofs.Common
+use Common.{[], ◌++◌, ◌∷◌, ◌≡◌, ap, append_assoc, bind_result, Err, List, Ok, refl, Result, sym}
+use Common.{UnrollErr}
 
 -- a list after another, where there is one
 abbrev pub prefixed : {X : Type 0} → List X → Result (List X) UnrollErr → Result (List X) UnrollErr

@@ -1,20 +1,11 @@
 -- Rounds of loops.
-use Rattle.std.proofs.Common.{◌≡◌, ◌∙◌, ℕ, refl, sym, ap, arith}
-use Rattle.std.specs.Prelude.{true, false, int_le, ℤ, pos, negsuc, neg_ℤ, unsigned_abs, ◌^◌, ◌≤◌}
-use Rattle.std.specs.Prelude.{◌+ℤ◌, ◌-ℤ◌, ◌≤ℤ◌, ◌<ℤ◌, Result, Ok, Err}
-use Prim.Native.Nat.{zero, suc}
-use Rattle.std.proofs.lemmas.Int.{ints}
-use Rattle.std.specs.Prelude.{List}
-use Rattle.mu_tree.specs.ModelTree.{Range}
-use Rattle.mu_unroll.specs.declared.unroll_counts.Counts.{Counts}
-use Rattle.mu_unroll.specs.declared.unroll_fault.UnrollErr.{UnrollErr}
-use Rattle.mu_unroll.specs.declared.environment.NameDenotation.{NameDenotation}
-use Rattle.mu_unroll.specs.Counting.{with_round}
-use Rattle.mu_unroll.specs.UnrollFaults.{IsFault}
-use Rattle.mu_unroll.specs.declared.unrolled_values.Rounds.{Rounds}
-use Rattle.mu_unroll.specs.LoopBounds.{AreRoundsBounded, bounds_of}
-use Rattle.mu_unroll.specs.Unrolling.{Progress, looped, natural, progress, repeated, rounds_from}
-use Rattle.mu_unroll.specs.ConstantValues.{bind_result}
+use Rattle.mu_unroll.proofs.Common
+use Common.{ℕ, ℤ, ◌+ℤ◌, ◌^◌, ◌∙◌, ◌≡◌, ◌≤ℤ◌, ◌≤◌, ap, AreRoundsBounded, arith, bind_result}
+use Common.{bounds_of, Counts, Err, false, int_le, ints, IsFault, List, looped, NameDenotation, Ok}
+use Common.{pos, Progress, progress, Range, refl, repeated, Result, Rounds, rounds_from, suc, sym}
+use Common.{true, UnrollErr, unsigned_abs, with_round, zero}
+use Rattle.std.specs.Prelude.{negsuc, neg_ℤ, ◌-ℤ◌, ◌<ℤ◌}
+use Rattle.mu_unroll.specs.Unrolling.{natural}
 use Rattle.mu_unroll.proofs.Faulty.{after, fault_after, fault_same, fault_then}
 
 -- by the difference

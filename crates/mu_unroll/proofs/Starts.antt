@@ -1,11 +1,8 @@
 -- Start values of variables.
-use Rattle.std.proofs.Common.{◌≡◌, ◌<◌, ◌≤◌, ℕ, List, [], ◌∷◌, length, map, set, get_or, refl, ap}
-use Rattle.std.proofs.Common.{arith}
-use Prim.Native.Nat.{zero, suc}
-use Rattle.mu_num.specs.Fraction.{Fraction}
-use Rattle.mu_tree.specs.declared.flat.FlatVar.{FlatVar}
-use Rattle.mu_tree.specs.FlatExpression.{FlatVariable, flat_variable}
-use Rattle.mu_unroll.specs.Unrolling.{start_at}
+use Rattle.mu_unroll.proofs.Common
+use Common.{[], ℕ, ◌<◌, ◌∷◌, ◌≡◌, ◌≤◌, ap, arith, flat_variable, FlatVar, FlatVariable, Fraction}
+use Common.{get_or, length, List, map, refl, start_at, suc, zero}
+use Rattle.std.proofs.Common.{set}
 
 -- the variable at a place gets a start value
 pub start_set : (vs : List FlatVar) (place : ℕ) (d : FlatVar) (a : Fraction) → place < length vs → d ≡ get_or vs place d → map flat_variable (set vs place (record d { start = a })) ≡ start_at (map flat_variable vs) place a

@@ -1,8 +1,5 @@
 -- Properties of the results of successive steps.
-use Rattle.std.proofs.Common.{◌≡◌, IfOk, refl}
-use Rattle.std.specs.Prelude.{Result, Ok, Err}
-use Rattle.mu_unroll.specs.declared.unroll_fault.UnrollErr.{UnrollErr}
-use Rattle.mu_unroll.specs.ConstantValues.{bind_result}
+use Rattle.mu_unroll.proofs.Common.{◌≡◌, bind_result, Err, IfOk, Ok, refl, Result, UnrollErr}
 
 -- a property of the second result, if the first result has this property
 pub each_then : {A B : Type 0} (P : A → Type 0) (Q : B → Type 0) (r : Result A UnrollErr) (next : A → Result B UnrollErr) → IfOk r P → ((a : A) → P a → IfOk (next a) Q) → IfOk (bind_result r next) Q

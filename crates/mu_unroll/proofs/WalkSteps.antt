@@ -1,28 +1,15 @@
 -- The steps of the walks through lists of items and through branches.
-use Rattle.std.proofs.Common.{◌≡◌, ◌∙◌, sym, ◌∷◌, ◌+◌, ◌<◌, ◌≤◌, ℕ, List, [], length, get_or, map, drop, add-one, refl, ap}
-use Rattle.std.specs.Prelude.{Err, Ok, Result, true}
+use Rattle.mu_unroll.proofs.Common
+use Common.{[], ℕ, ◌+◌, ◌<◌, ◌∙◌, ◌∷◌, ◌≡◌, ◌≤◌, add-one, ap, bind_result, bounds_of, Branch}
+use Common.{branch, BranchTree, Counts, denoted, drop, Environment, Err, FlatAction, FlatBranchTree}
+use Common.{FlatExpression, flattened, get_or, in_order, in_rounds, inside, IsFault, length, List}
+use Common.{LoopVar, map, meant_at, meant_in, NameDenotation, node_count, Ok, Progress, progress}
+use Common.{Range, refl, repeated, Result, Rounds, rounds_from, statements_of, Step, sym, true}
+use Common.{unrolled_branch, unrolled_branches, unrolled_statements, UnrollErr, with_item}
+use Common.{with_more}
 use Rattle.std.proofs.lemmas.List.{drop_all}
 use Rattle.std.proofs.Math.Seq.{drop-cons}
-use Rattle.mu_tree.specs.FlatExpression.{FlatAction, FlatBranchTree, FlatExpression}
-use Rattle.mu_tree.specs.ModelTree.{BranchTree, Range, branch, statements_of}
-use Rattle.mu_tree.specs.declared.tree.Branch.{Branch}
 use Rattle.mu_names.proofs.Shapes.{branches_from}
-use Rattle.mu_unroll.specs.declared.environment.Environment.{Environment}
-use Rattle.mu_unroll.specs.declared.environment.LoopVar.{LoopVar}
-use Rattle.mu_unroll.specs.declared.environment.NameDenotation.{NameDenotation}
-use Rattle.mu_unroll.specs.declared.unroll_counts.Counts.{Counts}
-use Rattle.mu_unroll.specs.declared.unroll_fault.UnrollErr.{UnrollErr}
-use Rattle.mu_unroll.specs.ConstantValues.{bind_result}
-use Rattle.mu_unroll.specs.Counting.{node_count, with_item}
-use Rattle.mu_unroll.specs.Flattening.{flattened}
-use Rattle.mu_unroll.specs.declared.unrolled_values.Rounds.{Rounds}
-use Rattle.mu_unroll.specs.ListUnrolling.{in_order, in_rounds}
-use Rattle.mu_unroll.specs.LoopBounds.{bounds_of}
-use Rattle.mu_unroll.specs.UnrollFaults.{IsFault}
-use Rattle.mu_unroll.specs.Unrolling.{Progress, Step, inside, progress, repeated, rounds_from}
-use Rattle.mu_unroll.specs.Unrolling.{unrolled_branch, unrolled_branches, unrolled_statements, with_more}
-use Rattle.mu_unroll.specs.VariablePlaces.{meant_in}
-use Rattle.mu_unroll.specs.VariableTables.{denoted, meant_at}
 use Rattle.mu_unroll.proofs.Faulty.{after, is_fault}
 use Rattle.mu_unroll.proofs.Rounding.{loop_begins}
 use Rattle.mu_unroll.proofs.Walks.{rounds_left, step_in}
@@ -103,7 +90,7 @@ pub branch_unrolled : (d : List ℕ → NameDenotation) (ls : List LoopVar) (b :
 branch_unrolled d ls b p c l r q counted left right body =
     let k = b.condition in
     let made : FlatExpression → FlatExpression → Progress FlatAction
-        → Result (Progress FlatBranchTree) UnrollErr =
+    → Result (Progress FlatBranchTree) UnrollErr =
     λ x y z. Ok (with_more p z.counts (record {
       left = x;
       rel = k.rel;

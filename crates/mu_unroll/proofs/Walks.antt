@@ -1,25 +1,13 @@
 -- Steps of the four walks through equations, statements, clauses and start assignments.
-use Rattle.std.proofs.Common.{◌≡◌, ◌∙◌, ◌+◌, ◌-◌, ◌++◌, ◌∷◌, [], ℕ, List, length, take, refl, sym}
-use Rattle.std.proofs.Common.{ap, arith}
-use Rattle.std.specs.Prelude.{ℤ, pos, ◌+ℤ◌, ◌≤◌, ◌^◌, true, false, int_le, unsigned_abs, Result, Ok}
-use Rattle.std.specs.Prelude.{Err, IfErr}
+use Rattle.mu_unroll.proofs.Common
+use Common.{[], ℕ, ℤ, ◌++◌, ◌+ℤ◌, ◌-◌, ◌^◌, ◌∙◌, ◌∷◌, ◌≡◌, ◌≤◌, ap, AreRoundsBounded, arith}
+use Common.{bind_result, Counts, Environment, Err, false, IfErr, inside, int_le, IsFault, length}
+use Common.{List, LoopVar, meant_at, Ok, pos, Progress, progress, refl, repeated, Result, Rounds}
+use Common.{rounds_from, Step, sym, take, true, UnrollErr, unsigned_abs, whole, with_round}
 use Rattle.std.specs.Result.{IsErrAnd}
 use Rattle.std.proofs.lemmas.Result.{err_from_is_err_and}
 use Rattle.std.proofs.lemmas.Grind.{common_steps}
-use Rattle.mu_num.specs.Fraction.{whole}
-use Rattle.mu_unroll.specs.declared.unroll_counts.Counts.{Counts}
-use Rattle.mu_unroll.specs.declared.unroll_fault.UnrollErr.{UnrollErr}
-use Rattle.mu_unroll.specs.declared.environment.Environment.{Environment}
-use Rattle.mu_unroll.specs.declared.environment.LoopVar.{LoopVar}
-use Rattle.mu_unroll.specs.declared.environment.NameDenotation.{NameDenotation}
-use Rattle.mu_unroll.specs.declared.unrolled_values.Rounds.{Rounds}
-use Rattle.mu_unroll.specs.ConstantValues.{bind_result}
-use Rattle.mu_unroll.specs.Counting.{with_round}
 use Rattle.mu_unroll.specs.Environments.{HasSameNames}
-use Rattle.mu_unroll.specs.LoopBounds.{AreRoundsBounded}
-use Rattle.mu_unroll.specs.UnrollFaults.{IsFault}
-use Rattle.mu_unroll.specs.Unrolling.{Progress, Step, inside, progress, repeated, rounds_from}
-use Rattle.mu_unroll.specs.VariableTables.{meant_at}
 use Rattle.mu_unroll.proofs.Faulty.{after, fault_same, fault_then, is_fault}
 use Rattle.mu_unroll.proofs.Rounding.{le_of, lt_of, near_next, near_small, round_fault, round_limit}
 use Rattle.mu_unroll.proofs.Rounding.{round_none, round_step}

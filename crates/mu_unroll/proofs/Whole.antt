@@ -1,19 +1,11 @@
 -- The whole of unrolling, by its steps.
-use Rattle.std.proofs.Common.{◌≡◌, ◌∙◌, ℕ, ◌+◌, ◌^◌, List, IfOk, refl, sym, ap, ap₂, subst}
-use Rattle.std.specs.Prelude.{nat_lt, Bool, true, false, if◌then◌else◌, Result, Ok, Err}
+use Rattle.mu_unroll.proofs.Common
+use Common.{ℕ, ◌+◌, ◌^◌, ◌∙◌, ◌≡◌, ap, ap₂, declared_in, Err, false, FlatModelTree, FlatVariable}
+use Common.{IfOk, if◌then◌else◌, IsFlatModel, IsNumbered, IsWellFormed, Known, List, listed}
+use Common.{ModelTree, NameDenotation, nat_lt, Ok, Result, scalar_count, scalars_in, subst, sym}
+use Common.{TooMany, unrolled, unrolled_with, UnrollErr}
 use Rattle.mu_tree.specs.declared.flat.FlatModel.{FlatModel}
-use Rattle.mu_tree.specs.FlatExpression.{FlatVariable, FlatModelTree, flat_model}
-use Rattle.mu_tree.specs.FlatModels.{IsFlatModel}
-use Rattle.mu_tree.specs.ModelTree.{ModelTree}
-use Rattle.mu_causal.specs.Dependencies.{IsNumbered}
-use Rattle.mu_names.specs.declared.declared_scope.Known.{Known}
-use Rattle.mu_unroll.specs.declared.unroll_fault.UnrollErr.{UnrollErr}
-use Rattle.mu_unroll.specs.declared.unroll_fault.UnrollErr.TheVariants.{TooMany}
-use Rattle.mu_unroll.specs.declared.environment.NameDenotation.{NameDenotation}
-use Rattle.mu_unroll.specs.Listing.{listed}
-use Rattle.mu_unroll.specs.VariablePlaces.{scalar_count, scalars_in}
-use Rattle.mu_unroll.specs.Unrolling.{declared_in, unrolled, unrolled_with}
-use Rattle.mu_unroll.specs.WellFormed.{IsWellFormed}
+use Rattle.mu_tree.specs.FlatExpression.{flat_model}
 use Rattle.mu_unroll.proofs.FlatModels.{flat_model_right, numbered_right}
 use Rattle.mu_unroll.proofs.Listed.{listed_right}
 

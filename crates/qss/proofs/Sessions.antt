@@ -1,6 +1,6 @@
 -- The call that an observer sees of a run of the program computes its specification.
-use Rattle.std.proofs.Common.{◌≡◌, ◌≢◌, ◌⊎◌, ◌<◌, ◌≤◌, Bool, true, ℕ, List, [], ◌++◌, refl, sym}
-use Rattle.std.proofs.Common.{ap, ◌∙◌, subst, ◌∷◌, inl, inr, None, Some, append-nil, append_assoc}
+use Rattle.std.proofs.Common.{◌≡◌, ◌≢◌, ◌⊎◌, ◌<◌, ◌≤◌, Bool, true, ℕ, List, [], ◌++◌, refl, sym, ap}
+use Rattle.std.proofs.Common.{◌∙◌, subst, ◌∷◌, inl, inr, None, Some, append-nil, append_assoc}
 use Rattle.std.proofs.Common.{codes, arith, false, Result, Ok, Err, is_err, OnOk}
 use Rattle.std.specs.declared.option.Option.{Option}
 use Rattle.std.specs.Io.KnownBytes.{Appends}
@@ -10,14 +10,13 @@ use Rattle.mu_io.specs.Sinks.{AppendsPrefix}
 use Rattle.qss_cli.specs.Commands.{Command}
 use Rattle.qss_top.specs.MachineAnswers.{Answer, IsMessageText}
 use Rattle.qss_top.specs.ReadAnswers.{DeterminesAnswer}
-use Rattle.qss_top.specs.Calls.{IsTrueToReads}
+use Rattle.qss_top.specs.Calls.{IsTrueToReads, Call, ComputesSpecification}
 use Rattle.qss_top.specs.WrittenTexts.{IsCutText, IsPrefix, IsUsageReported, IsLineWritten}
 use Rattle.qss_top.specs.Statuses.{leaves_out}
-use Rattle.qss_top.specs.Calls.{Call, ComputesSpecification}
 use Rattle.qss_top.specs.declared.status.Status.{Status}
-use Rattle.qss_top.specs.declared.status.Status.TheVariants as ends
 use Rattle.qss_top.specs.Sessions.{IsAccepted, IsSession, seen}
 use Rattle.qss.specs.FinalStatuses.{IsFinalStatus, line_of}
+use Rattle.qss_top.specs.declared.status.Status.TheVariants as ends
 
 -- what holds for a success, if the result is no error
 pub if_ok : {A E : Type 0} (res : Result A E) (P : Type 0) → is_err res ≡ false → OnOk res P → P

@@ -1,15 +1,14 @@
 -- The bounds in the texts of answers hold.
-use Rattle.std.proofs.Common.{◌≡◌, ℕ, inl, inr, List, sym, subst}
-use Rattle.qss_machine.specs.declared.compiled_machine.Machine.{Machine}
+use Rattle.qss_answers.proofs.Common
+use Common.{ℕ, ◌≡◌, bounds_text, Certificate, certificate_text, inl, inr, IsCertification}
+use Common.{IsProposed, IsSoundCertification, IsSoundProposal, judged, List, Machine, subst, sym}
+use Common.{Verdict, written}
 use Rattle.qss_machine.proofs.Near.{quanta_positive}
 use Rattle.cert_check.specs.CertificateData.{certificate_data}
 use Rattle.cert_check.specs.CertificateTexts.{IsTextOf}
 use Rattle.cert_check.specs.CheckVerdicts.{IsVerdict}
 use Rattle.cert_check.specs.Inequalities.{Holds}
 use Rattle.cert_check.specs.Systems.{system_of}
-use Rattle.cert_check.specs.Written.{certificate_text}
-use Rattle.cert_check.specs.declared.certificate.Certificate.{Certificate}
-use Rattle.cert_check.specs.declared.inequality_checker.Verdict.{Verdict}
 use Rattle.cert_check.specs.declared.inequality_checker.Verdict.TheVariants.{Accepted}
 use Rattle.cert_check.proofs.Accepted.{accepted-holds}
 use Rattle.cert_check.proofs.Admit.{admitted}
@@ -17,14 +16,8 @@ use Rattle.cert_check.proofs.Join.{promised}
 use Rattle.cert_check.proofs.WrittenLines.{reads-back}
 use Rattle.cert_solution.proofs.Halved.{halves}
 use Rattle.cert_solution.proofs.Near.{reaches_solutions}
-use Rattle.cert_propose.specs.declared.certificate_proposal.Proposal.TheVariants as proposal
-use Rattle.qss_answers.specs.Answers.{written, judged}
-use Rattle.qss_answers.specs.BoundTexts.{bounds_text}
-use Rattle.qss_answers.specs.CertificateAnswers.{IsCertification}
-use Rattle.qss_answers.specs.AcceptedBounds.{IsSoundCertification}
-use Rattle.qss_answers.specs.ProposalAnswers.{IsProposed}
-use Rattle.qss_answers.specs.ProposedBounds.{IsSoundProposal}
 use Rattle.qss_answers.proofs.Ends.{judged_text}
+use Rattle.cert_propose.specs.declared.certificate_proposal.Proposal.TheVariants as proposal
 
 -- a certificate whose answer is a text is accepted, its inequalities hold, and the text is the one
 -- for an accepted certificate

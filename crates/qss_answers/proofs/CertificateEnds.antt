@@ -1,25 +1,17 @@
 -- How calls for a certificate end.
-use Rattle.std.proofs.Common.{◌≡◌, Bool, ℕ, ◌≤◌, inl, inr, List, length, refl, sym, subst, arith}
-use Rattle.std.specs.Prelude.{Option, Result, Ok, Err, IfOk, IfErr}
-use Rattle.std.specs.declared.alloc.Global.{Global}
-use Rattle.std.specs.declared.vec.Vec.{Vec}
-use Rattle.std.specs.Io.KnownBytes.{Appends}
-use Rattle.qss_machine.specs.declared.compiled_machine.Machine.{Machine}
-use Rattle.cert_check.specs.Scope.{IsInScope}
-use Rattle.cert_check.specs.declared.certificate.Certificate.{Certificate}
-use Rattle.qss_answers.specs.Answers.{Answer, refused, written, TakesMemory, HasNoText, Ends}
-use Rattle.qss_answers.specs.BoundTexts.{bounds_text}
-use Rattle.qss_answers.specs.CertificateAnswers.{limit, IsRefusal, IsRead, IsCertified}
-use Rattle.qss_answers.specs.CertificateAnswers.{IsCertification, IsUpgrade, HasNoBounds, RefusesBy}
-use Rattle.qss_answers.specs.AcceptedBounds.{IsSoundCertification}
-use Rattle.qss_answers.specs.declared.answer_result.AnswerErr.{AnswerErr}
-use Rattle.qss_answers.specs.declared.answer_result.AnswerErr.TheVariants as error
-use Rattle.qss_answers.specs.declared.answer_result.AnswerResult.{AnswerResult}
-use Rattle.qss_answers.specs.declared.answer_result.AnswerResult.TheVariants as ending
-use Rattle.qss_answers.specs.declared.refusal.Refusal.{Refusal}
+use Rattle.qss_answers.proofs.Common
+use Common.{ℕ, ◌≡◌, Answer, AnswerErr, AnswerResult, Appends, arith, Bool, bounds_text, Certificate}
+use Common.{Ends, Err, Global, HasNoText, IfErr, IfOk, inl, inr, IsCertification, IsInScope}
+use Common.{IsSoundCertification, IsUpgrade, length, List, Machine, Ok, Option, refl, Refusal}
+use Common.{refused, Result, subst, sym, TakesMemory, Vec, written}
+use Rattle.std.proofs.Common.{◌≤◌}
+use Rattle.qss_answers.specs.CertificateAnswers.{limit, IsRefusal, IsRead, IsCertified, HasNoBounds}
+use Rattle.qss_answers.specs.CertificateAnswers.{RefusesBy}
 use Rattle.qss_answers.proofs.BoundsHold.{bounds}
 use Rattle.qss_answers.proofs.Ends.{judged_takes}
 use Rattle.qss_answers.proofs.Scopes.{not_outside}
+use Rattle.qss_answers.specs.declared.answer_result.AnswerErr.TheVariants as error
+use Rattle.qss_answers.specs.declared.answer_result.AnswerResult.TheVariants as ending
 
 module _ (m : Machine) (bytes : List ℕ) where
   -- if the machine is in scope and the bytes are not too long, each answer allocates

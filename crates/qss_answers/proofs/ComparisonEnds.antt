@@ -1,12 +1,9 @@
 -- How the steps of a comparison end.
-use Rattle.std.proofs.Common.{◌≡◌, ℕ, inl, inr, refl, sym, subst}
-use Rattle.std.specs.Prelude.{Result, Ok, Err, IfErr}
-use Rattle.qss_machine.specs.Machines.{state_count}
-use Rattle.qss_machine.specs.declared.compiled_machine.Machine.{Machine}
-use Rattle.cert_check.specs.declared.certificate.Certificate.{Certificate}
-use Rattle.qss_trace.specs.declared.trace.Trace.{Trace}
-use Rattle.qss_answers.specs.Comparisons.{RunSource, first_order, second_order, traced, IsGivenRun}
-use Rattle.qss_answers.specs.Comparisons.{IsFirstAbove, HasNoRunTrace, MayStop, IfMemory}
+use Rattle.qss_answers.proofs.Common
+use Common.{ℕ, ◌≡◌, Certificate, Err, first_order, IfErr, inl, inr, Machine, Ok, refl, Result}
+use Common.{second_order, state_count, subst, sym, Trace, traced}
+use Rattle.qss_answers.specs.Comparisons.{RunSource, IsGivenRun, IsFirstAbove, HasNoRunTrace}
+use Rattle.qss_answers.specs.Comparisons.{MayStop, IfMemory}
 use Rattle.qss_answers.specs.declared.comparison_ending.ComparisonStop.{ComparisonStop}
 use Rattle.qss_answers.specs.declared.comparison_ending.ComparisonStop.TheVariants as stops
 use Rattle.qss_answers.specs.declared.refusal.Refusal.TheVariants as refusal

@@ -1,15 +1,11 @@
 -- How calls end.
-use Rattle.std.proofs.Common.{◌≡◌, Bool, ℕ, List, refl, sym, subst}
-use Rattle.std.specs.Prelude.{Option, Result, Ok, Err, IfOk, IfErr}
-use Rattle.std.specs.declared.alloc.Global.{Global}
-use Rattle.std.specs.declared.vec.Vec.{Vec}
-use Rattle.cert_check.specs.declared.inequality_checker.Verdict.{Verdict}
+use Rattle.qss_answers.proofs.Common
+use Common.{ℕ, ◌≡◌, Answer, AnswerErr, AnswerResult, Bool, Ends, Err, Global, HasNoText, IfErr}
+use Common.{IfOk, judged, List, Ok, Option, refl, Result, subst, sym, TakesMemory, Vec, Verdict}
+use Common.{written}
+use Rattle.qss_answers.specs.Answers.{WritesText, result_of}
 use Rattle.cert_check.specs.declared.inequality_checker.Verdict.TheVariants as verdict
-use Rattle.qss_answers.specs.Answers.{Answer, written, judged, TakesMemory, WritesText}
-use Rattle.qss_answers.specs.Answers.{result_of, HasNoText, Ends}
-use Rattle.qss_answers.specs.declared.answer_result.AnswerErr.{AnswerErr}
 use Rattle.qss_answers.specs.declared.answer_result.AnswerErr.TheVariants as error
-use Rattle.qss_answers.specs.declared.answer_result.AnswerResult.{AnswerResult}
 use Rattle.qss_answers.specs.declared.answer_result.AnswerResult.TheVariants as ending
 
 -- the answer to a verdict allocates

@@ -1,3 +1,4 @@
+mod Common
 mod Lines
 pub mod Scopes
 mod Ends

@@ -1,8 +1,7 @@
 -- The lines of the states with their bounds.
-use Rattle.std.proofs.Common.{◌≡◌, ℕ, ◌⊎◌, inl, inr, List, [], ◌∷◌, ◌++◌, ℤ, refl, sym, ap, ap₂}
-use Rattle.std.proofs.Common.{◌∙◌, append_assoc}
-use Rattle.qss_machine.specs.declared.machine_parts.StateInfo.{StateInfo}
-use Rattle.qss_answers.specs.BoundTexts.{bound_line, bound_lines}
+use Rattle.qss_answers.proofs.Common
+use Common.{ℕ, ℤ, ◌++◌, ◌∙◌, ◌≡◌, ap, bound_line, bound_lines, inl, inr, List, refl, StateInfo, sym}
+use Rattle.std.proofs.Common.{◌⊎◌, [], ◌∷◌, ap₂, append_assoc}
 
 -- the line of the first state and the lines of the others
 pub line_more : (done : List ℕ) (ss rest : List StateInfo) (s : StateInfo) (bs later : List ℤ) (b : ℤ) → ss ≡ s ∷ rest → bs ≡ b ∷ later

@@ -1,26 +1,18 @@
 -- How calls of `propose` end.
-use Rattle.std.proofs.Common.{◌≡◌, Bool, ℕ, inl, inr, List, refl, sym, subst}
-use Rattle.std.specs.Prelude.{Option, Result, Ok, Err, IfOk, IfErr}
-use Rattle.std.specs.declared.alloc.Global.{Global}
-use Rattle.std.specs.declared.vec.Vec.{Vec}
-use Rattle.std.specs.Io.KnownBytes.{Appends}
-use Rattle.qss_machine.specs.declared.compiled_machine.Machine.{Machine}
-use Rattle.cert_check.specs.Scope.{IsInScope}
-use Rattle.cert_check.specs.Written.{certificate_text}
-use Rattle.cert_check.specs.declared.certificate.Certificate.{Certificate}
+use Rattle.qss_answers.proofs.Common
+use Common.{ℕ, ◌≡◌, Answer, AnswerErr, AnswerResult, Appends, Bool, Certificate, certificate_text}
+use Common.{Ends, Err, Global, HasNoText, IfErr, IfOk, inl, inr, IsInScope, IsProposed}
+use Common.{IsSoundProposal, List, Machine, Ok, Option, refl, Result, subst, sym, TakesMemory, Vec}
+use Common.{written}
 use Rattle.cert_propose.specs.Proposals.{IsProposal, HasCandidate}
 use Rattle.cert_propose.specs.declared.certificate_proposal.Proposal.{Proposal}
-use Rattle.cert_propose.specs.declared.certificate_proposal.Proposal.TheVariants as proposal
-use Rattle.qss_answers.specs.Answers.{Answer, written, TakesMemory, HasNoText, Ends}
-use Rattle.qss_answers.specs.ProposalAnswers.{answer_of, IsProposed}
-use Rattle.qss_answers.specs.ProposedBounds.{IsSoundProposal}
-use Rattle.qss_answers.specs.declared.answer_result.AnswerErr.{AnswerErr}
-use Rattle.qss_answers.specs.declared.answer_result.AnswerErr.TheVariants as error
-use Rattle.qss_answers.specs.declared.answer_result.AnswerResult.{AnswerResult}
-use Rattle.qss_answers.specs.declared.answer_result.AnswerResult.TheVariants as ending
+use Rattle.qss_answers.specs.ProposalAnswers.{answer_of}
 use Rattle.qss_answers.proofs.BoundsHold.{kept_texts}
 use Rattle.qss_answers.proofs.Ends.{judged_takes}
 use Rattle.qss_answers.proofs.Scopes.{not_outside}
+use Rattle.cert_propose.specs.declared.certificate_proposal.Proposal.TheVariants as proposal
+use Rattle.qss_answers.specs.declared.answer_result.AnswerErr.TheVariants as error
+use Rattle.qss_answers.specs.declared.answer_result.AnswerResult.TheVariants as ending
 
 -- if the machine is in scope and has a candidate, each answer allocates
 pub candidate_takes : (m : Machine) → IsInScope m → HasCandidate m → (a : Answer) → IsProposed m a

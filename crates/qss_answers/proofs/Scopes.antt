@@ -1,7 +1,6 @@
 -- A machine that is out of scope of certificates is not in scope.
-use Rattle.std.proofs.Common.{inl, inr, length, ap, arith}
-use Rattle.qss_machine.specs.declared.compiled_machine.Machine.{Machine}
-use Rattle.cert_check.specs.Scope.{IsInScope, IsOutsideBy}
+use Rattle.qss_answers.proofs.Common.{ap, arith, inl, inr, IsInScope, length, Machine}
+use Rattle.cert_check.specs.Scope.{IsOutsideBy}
 use Rattle.cert_check.specs.declared.certificate_scope.Outside.{Outside}
 use Rattle.cert_check.specs.declared.certificate_scope.Outside.TheVariants.{HasClauses, States}
 

@@ -1,25 +1,19 @@
 -- How calls for a trace end.
-use Rattle.std.proofs.Common.{◌≡◌, Bool, ℕ, inl, inr, List, subst, arith}
-use Rattle.std.specs.Prelude.{Option}
-use Rattle.std.specs.Io.KnownBytes.{Appends}
-use Rattle.qss_machine.specs.Machines.{state_count}
-use Rattle.qss_machine.specs.declared.compiled_machine.Machine.{Machine}
+use Rattle.qss_answers.proofs.Common
+use Common.{ℕ, ◌≡◌, AnswerResult, Appends, arith, Bool, Ends, inl, inr, IsChecked, List, Machine}
+use Common.{Option, Refusal, refused, state_count, subst, Trace, written}
 use Rattle.qss_trace.specs.Trace.{IsRunOf}
 use Rattle.qss_trace.specs.TraceTexts.{IsTextOf}
 use Rattle.qss_trace.specs.TraceVerdicts.{IsVerdict}
-use Rattle.qss_trace.specs.declared.trace.Trace.{Trace}
 use Rattle.qss_trace.specs.declared.trace_checker.TraceVerdict.{TraceVerdict}
-use Rattle.qss_trace.specs.declared.trace_checker.TraceVerdict.TheVariants as verdict
 use Rattle.qss_trace.proofs.OneTrace.{one-trace}
 use Rattle.qss_trace.proofs.OneVerdict.{one-verdict}
 use Rattle.qss_trace.proofs.Runs.{run-holds, holds-run}
 use Rattle.qss_trace.proofs.Spelt.{fault-or-text}
-use Rattle.qss_answers.specs.Answers.{refused, written, Ends}
-use Rattle.qss_answers.specs.TraceAnswers.{IsRefusal, IsRead, IsAccepted, IsChecked, summary}
-use Rattle.qss_answers.specs.declared.answer_result.AnswerResult.{AnswerResult}
-use Rattle.qss_answers.specs.declared.answer_result.AnswerResult.TheVariants as ending
-use Rattle.qss_answers.specs.declared.refusal.Refusal.{Refusal}
+use Rattle.qss_answers.specs.TraceAnswers.{IsRefusal, IsRead, IsAccepted, summary}
 use Rattle.qss_answers.proofs.Scopes.{not_outside}
+use Rattle.qss_trace.specs.declared.trace_checker.TraceVerdict.TheVariants as verdict
+use Rattle.qss_answers.specs.declared.answer_result.AnswerResult.TheVariants as ending
 
 module _ (m : Machine) (bytes : List ℕ) where
   -- a trace that is accepted is a legitimate run, and conversely

@@ -1,17 +1,23 @@
 -- The relative quantum of a command is at most 2048.
-use Rattle.std.proofs.Common.{◌≡◌, ◌≤◌, Bool, true, false, ℕ, List, [], ◌∷◌, None, Some, refl, arith}
+use Rattle.std.proofs.Common.{◌≡◌, ◌≤◌, Bool, true, false, ℕ, List, [], ◌∷◌, None, Some, refl}
+use Rattle.std.proofs.Common.{arith}
 use Rattle.std.specs.declared.option.Option.{Option}
-use Rattle.std.specs.Prelude.{◌&&◌, IfSome, codes, nat_le, option_map, option_and_then, if◌then◌else◌}
+use Rattle.std.specs.Prelude.{◌&&◌, IfSome, codes, nat_le, option_map, option_and_then}
+use Rattle.std.specs.Prelude.{if◌then◌else◌}
 use Rattle.std.specs.Str.Parse.{digits_value}
 use Rattle.std.proofs.lemmas.Bool.Decides.{nat_tests}
 use Rattle.clap.specs.Words.{Row, first_of}
 use Rattle.qss_quant.specs.declared.quantizer.Rule.{Rule}
 use Rattle.qss_cli.specs.CommandLine.{takes, matches_in}
-use Rattle.qss_cli.specs.Commands.{RunOptions, Command, run_model, certify_model, generate_model, rule_named, share_of, share_given, options_given, of_one, of_two, of_four, generation, command_for, command_by, command_named, words_given, command_given, command_of}
+use Rattle.qss_cli.specs.Commands.{RunOptions, Command, run_model, certify_model, generate_model}
+use Rattle.qss_cli.specs.Commands.{rule_named, share_of, share_given, options_given, of_one, of_two}
+use Rattle.qss_cli.specs.Commands.{of_four, generation, command_for, command_by, command_named}
+use Rattle.qss_cli.specs.Commands.{words_given, command_given, command_of}
 use Rattle.qss_cli.specs.NumberWords.{is_number, seed_in, cells_in}
 use Rattle.qss_cli.specs.Verbs.{verb_named, goes_with}
 use Rattle.qss_cli.specs.declared.verb.Verb.{Verb}
-use Rattle.qss_cli.specs.declared.verb.Verb.TheVariants.{Run, Print, Certify, Upgrade, Generate, Check, Propose, Second, Compare, Devs}
+use Rattle.qss_cli.specs.declared.verb.Verb.TheVariants.{Run, Print, Certify, Upgrade, Generate}
+use Rattle.qss_cli.specs.declared.verb.Verb.TheVariants.{Check, Propose, Second, Compare, Devs}
 
 -- the relative quantum of a command, if it has one, is at most 2048
 abbrev pub HasShare : Command → Type 0

@@ -5,11 +5,13 @@ use Rattle.clap.specs.Words.{Row, first_of}
 use Rattle.clap.specs.Takes.{is_given}
 use Rattle.clap.proofs.OnLiterals.{clap_on_literals}
 use Rattle.qss_cli.specs.CommandLine.{takes, matches_in}
-use Rattle.qss_cli.specs.Commands.{RunOptions, run_model, options_given, of_one, command_by, command_named, command_of}
+use Rattle.qss_cli.specs.Commands.{RunOptions, run_model, options_given, of_one, command_by}
+use Rattle.qss_cli.specs.Commands.{command_named, command_of}
 use Rattle.qss_cli.specs.CommandLineLaws.{WordsBehind, WordsWorked, nothing_written}
 use Rattle.qss_cli.specs.Verbs.{verb_named}
 use Rattle.qss_cli.specs.declared.verb.Verb.{Verb}
-use Rattle.qss_cli.specs.declared.verb.Verb.TheVariants.{Run, Print, Certify, Upgrade, Generate, Check, Propose, Second, Compare, Devs}
+use Rattle.qss_cli.specs.declared.verb.Verb.TheVariants.{Run, Print, Certify, Upgrade, Generate}
+use Rattle.qss_cli.specs.declared.verb.Verb.TheVariants.{Check, Propose, Second, Compare, Devs}
 
 -- no option was written
 record IsPlain (found : List Row) : Type 0 where

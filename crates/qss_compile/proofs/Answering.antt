@@ -1,39 +1,22 @@
 -- What a phase answers as its fault is a refusal of the source, or an allocation failure.
-use Rattle.std.proofs.Common.{◌≡◌, ap, sym, subst, refl, inl, inr, ◌⊎◌, ℕ, List}
-use Rattle.mu_affine.specs.KeptForms.{AreForms, IsAffineFault}
-use Rattle.mu_affine.specs.declared.affine_fault.AffineErr.{AffineErr}
-use Rattle.mu_affine.specs.declared.affine_fault.AffineErr.TheVariants as forming
-use Rattle.mu_causal.specs.OrderResults.{IsCausalFault}
-use Rattle.mu_causal.specs.declared.causal_outcome.CausalErr.{CausalErr}
-use Rattle.mu_causal.specs.declared.causal_outcome.CausalErr.TheVariants as ordering
-use Rattle.mu_affine.specs.declared.exact_form.Forms.{Forms}
+use Rattle.qss_compile.proofs.Common
+use Common.{ℕ, ◌≡◌, ◌⊎◌, AffineErr, ap, AreFaultless, AreForms, AreTokens, CausalErr, FlatModelTree}
+use Common.{FlatSource, Forms, HasOrder, inl, inr, IsCausalFault, IsErr, IsFirstFault}
+use Common.{IsFirstRefusal, IsFlatRefused, IsNotFlat, IsParseRefusal, LexErr, List, MachineErr}
+use Common.{ModelErr, ModelTree, NameErr, of_forms, of_lexer, of_names, of_order, of_parser}
+use Common.{of_rounding, of_unrolling, ParseErr, refl, Refused, scope_of, SpellsModel, subst, sym}
+use Common.{symbols, Token, unrolled, UnrollErr, with_names, without_names}
+use Rattle.mu_affine.specs.KeptForms.{IsAffineFault}
 use Rattle.mu_grammar.specs.Prefixes.{IsFault}
-use Rattle.mu_grammar.specs.ModelGrammar.{SpellsModel}
-use Rattle.mu_grammar.specs.Symbols.{symbols}
-use Rattle.mu_grammar.specs.declared.parse_fault.ParseErr.{ParseErr}
-use Rattle.mu_grammar.specs.declared.parse_fault.ParseErr.TheVariants as parsing
-use Rattle.mu_lexer.specs.Tokens.{AreTokens, IsFirstFault}
-use Rattle.mu_lexer.specs.declared.lexer.LexErr.{LexErr}
-use Rattle.mu_lexer.specs.declared.lexer.LexErr.TheVariants as lexing
-use Rattle.mu_lexer.specs.declared.token.Token.{Token}
 use Rattle.mu_affine.specs.MachineChecks.{machine_checks, IsRefusal as IsLimit}
-use Rattle.mu_affine.specs.declared.machine_fault.MachineErr.{MachineErr}
-use Rattle.mu_names.specs.Roles.{scope_of, IsRefusal}
-use Rattle.mu_names.specs.declared.name_fault.NameErr.{NameErr}
+use Rattle.mu_names.specs.Roles.{IsRefusal}
+use Rattle.mu_affine.specs.declared.affine_fault.AffineErr.TheVariants as forming
+use Rattle.mu_causal.specs.declared.causal_outcome.CausalErr.TheVariants as ordering
+use Rattle.mu_grammar.specs.declared.parse_fault.ParseErr.TheVariants as parsing
+use Rattle.mu_lexer.specs.declared.lexer.LexErr.TheVariants as lexing
 use Rattle.mu_names.specs.declared.name_fault.NameErr.TheVariants as naming
-use Rattle.mu_tree.specs.FlatExpression.{FlatModelTree}
-use Rattle.mu_tree.specs.ModelTree.{ModelTree}
 use Rattle.mu_unroll.specs.UnrollFaults as unroll
-use Rattle.mu_unroll.specs.Unrolling.{unrolled}
-use Rattle.mu_unroll.specs.declared.unroll_fault.UnrollErr.{UnrollErr}
 use Rattle.mu_unroll.specs.declared.unroll_fault.UnrollErr.TheVariants as unrolling
-use Rattle.qss_compile.specs.Causes.{of_lexer, of_parser, of_names, of_unrolling, of_order}
-use Rattle.qss_compile.specs.Causes.{of_forms, of_rounding, without_names, with_names}
-use Rattle.qss_compile.specs.Compilation.{FlatSource, IsFirstRefusal, IsParseRefusal, IsNotFlat}
-use Rattle.qss_compile.specs.Compilation.{IsFlatRefused, IsErr}
-use Rattle.qss_compile.specs.Phases.{AreFaultless, HasOrder}
-use Rattle.qss_compile.specs.declared.model_refusal.ModelErr.{ModelErr}
-use Rattle.qss_compile.specs.declared.model_refusal.Refused.{Refused}
 
 pub lexer_answer : (bytes : List ℕ) (fault : LexErr) → (fault ≡ lexing.Memory) ⊎ IsFirstFault bytes fault → IsErr (IsParseRefusal bytes) (without_names (of_lexer fault))
 lexer_answer bytes fault (inl e) = inl (ap of_lexer e)

@@ -1,17 +1,13 @@
 -- The forms of a flat model are laid out as a machine requires.
-use Rattle.std.proofs.Common.{◌≡◌, ◌∙◌, ap, sym, subst, refl, ℕ, ◌+◌, List, get_or, take, drop}
-use Rattle.std.specs.Prelude.{All, sum_by}
+use Rattle.qss_compile.proofs.Common
+use Common.{ℕ, ◌+◌, ◌∙◌, ◌≡◌, All, ap, AreForms, clause_place, drop, equation_place, ExactForm}
+use Common.{FlatModelTree, Forms, get_or, List, refl, sizes_of, subst, sum_by, sym, take}
 use Rattle.mu_affine.proofs.FinishedForms.{states_counted, discretes_counted, forms_one_each}
 use Rattle.mu_affine.proofs.FinishedForms.{forms_of_states, forms_of_clauses}
-use Rattle.mu_affine.specs.KeptForms.{AreForms, equation_place, clause_place}
-use Rattle.mu_affine.specs.Solution.{sizes_of}
-use Rattle.mu_affine.specs.declared.exact_form.ExactForm.{ExactForm}
-use Rattle.mu_affine.specs.declared.exact_form.Forms.{Forms}
 use Rattle.mu_affine.proofs.FinishedMachines.{named_for, right_side_for}
 use Rattle.mu_affine.specs.RoundedMachines.{AreFormsFor, AreNamed, IsRightSide}
 use Rattle.mu_affine.specs.FormPlaces.{is_state, is_discrete, state_count, discrete_count}
 use Rattle.mu_affine.specs.FormPlaces.{clause_forms}
-use Rattle.mu_tree.specs.FlatExpression.{FlatModelTree}
 
 -- the forms of a flat model are laid out as a machine requires
 pub forms_for : (m : FlatModelTree) (order : List ℕ) (f : Forms) → AreForms m order f → AreFormsFor f.forms m

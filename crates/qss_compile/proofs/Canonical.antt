@@ -1,31 +1,17 @@
 -- Finished forms that mean the same are the same.
-use Rattle.std.proofs.Common.{◌≡◌, ◌∙◌, ap, sym, subst, refl, inl, inr, ℕ, suc, true, false, List}
-use Rattle.std.proofs.Common.{[], ◌∷◌, map, Ok, Some}
-use Rattle.std.specs.Prelude.{slice_get}
-use Rattle.std.proofs.lemmas.Bool.{cases_lt}
-use Rattle.std.specs.Ordering.{is_eq, ordering_reverse}
-use Rattle.std.specs.declared.cmp.Ordering.{Ordering}
-use Rattle.std.specs.declared.cmp.Ordering.TheVariants.{Less, Equal, Greater}
+use Rattle.qss_compile.proofs.Common
+use Common.{[], ℕ, ◌∙◌, ◌∷◌, ◌≡◌, AffineForm, AllByRecursion, ap, AreForms, cases_lt, Equal}
+use Common.{ExactEntry, ExactForm, ExactProduct, false, FlatModelTree, form_meaning, Forms}
+use Common.{forms_of, FormsSoFar, Fraction, Greater, inl, inr, is_eq, is_nonzero, IsKeyOrder}
+use Common.{IsRising, keys_of, Less, level_self, List, map, named, nat_order, none, Ok, Ordering}
+use Common.{pair_order, paired, refl, sizes_of, slice_get, Some, subst, suc, sym, true, value_at}
+use Rattle.std.specs.Ordering.{ordering_reverse}
 use Rattle.std.specs.BTreeMap.{is_at}
-use Rattle.std.specs.List.{AllByRecursion}
-use Rattle.std.specs.Map.{keys_of}
 use Rattle.std.specs.Option.{unwrap_or}
 use Rattle.std.proofs.lemmas.Map.{lookup-none}
 use Rattle.std.proofs.lemmas.Map.Entries.{lookup_head, lookup_tail, none_below_head}
 use Rattle.std.proofs.lemmas.Map.Keys.{sorted_head, sorted_tail}
-use Rattle.mu_affine.specs.KeptForms.{AreForms}
-use Rattle.mu_affine.specs.FormSequence.{FormsSoFar, forms_of}
-use Rattle.mu_affine.specs.Solution.{sizes_of}
-use Rattle.mu_affine.specs.AffineForm.{AffineForm, none, is_nonzero}
-use Rattle.mu_affine.specs.FinishedForms.{form_meaning, IsCoefficient, IsCanonical}
-use Rattle.mu_affine.specs.FormRows.{named, paired, value_at, IsRising}
-use Rattle.mu_affine.specs.declared.exact_form.ExactEntry.{ExactEntry}
-use Rattle.mu_affine.specs.declared.exact_form.ExactForm.{ExactForm}
-use Rattle.mu_affine.specs.declared.exact_form.Forms.{Forms}
-use Rattle.mu_affine.specs.declared.exact_form.ExactProduct.{ExactProduct}
-use Rattle.mu_affine.proofs.RowForms.{IsKeyOrder, level_self, nat_order, pair_order}
-use Rattle.mu_num.specs.Fraction.{Fraction}
-use Rattle.mu_tree.specs.FlatExpression.{FlatModelTree}
+use Rattle.mu_affine.specs.FinishedForms.{IsCoefficient, IsCanonical}
 
 -- 0 is no coefficient
 zero_is_none : (a : Fraction) → a ≡ none → is_nonzero a ≡ true → ⊥

@@ -1,24 +1,19 @@
 -- Each flat model has an order or is refused one.
-use Rattle.std.proofs.Common.{◌≡◌, ◌≢◌, ◌∙◌, ap, sym, subst, refl, arith, inl, inr, ◌⊎◌, ℕ, zero}
-use Rattle.std.proofs.Common.{suc, ◌<◌, true, false, Bool, List, [], ◌∷◌, length, Some, None}
-use Rattle.std.specs.declared.option.Option.{Option}
-use Rattle.std.specs.Prelude.{Contains, slice_get}
-use Rattle.std.proofs.lemmas.Bool.{cases_eq}
+use Rattle.qss_compile.proofs.Common
+use Common.{[], ℕ, ◌<◌, ◌∙◌, ◌∷◌, ◌≡◌, ◌≢◌, ◌⊎◌, ap, arith, Bool, cases_eq, Contains, DependsOn}
+use Common.{EachBelowHasOneEquation, EachHasOneEquation, equation_numbers, false, FlatEquationTree}
+use Common.{FlatModelTree, FlatVariable, HasOneEquation, HasOrder, inl, inr, IsAlgebraic, IsCycle}
+use Common.{IsOrder, length, List, None, of_order, Option, OrderRefuses, refl, slice_get, Some}
+use Common.{subst, suc, sym, true, WantsEquation, with_names}
 use Rattle.std.proofs.lemmas.Option.{slice_get_within}
-use Rattle.mu_causal.specs.Causality.{IsOrder, IsCycle}
-use Rattle.mu_causal.specs.Dependencies.{names_of, IsAlgebraic, DependsOn, WantsEquation}
-use Rattle.mu_causal.specs.Dependencies.{wants_equation, equation_numbers, HasOneEquation}
-use Rattle.mu_causal.specs.Dependencies.{EachHasOneEquation, EachBelowHasOneEquation}
-use Rattle.mu_causal.specs.declared.causal_outcome.CausalErr.TheVariants as ordering
+use Rattle.mu_causal.specs.Dependencies.{names_of, wants_equation}
 use Rattle.mu_causal.proofs.Elements.{contained}
 use Rattle.mu_causal.proofs.FlatGraphs.{Source}
-use Rattle.mu_tree.specs.FlatExpression.{FlatVariable, FlatEquationTree, FlatModelTree}
 use Rattle.mu_tree.specs.declared.flat.FlatRole.{FlatRole}
 use Rattle.mu_tree.specs.declared.flat.FlatRole.TheVariants.{State, Discrete, Algebraic}
-use Rattle.qss_compile.specs.Causes.{of_order, with_names}
-use Rattle.qss_compile.specs.Phases.{HasOrder, OrderRefuses}
 use Rattle.qss_compile.proofs.Deciding.{Decides}
 use Rattle.qss_compile.proofs.Orderings.{IsDecided, IsLeastOf, least_below, order_or_cycle}
+use Rattle.mu_causal.specs.declared.causal_outcome.CausalErr.TheVariants as ordering
 
 -- whether a list has an element
 contains_decided : (xs : List ℕ) (w : ℕ) → IsDecided (Contains xs w)

@@ -1,8 +1,6 @@
 -- Phases that follow each other.
-use Rattle.std.proofs.Common.{◌≡◌, sym, subst, inl, inr, ◌⊎◌}
-use Rattle.qss_compile.specs.SourceLaws.{AreAlike}
-use Rattle.qss_compile.specs.Compilation.{Through, IsFirstRefusal}
-use Rattle.qss_compile.specs.declared.model_refusal.Refused.{Refused}
+use Rattle.qss_compile.proofs.Common
+use Common.{◌≡◌, ◌⊎◌, AreAlike, inl, inr, IsFirstRefusal, Refused, subst, sym, Through}
 
 -- a phase returns at most one thing, or refuses for one cause, and not both
 pub record Single {A : Type 0} (Refuses : Refused → Type 0) (Gives : A → Type 0) : Type 0 where

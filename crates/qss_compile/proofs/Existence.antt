@@ -1,44 +1,22 @@
 -- Each source compiles to a machine or is refused.
-use Rattle.std.proofs.Common.{◌≡◌, sym, subst, refl, inl, inr, ◌⊎◌, ℕ, ◌<◌, List, Result, Ok, Err}
-use Rattle.std.proofs.Common.{Some, None}
+use Rattle.qss_compile.proofs.Common
+use Common.{ℕ, ◌<◌, ◌≡◌, ◌⊎◌, AffineErr, AreFaultless, AreForms, AreTokens, Err, FlatCompilesTo}
+use Common.{FlatModelTree, FlatSource, Forms, forms_of, FormsRefuse, FormsSoFar, HasOrder, inl, inr}
+use Common.{IsFirstRefusal, IsFlatModel, IsFlatOf, IsFlatRefused, IsMachineOf, IsNotFlat}
+use Common.{IsParseRefusal, IsTreeRefused, LexerRefuses, List, machine_fault, MachineErr}
+use Common.{model_decides, model_faults, model_machine, ModelTree, NameErr, None, of_forms}
+use Common.{of_lexer, of_names, of_parser, of_rounding, of_unrolling, Ok, Option, OrderRefuses}
+use Common.{ParseErr, ParserRefuses, refl, Result, RoundingRefuses, scope_of, Settings, settings_in}
+use Common.{Some, SourceParsesAs, Spells, SpellsModel, subst, sym, symbols, Through, Token}
+use Common.{TreeCompilesTo, unrolled, UnrollErr, with_names, without_names}
 use Rattle.std.proofs.lemmas.Result.{IfOk-at_ok}
-use Rattle.std.specs.declared.option.Option.{Option}
-use Rattle.mu_affine.specs.KeptForms.{AreForms}
-use Rattle.mu_affine.specs.FormSequence.{FormsSoFar, forms_of}
-use Rattle.mu_affine.specs.declared.affine_fault.AffineErr.{AffineErr}
-use Rattle.mu_affine.specs.declared.exact_form.Forms.{Forms}
 use Rattle.mu_grammar.specs.Prefixes.{IsReason}
-use Rattle.mu_grammar.specs.ModelMachine.{model_machine}
-use Rattle.mu_grammar.specs.ModelGrammar.{SpellsModel}
-use Rattle.mu_grammar.specs.Symbols.{symbols}
-use Rattle.mu_grammar.specs.declared.parse_fault.ParseErr.{ParseErr}
 use Rattle.mu_grammar.proofs.Judged.{judged}
-use Rattle.mu_grammar.proofs.ModelDecides.{model_decides}
-use Rattle.mu_lexer.specs.Tokens.{AreTokens}
-use Rattle.mu_lexer.specs.declared.token.Token.{Token}
 use Rattle.mu_affine.proofs.OneMachine.{machine_exists}
-use Rattle.mu_affine.specs.MachineChecks.{machine_fault}
-use Rattle.mu_affine.specs.RoundedMachines.{IsMachineOf}
-use Rattle.mu_affine.specs.declared.machine_fault.MachineErr.{MachineErr}
 use Rattle.mu_names.specs.LeastFaults.{least_of}
-use Rattle.mu_names.specs.Roles.{model_faults, scope_of, settings_in}
-use Rattle.mu_names.specs.declared.name_fault.NameErr.{NameErr}
 use Rattle.mu_names.proofs.LeastLaws.{least_is, none_left}
-use Rattle.mu_tree.specs.FlatExpression.{FlatModelTree}
-use Rattle.mu_tree.specs.FlatModels.{IsFlatModel}
-use Rattle.mu_tree.specs.ModelTree.{ModelTree}
-use Rattle.mu_tree.specs.declared.flat.Settings.{Settings}
 use Rattle.mu_unroll.proofs.FlatModels.{flat_model_right}
-use Rattle.mu_unroll.specs.Unrolling.{unrolled}
-use Rattle.mu_unroll.specs.declared.unroll_fault.UnrollErr.{UnrollErr}
-use Rattle.qss_compile.specs.Causes.{of_lexer, of_parser, of_names, of_unrolling, of_forms}
-use Rattle.qss_compile.specs.Causes.{of_rounding, without_names, with_names}
 use Rattle.qss_compile.specs.SourceLaws.{SourcesAreDecided}
-use Rattle.qss_compile.specs.Compilation.{Through, IsFirstRefusal, FlatSource, IsFlatOf, IsNotFlat}
-use Rattle.qss_compile.specs.Compilation.{IsParseRefusal, SourceParsesAs, FlatCompilesTo}
-use Rattle.qss_compile.specs.Compilation.{IsFlatRefused, TreeCompilesTo, IsTreeRefused}
-use Rattle.qss_compile.specs.Phases.{LexerRefuses, Spells, ParserRefuses, AreFaultless, HasOrder}
-use Rattle.qss_compile.specs.Phases.{OrderRefuses, FormsRefuse, RoundingRefuses}
 use Rattle.qss_compile.proofs.Bridge.{forms_for}
 use Rattle.qss_compile.proofs.Causal.{order_decides}
 use Rattle.qss_compile.proofs.Deciding.{Decides, then_decides}

@@ -1,28 +1,17 @@
 -- Where the forms of a flat model are taken without a fault, there are exact forms of them.
-use Rattle.std.proofs.Common.{◌≡◌, ◌∙◌, ap, sym, subst, refl, arith, ℕ, zero, suc, ◌+◌, ◌<◌, ◌≤◌}
-use Rattle.std.proofs.Common.{Bool, true, false, List, [], ◌∷◌, ◌++◌, length, map, Result, Ok, Some}
-use Rattle.std.specs.Prelude.{All, slice_get, nat_eq, nat_lt, if◌then◌else◌}
-use Rattle.std.proofs.lemmas.Bool.Decides.{nat_tests}
+use Rattle.qss_compile.proofs.Common
+use Common.{[], ℕ, ◌++◌, ◌+◌, ◌<◌, ◌∙◌, ◌∷◌, ◌≡◌, ◌≤◌, action_form, AffineErr, AffineForm, All, ap}
+use Common.{AreForms, arith, Bool, clause_context, clause_place, condition_form, counted}
+use Common.{equation_context, equation_place, ExactForm, false, FlatAction, FlatBranchTree}
+use Common.{FlatEquationTree, FlatModelTree, form_meaning, form_of, Forms, forms_of, FormsSoFar}
+use Common.{if◌then◌else◌, IsFinished, IsFlatModel, IsNumbered, keep, keep_actions, keep_branches}
+use Common.{keep_states, length, List, map, nat_eq, nat_lt, nat_tests, none, Ok, Place, refl}
+use Common.{Result, right_side, sizes_of, slice_get, solve, solve_all, Some, subst, suc, sym}
+use Common.{then_take, true, zero}
 use Rattle.mu_affine.proofs.Bridges.{equation_numbered, left_numbered, right_numbered}
 use Rattle.mu_affine.proofs.Bridges.{action_numbered}
-use Rattle.mu_affine.specs.FormOf.{form_of}
-use Rattle.mu_affine.specs.KeptForms.{AreForms, equation_place, clause_place}
-use Rattle.mu_affine.specs.FormSequence.{FormsSoFar, then_take, counted, solve, solve_all, keep}
-use Rattle.mu_affine.specs.FormSequence.{keep_states, condition_form, action_form, keep_actions}
-use Rattle.mu_affine.specs.FormSequence.{keep_branches, keep_clauses, right_side, nothing_taken}
-use Rattle.mu_affine.specs.FormSequence.{forms_of}
-use Rattle.mu_affine.specs.Solution.{sizes_of, equation_context, clause_context}
-use Rattle.mu_affine.specs.Walks.{IsNumbered}
-use Rattle.mu_affine.specs.AffineForm.{AffineForm, none}
-use Rattle.mu_affine.specs.FinishedForms.{form_meaning, IsFinished}
-use Rattle.mu_affine.specs.declared.affine_fault.AffineErr.{AffineErr}
-use Rattle.mu_affine.specs.declared.exact_form.ExactForm.{ExactForm}
-use Rattle.mu_affine.specs.declared.exact_form.Forms.{Forms}
-use Rattle.mu_affine.specs.declared.exact_form.Place.{Place}
-use Rattle.mu_tree.specs.FlatExpression.{FlatEquationTree, FlatAction, FlatBranchTree}
-use Rattle.mu_tree.specs.FlatExpression.{FlatModelTree}
+use Rattle.mu_affine.specs.FormSequence.{keep_clauses, nothing_taken}
 use Rattle.mu_tree.specs.FlatModels.{IsFlatEquation, IsFlatAction, IsFlatBranch, IsFlatClause}
-use Rattle.mu_tree.specs.FlatModels.{IsFlatModel}
 use Rattle.qss_compile.proofs.Lengths.{taken_of, made, solve_all_kept, keep_length}
 use Rattle.qss_compile.proofs.Lengths.{keep_states_length, keep_actions_length}
 use Rattle.qss_compile.proofs.Lengths.{keep_branches_length}

@@ -1,18 +1,13 @@
 -- How many forms are kept by each step.
-use Rattle.std.proofs.Common.{◌≡◌, ◌∙◌, ap, sym, refl, arith, ℕ, zero, suc, ◌+◌, List, [], ◌∷◌}
-use Rattle.std.proofs.Common.{◌++◌, length, Result, Ok, Err, length-append}
-use Rattle.std.specs.Prelude.{sum_by, nat_eq, if◌then◌else◌}
+use Rattle.qss_compile.proofs.Common
+use Common.{[], ℕ, ◌++◌, ◌+◌, ◌∙◌, ◌∷◌, ◌≡◌, action_form, AffineErr, AffineForm, ap, arith}
+use Common.{clause_context, condition_form, counted, equation_context, Err, FlatAction}
+use Common.{FlatBranchTree, FlatModelTree, form_of, FormsSoFar, if◌then◌else◌, keep, keep_actions}
+use Common.{keep_branches, keep_states, length, List, nat_eq, Ok, refl, Result, right_side, Sizes}
+use Common.{sizes_of, solve, solve_all, suc, sum_by, sym, then_take, zero}
+use Rattle.std.proofs.Common.{length-append}
 use Rattle.std.proofs.lemmas.List.Sums.{sum_by-cons}
-use Rattle.mu_affine.specs.FormOf.{form_of}
-use Rattle.mu_affine.specs.FormSequence.{FormsSoFar, then_take, counted, solve, solve_all, keep}
-use Rattle.mu_affine.specs.FormSequence.{keep_states, condition_form, action_form, keep_actions}
-use Rattle.mu_affine.specs.FormSequence.{keep_branches, right_side}
-use Rattle.mu_affine.specs.Solution.{sizes_of, equation_context, clause_context}
-use Rattle.mu_affine.specs.AffineForm.{AffineForm}
-use Rattle.mu_affine.specs.declared.affine_fault.AffineErr.{AffineErr}
-use Rattle.mu_affine.specs.declared.exact_form.Sizes.{Sizes}
 use Rattle.mu_affine.specs.FormPlaces.{branch_forms}
-use Rattle.mu_tree.specs.FlatExpression.{FlatAction, FlatBranchTree, FlatModelTree}
 
 -- of two steps that succeed the first one does
 pub taken_of : {A B : Type 0} (r : Result A AffineErr) (next : A → Result B AffineErr) (b : B) → then_take r next ≡ Ok b → (a : A) × (r ≡ Ok a) × (next a ≡ Ok b)

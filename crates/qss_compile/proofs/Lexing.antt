@@ -1,28 +1,22 @@
 -- Each source has tokens, or one first fault.
-use Rattle.std.proofs.Common.{◌≡◌, ◌≢◌, ◌⊎◌, ℕ, zero, suc, ◌+◌, ◌-◌, ◌<◌, ◌≤◌, Bool, true, false}
-use Rattle.std.proofs.Common.{List, [], ◌∷◌, ◌++◌, length, take, drop, refl, ap, ◌∙◌, subst, arith}
-use Rattle.std.proofs.Common.{inl, inr, None, Some, length-drop}
-use Rattle.std.specs.declared.option.Option.{Option}
-use Rattle.std.specs.List.{All}
-use Rattle.std.proofs.lemmas.List.{drop-drop}
+use Rattle.qss_compile.proofs.Common
+use Common.{[], ℕ, ◌++◌, ◌+◌, ◌<◌, ◌∙◌, ◌∷◌, ◌≡◌, ◌≢◌, ◌≤◌, ◌⊎◌, ap, AreTokens, arith, Bool, drop}
+use Common.{false, inl, inr, IsFirstFault, length, LexErr, List, None, Option, refl, Some, subst}
+use Common.{suc, take, Token, true, zero}
+use Rattle.std.proofs.Common.{length-drop}
 use Rattle.mu_lexer.specs.Automaton.{kind_from, BestUpTo, better, named, word_among, kind_named}
 use Rattle.mu_lexer.specs.Tokens.{begins_blank, begins_quote, begins_comment, comment_length}
-use Rattle.mu_lexer.specs.Tokens.{BeginsWith, StopsReading, Reads, stay as at_end}
-use Rattle.mu_lexer.specs.Tokens.{blank as over_space, comment as over_remark, token as over_word}
-use Rattle.mu_lexer.specs.Tokens.{AreTokens, IsFirstFault}
-use Rattle.mu_lexer.specs.Spelling.{SpellsToken}
-use Rattle.mu_lexer.specs.declared.lexer.LexErr.{LexErr}
+use Rattle.mu_lexer.specs.Tokens.{BeginsWith, StopsReading}
 use Rattle.mu_lexer.specs.declared.lexer.NextItem.{NextItem}
-use Rattle.mu_lexer.specs.declared.lexer.NextItem.TheVariants as standing
-use Rattle.mu_lexer.specs.declared.lexer.Phase.TheVariants as phase
 use Rattle.mu_lexer.specs.declared.token.Kind.{Kind}
-use Rattle.mu_lexer.specs.declared.token.Kind.TheVariants as kind
-use Rattle.mu_lexer.specs.declared.token.Token.{Token}
 use Rattle.mu_lexer.specs.declared.token.TheConstants.{WORDS}
 use Rattle.mu_lexer.proofs.Places.{found_longest, found_none, size_within}
 use Rattle.mu_lexer.proofs.Progress.{Progress, start, over_blank, over_comment, over_token}
 use Rattle.mu_lexer.proofs.Progress.{finished, fault_here, no_tokens, no_error, only_error}
 use Rattle.mu_lexer.proofs.Progress.{error_at}
+use Rattle.mu_lexer.specs.declared.lexer.NextItem.TheVariants as standing
+use Rattle.mu_lexer.specs.declared.lexer.Phase.TheVariants as phase
+use Rattle.mu_lexer.specs.declared.token.Kind.TheVariants as kind
 
 -- a prefix has this length or is shorter
 at_most : (i m : ℕ) → m ≤ i + 1 → (m ≤ i) ⊎ (m ≡ i + 1)

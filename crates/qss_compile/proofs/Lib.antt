@@ -1,3 +1,4 @@
+mod Common
 pub mod Deciding
 mod Lexing
 pub mod WellFormed

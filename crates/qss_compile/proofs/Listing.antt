@@ -1,25 +1,18 @@
 -- A form whose coefficients are in lowest terms, and which is over a place, can be written down as an exact form.
-use Rattle.std.proofs.Common.{◌≡◌, ◌∙◌, ap, sym, subst, refl, arith, inl, inr, ◌⊎◌, ℕ, zero, suc}
-use Rattle.std.proofs.Common.{◌+◌, ◌<◌, ◌≤◌, false, List, [], ◌∷◌, map}
+use Rattle.qss_compile.proofs.Common
+use Common.{[], ℕ, ◌+◌, ◌<◌, ◌∙◌, ◌∷◌, ◌≡◌, ◌≤◌, ◌⊎◌, AffineForm, AllByRecursion, ap, arith}
+use Common.{cases_Bool, cases_eq, Equal, ExactEntry, ExactForm, ExactProduct, false, form_meaning}
+use Common.{Fraction, Greater, inl, inr, is_eq, is_nonzero, IsFinished, IsKeyOrder, IsOver}
+use Common.{IsReduced, IsRising, keys_of, Less, level_self, List, map, named, nat_order, none}
+use Common.{Ordering, pair_order, paired, Place, refl, subst, suc, sym, value_at, zero}
 use Rattle.std.proofs.Math.Path.{fun_ext}
-use Rattle.std.proofs.lemmas.Bool.{cases_Bool, cases_eq}
-use Rattle.std.specs.List.{AllByRecursion, filter}
+use Rattle.std.specs.List.{filter}
 use Rattle.std.specs.List.Sorted.{IsStrictlySortedBy}
-use Rattle.std.specs.Map.{keys_of}
-use Rattle.std.specs.Ordering.{nat_cmp, ordering_then, is_eq}
-use Rattle.std.specs.declared.cmp.Ordering.{Ordering}
-use Rattle.std.specs.declared.cmp.Ordering.TheVariants.{Less, Equal, Greater}
+use Rattle.std.specs.Ordering.{nat_cmp, ordering_then}
 use Rattle.mu_affine.proofs.Finishing.{value_at-nonzeros, AreFinished-nonzeros}
 use Rattle.mu_affine.proofs.Fractions.{reduced_zero}
-use Rattle.mu_affine.proofs.RowForms.{IsKeyOrder, level_self, nat_order, pair_order}
-use Rattle.mu_affine.specs.AffineForm.{AffineForm, none, is_nonzero}
-use Rattle.mu_affine.specs.FinishedForms.{form_meaning, AreFinished, IsOver, IsFinished}
-use Rattle.mu_affine.specs.FormRows.{named, paired, pair_cmp, value_at, IsRising, AreReduced}
-use Rattle.mu_affine.specs.declared.exact_form.ExactEntry.{ExactEntry}
-use Rattle.mu_affine.specs.declared.exact_form.ExactForm.{ExactForm}
-use Rattle.mu_affine.specs.declared.exact_form.ExactProduct.{ExactProduct}
-use Rattle.mu_affine.specs.declared.exact_form.Place.{Place}
-use Rattle.mu_num.specs.Fraction.{Fraction, IsReduced}
+use Rattle.mu_affine.specs.FinishedForms.{AreFinished}
+use Rattle.mu_affine.specs.FormRows.{pair_cmp, AreReduced}
 use Rattle.qss_compile.proofs.Canonical.{head_value, tail_value}
 
 -- a form of what is allowed at a place, with each coefficient in lowest terms

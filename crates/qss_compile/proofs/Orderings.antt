@@ -1,12 +1,12 @@
 -- If variables and their dependencies are decidable, there is an order or a cycle.
-use Rattle.std.proofs.Common.{◌≡◌, ◌∙◌, ◌⊎◌, ℕ, zero, suc, ◌<◌, ◌≤◌, Bool, true, false, List, []}
-use Rattle.std.proofs.Common.{◌∷◌, ◌++◌, length, get_or, set, take, drop, refl, subst, arith, inl}
-use Rattle.std.proofs.Common.{inr}
-use Rattle.std.specs.Prelude.{Contains}
-use Rattle.std.proofs.lemmas.Bool.{cases_Bool, cases_lt}
+use Rattle.qss_compile.proofs.Common
+use Common.{[], ℕ, ◌++◌, ◌<◌, ◌∙◌, ◌∷◌, ◌≡◌, ◌≤◌, ◌⊎◌, arith, Bool, cases_Bool, cases_lt, Contains}
+use Common.{drop, false, get_or, inl, inr, IsCycle, IsOrder, length, List, refl, subst, suc, take}
+use Common.{true, zero}
+use Rattle.std.proofs.Common.{set}
 use Rattle.std.proofs.lemmas.List.{get_or_default}
 use Rattle.std.proofs.Math.ListN.{length-set}
-use Rattle.mu_causal.specs.Causality.{IsReady, IsNext, Follow, IsOrder, IsCycle}
+use Rattle.mu_causal.specs.Causality.{IsReady, IsNext, Follow}
 use Rattle.mu_causal.specs.VisitMarks.{IsMarked, IsUnmarked}
 use Rattle.mu_causal.proofs.Listing.{unmarked_count, unmarked_count-set, not_both, Follow-push}
 use Rattle.mu_causal.proofs.Rounds.{Leads, IsRound, AreDistinct, Leads-push, round_from}

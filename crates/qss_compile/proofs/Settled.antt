@@ -1,16 +1,19 @@
 -- The stop time of a model is a fraction over a positive denominator.
-use Rattle.std.proofs.Common.{◌≡◌, ◌∙◌, ap, subst, refl, arith, ℕ, zero, suc, ◌*◌, ◌<◌, Bool, true}
-use Rattle.std.proofs.Common.{false, List, [], ◌∷◌, Result, Ok, Err, Some, None, pos}
-use Rattle.std.specs.Prelude.{if◌then◌else◌, nat_eq, bytes_eq, unsigned_abs, ◌%◌}
+use Rattle.qss_compile.proofs.Common
+use Common.{[], ℕ, ◌<◌, ◌∙◌, ◌∷◌, ◌≡◌, ap, arith, Bool, checked, difference, Err, Expression, false}
+use Common.{Fraction, if◌then◌else◌, is_small, least_denominator, least_multiplier, List, lowest}
+use Common.{ModelTree, nat_eq, None, NumErr, Ok, Option, pos, power, product, quotient, Range, refl}
+use Common.{Result, Settings, settings_in, Some, subst, suc, Sum, sum, true, unsigned_abs, whole}
+use Common.{zero, ZeroDivisor}
+use Rattle.std.proofs.Common.{◌*◌}
+use Rattle.std.specs.Prelude.{bytes_eq, ◌%◌}
 use Rattle.std.specs.Option.{option_or}
-use Rattle.std.specs.declared.option.Option.{Option}
 use Rattle.mu_names.specs.Constant.{value_of, constant_of, joined, multiplied, both, one, raised}
 use Rattle.mu_names.specs.Constant.{reference_value, value, sum_value, product_value}
 use Rattle.mu_names.specs.DeclarationFaults.{other_meaning, meaning_of, meaning_after}
 use Rattle.mu_names.specs.DeclarationFaults.{optional_value, is_constant, constants_with}
 use Rattle.mu_names.specs.DeclarationFaults.{no_constants, constants_after}
 use Rattle.mu_names.specs.Roles.{with_setting, default_settings, settings_from, meaning_in}
-use Rattle.mu_names.specs.Roles.{settings_in}
 use Rattle.mu_names.specs.DeclaredRoles.{declared_in}
 use Rattle.mu_names.specs.NameTables.{added_at}
 use Rattle.mu_names.specs.declared.constant_values.Meaning.{Meaning}
@@ -20,15 +23,10 @@ use Rattle.mu_names.specs.declared.name_kind.NameKind.{NameKind}
 use Rattle.mu_names.specs.declared.name_kind.NameKind.TheVariants.{Loop, Declared, Missing}
 use Rattle.mu_num.specs.Decimal.{written_parts, is_in_range, fraction_of, scaled_value}
 use Rattle.mu_num.specs.Decimal.{decimal_value}
-use Rattle.mu_num.specs.Fraction.{Fraction, whole, sum, difference, product, quotient, power}
-use Rattle.mu_num.specs.Fraction.{checked, lowest, least_denominator, least_multiplier, is_small}
-use Rattle.mu_num.specs.declared.NumErr.{NumErr}
-use Rattle.mu_num.specs.declared.NumErr.TheVariants.{Range, ZeroDivisor}
-use Rattle.mu_tree.specs.Expression.{Expression, Number, Variable, Now, Previous, Sum, Product}
-use Rattle.mu_tree.specs.Expression.{Power, Reference, Whole, Element, Terms, no_terms, term}
-use Rattle.mu_tree.specs.Expression.{Factors, no_factors, factor}
-use Rattle.mu_tree.specs.ModelTree.{Declaration, Setting, ModelTree}
-use Rattle.mu_tree.specs.declared.flat.Settings.{Settings}
+use Rattle.mu_tree.specs.Expression.{Number, Variable, Now, Previous, Product, Power, Reference}
+use Rattle.mu_tree.specs.Expression.{Whole, Element, Terms, no_terms, term, Factors, no_factors}
+use Rattle.mu_tree.specs.Expression.{factor}
+use Rattle.mu_tree.specs.ModelTree.{Declaration, Setting}
 use Rattle.mu_tree.specs.declared.tree.SettingName.{SettingName}
 use Rattle.mu_tree.specs.declared.tree.SettingName.TheVariants as setting
 

@@ -1,59 +1,32 @@
 -- Each phase returns at most one thing, or refuses for one cause, and not both.
-use Rattle.std.proofs.Common.{◌≡◌, ◌∙◌, ap, sym, subst, refl, arith, inl, inr, ◌⊎◌, ◌≢◌, ℕ, false}
-use Rattle.std.proofs.Common.{List, [], ◌∷◌, Result, Ok, Err, Some, None}
-use Rattle.std.specs.Prelude.{Contains}
-use Rattle.std.specs.declared.option.Option.{Option}
-use Rattle.std.proofs.lemmas.Bool.{cases_lt}
-use Rattle.std.proofs.lemmas.Bool.Decides.{nat_tests}
-use Rattle.mu_causal.specs.OrderResults.{IsCausalFault}
-use Rattle.mu_causal.specs.Dependencies.{EachHasOneEquation, EachBelowHasOneEquation}
-use Rattle.mu_causal.specs.Dependencies.{HasOneEquation, WantsEquation, equation_numbers}
-use Rattle.mu_causal.specs.Dependencies.{IsAlgebraic, DependsOn}
-use Rattle.mu_causal.specs.declared.causal_outcome.CausalErr.{CausalErr}
-use Rattle.mu_causal.specs.declared.causal_outcome.CausalErr.TheVariants as ordering
+use Rattle.qss_compile.proofs.Common
+use Common.{[], ℕ, ◌∙◌, ◌∷◌, ◌≡◌, ◌≢◌, ◌⊎◌, ap, AreAlike, AreForms, AreTokens, arith, cases_lt}
+use Common.{CausalErr, CompilesTo, Contains, DependsOn, EachBelowHasOneEquation, EachHasOneEquation}
+use Common.{equation_numbers, Err, false, FlatCompilesTo, FlatModelTree, FlatSource, Forms}
+use Common.{forms_of, FormsRefuse, HasOneEquation, HasOrder, inl, inr, IsAlgebraic, IsCausalFault}
+use Common.{IsFirstFault, IsFirstRefusal, IsFlatOf, IsFlatRefused, IsMachineOf, IsNotFlat}
+use Common.{IsParseRefusal, IsRefused, IsTreeRefused, LexErr, LexerRefuses, List, machine_fault}
+use Common.{MachineErr, model_decides, model_faults, model_machine, ModelTree, NameErr, nat_tests}
+use Common.{None, of_forms, of_lexer, of_names, of_order, of_parser, of_rounding, of_unrolling, Ok}
+use Common.{Option, OrderRefuses, ParserRefuses, refl, Refused, Result, RoundingRefuses, scope_of}
+use Common.{Settings, Some, SourceParsesAs, Spells, SpellsModel, subst, sym, symbols, Through}
+use Common.{Token, TreeCompilesTo, unrolled, WantsEquation, with_names, without_names}
 use Rattle.mu_causal.proofs.Cycles.{no_cycle}
 use Rattle.mu_causal.proofs.Orders.{one_order}
-use Rattle.mu_affine.specs.KeptForms.{AreForms}
-use Rattle.mu_affine.specs.FormSequence.{forms_of}
-use Rattle.mu_affine.specs.declared.exact_form.Forms.{Forms}
 use Rattle.mu_grammar.specs.Prefixes.{ParseFaultsAreUnique}
-use Rattle.mu_grammar.specs.ModelMachine.{model_machine}
-use Rattle.mu_grammar.specs.ModelGrammar.{SpellsModel}
-use Rattle.mu_grammar.specs.Symbols.{symbols}
 use Rattle.mu_grammar.proofs.Fronts.{unique}
 use Rattle.mu_grammar.proofs.Judged.{judged_once}
-use Rattle.mu_grammar.proofs.ModelDecides.{model_decides}
-use Rattle.mu_lexer.specs.Tokens.{AreTokens, IsFirstFault}
-use Rattle.mu_lexer.specs.declared.lexer.LexErr.{LexErr}
-use Rattle.mu_lexer.specs.declared.token.Token.{Token}
 use Rattle.mu_lexer.proofs.Progress.{one_list}
-use Rattle.mu_affine.specs.MachineChecks.{machine_fault}
-use Rattle.mu_affine.specs.RoundedMachines.{IsMachineOf}
-use Rattle.mu_affine.specs.declared.machine_fault.MachineErr.{MachineErr}
 use Rattle.mu_names.specs.LeastFaults.{place, number, is_before, IsLeastFault}
-use Rattle.mu_names.specs.Roles.{model_faults, scope_of}
-use Rattle.mu_names.specs.declared.name_fault.NameErr.{NameErr}
-use Rattle.mu_names.specs.declared.name_fault.NameErr.TheVariants as naming
-use Rattle.mu_tree.specs.FlatExpression.{FlatModelTree}
-use Rattle.mu_tree.specs.ModelTree.{ModelTree}
-use Rattle.mu_unroll.specs.Unrolling.{unrolled}
-use Rattle.mu_tree.specs.declared.flat.Settings.{Settings}
 use Rattle.mu_affine.proofs.OneMachine.{one_machine}
-use Rattle.qss_compile.specs.Causes.{of_lexer, of_parser, of_names, of_unrolling, of_order}
-use Rattle.qss_compile.specs.Causes.{of_forms, of_rounding, without_names, with_names}
-use Rattle.qss_compile.specs.SourceLaws.{AreAlike}
-use Rattle.qss_compile.specs.Compilation.{Through, IsFirstRefusal, FlatSource, IsFlatOf, IsNotFlat}
-use Rattle.qss_compile.specs.Compilation.{IsParseRefusal, SourceParsesAs, FlatCompilesTo}
-use Rattle.qss_compile.specs.Compilation.{IsFlatRefused, TreeCompilesTo, IsTreeRefused, CompilesTo}
-use Rattle.qss_compile.specs.Compilation.{IsRefused}
-use Rattle.qss_compile.specs.Phases.{LexerRefuses, Spells, ParserRefuses, NamesRefuse, HasOrder}
-use Rattle.qss_compile.specs.Phases.{OrderRefuses, FormsRefuse, RoundingRefuses}
+use Rattle.qss_compile.specs.Phases.{NamesRefuse}
 use Rattle.qss_compile.specs.declared.model_refusal.ModelErr.TheVariants.{Names}
-use Rattle.qss_compile.specs.declared.model_refusal.Refused.{Refused}
 use Rattle.qss_compile.proofs.Canonical.{one_forms}
 use Rattle.qss_compile.proofs.Deciding.{Single, then_single}
 use Rattle.mu_grammar.proofs.SourceTokens.{are_tokens}
 use Rattle.qss_compile.proofs.Lexing.{Lexed, lexed}
+use Rattle.mu_causal.specs.declared.causal_outcome.CausalErr.TheVariants as ordering
+use Rattle.mu_names.specs.declared.name_fault.NameErr.TheVariants as naming
 
 -- what two refusals come of is one
 refused_alike : {F : Type 0} (make : F → Refused) (f g : F) (r s : Refused) → f ≡ g → r ≡ make f → s ≡ make g → r ≡ s

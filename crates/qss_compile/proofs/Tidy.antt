@@ -1,44 +1,41 @@
 -- The form of each expression of a flat model is over its place, with each coefficient in lowest terms.
-use Rattle.std.proofs.Common.{◌≡◌, ◌∙◌, ap, sym, subst, refl, arith, inl, inr, ◌⊎◌, ℕ, zero, suc}
-use Rattle.std.proofs.Common.{◌+◌, ◌<◌, ◌≤◌, Bool, true, false, Result, Ok, Err, ℤ, pos, ◌*ℤ◌}
-use Rattle.std.specs.Prelude.{not, ◌&&◌, ◌^◌, if◌then◌else◌, nat_eq, nat_lt, nat_le, unsigned_abs}
+use Rattle.qss_compile.proofs.Common
+use Common.{ℕ, ◌&&◌, ◌+◌, ◌<◌, ◌∙◌, ◌≡◌, ◌≤◌, ◌⊎◌, action_form, AffineErr, AffineForm, ap, arith}
+use Common.{Bool, cases_Bool, checked, condition_form, difference, Err, false, FlatAction}
+use Common.{FlatBranchTree, form_of, Fraction, if◌then◌else◌, inl, inr, is_nonzero, is_small}
+use Common.{IsNumbered, IsOver, IsReduced, least_denominator, least_multiplier, lowest, nat_eq}
+use Common.{nat_le, nat_lt, nat_tests, none, NumErr, Ok, Place, pos, power, product, quotient}
+use Common.{Range, refl, Result, Sizes, subst, suc, sum, sym, true, unsigned_abs, whole, zero}
+use Common.{ZeroDivisor}
+use Rattle.std.proofs.Common.{ℤ, ◌*ℤ◌}
+use Rattle.std.specs.Prelude.{not, ◌^◌}
 use Rattle.std.proofs.Math.IntN.{zero-*ℤ}
 use Rattle.std.proofs.Math.Nat.{eq-one_of_dvd-one}
 use Prim.Native.Nat.{◌∣◌}
-use Rattle.std.proofs.lemmas.Bool.{cases_Bool, and_parts}
-use Rattle.std.proofs.lemmas.Bool.Decides.{nat_tests}
+use Rattle.std.proofs.lemmas.Bool.{and_parts}
 use Rattle.std.proofs.lemmas.Int.{ints}
-use Rattle.mu_affine.specs.FormOf.{Context, form_of, sum_form, product_of, variable_form}
-use Rattle.mu_affine.specs.FormSequence.{condition_form, action_form}
-use Rattle.mu_affine.specs.Walks.{IsNumbered, AreNumbered, AreNumberedFactors, IsNumberedAction}
+use Rattle.mu_affine.specs.FormOf.{Context, sum_form, product_of, variable_form}
+use Rattle.mu_affine.specs.Walks.{AreNumbered, AreNumberedFactors, IsNumberedAction}
 use Rattle.mu_affine.proofs.Checks.{any_from-some}
 use Rattle.mu_affine.proofs.Fractions.{IsReduced-none, zero_num, zero_from_num, lowest-zero}
 use Rattle.mu_affine.proofs.Making.{IsReduced-one}
 use Rattle.mu_affine.proofs.Products.{product_zero_left, product_zero_right, sum_zeros}
 use Rattle.mu_affine.proofs.Showing.{pair_shows}
-use Rattle.mu_affine.specs.AffineForm.{AffineForm, none, is_nonzero, any_from, constant_form}
-use Rattle.mu_affine.specs.AffineForm.{name_form, time_form, has_coefficient, has_pairs}
-use Rattle.mu_affine.specs.AffineForm.{may_multiply, is_pair, combined, product_form, quotient_form}
-use Rattle.mu_affine.specs.AffineForm.{is_in_range, lowest_form, checked_form}
-use Rattle.mu_affine.specs.FinishedForms.{IsName, IsPair, MayStand, IsOver}
+use Rattle.mu_affine.specs.AffineForm.{any_from, constant_form, name_form, time_form}
+use Rattle.mu_affine.specs.AffineForm.{has_coefficient, has_pairs, may_multiply, is_pair, combined}
+use Rattle.mu_affine.specs.AffineForm.{product_form, quotient_form, is_in_range, lowest_form}
+use Rattle.mu_affine.specs.AffineForm.{checked_form}
+use Rattle.mu_affine.specs.FinishedForms.{IsName, IsPair, MayStand}
 use Rattle.mu_affine.specs.FormParts.{placed, kept, then_form, join_forms, multiply_forms}
 use Rattle.mu_affine.specs.FormParts.{raise_form}
 use Rattle.mu_affine.specs.FormRows.{joined}
-use Rattle.mu_affine.specs.declared.affine_fault.AffineErr.{AffineErr}
 use Rattle.mu_affine.specs.declared.affine_fault.AffineErr.TheVariants.{NotAffine, TimeHere}
 use Rattle.mu_affine.specs.declared.affine_fault.AffineErr.TheVariants.{ConstFault}
-use Rattle.mu_affine.specs.declared.exact_form.Place.{Place}
-use Rattle.mu_affine.specs.declared.exact_form.Sizes.{Sizes}
 use Rattle.mu_num.proofs.Lowest.{lowest_terms}
-use Rattle.mu_num.specs.Fraction.{Fraction, whole, sum, difference, product, quotient, sign, power}
-use Rattle.mu_num.specs.Fraction.{checked, lowest, least_denominator, least_multiplier, is_small}
-use Rattle.mu_num.specs.Fraction.{IsReduced}
-use Rattle.mu_num.specs.declared.NumErr.{NumErr}
-use Rattle.mu_num.specs.declared.NumErr.TheVariants.{Range, ZeroDivisor}
+use Rattle.mu_num.specs.Fraction.{sign}
 use Rattle.mu_tree.specs.FlatExpression.{FlatExpression, Constant, Variable, Previous, Now, Sum}
 use Rattle.mu_tree.specs.FlatExpression.{Product, Power, FlatTerms, no_terms, term, FlatFactors}
-use Rattle.mu_tree.specs.FlatExpression.{no_factors, factor, FlatAction, Assign, Restart}
-use Rattle.mu_tree.specs.FlatExpression.{FlatBranchTree}
+use Rattle.mu_tree.specs.FlatExpression.{no_factors, factor, Assign, Restart}
 use Rattle.qss_compile.proofs.Listing.{IsTidy}
 
 -- lowest terms over 0 are whole

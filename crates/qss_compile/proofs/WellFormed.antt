@@ -1,31 +1,33 @@
 -- A parsed model has exponents of at most 8, and a branch in each clause.
-use Rattle.std.proofs.Common.{◌≡◌, ℕ, ◌-◌, ◌<◌, ◌≤◌, Bool, true, false, List, [], ◌∷◌, ◌++◌, length}
-use Rattle.std.proofs.Common.{refl, arith, Some, None, nat_le, if◌then◌else◌}
-use Rattle.std.specs.Prelude.{◌&&◌, All}
+use Rattle.qss_compile.proofs.Common
+use Common.{[], ℕ, ◌&&◌, ◌++◌, ◌<◌, ◌∷◌, ◌≡◌, ◌≤◌, All, arith, Bool, Expression, false}
+use Common.{if◌then◌else◌, length, List, ModelTree, nat_le, None, refl, Some, SpellsModel, Sum}
+use Common.{true}
+use Rattle.std.proofs.Common.{◌-◌}
 use Rattle.std.proofs.lemmas.List.Elements.{All-nil, All-cons}
 use Rattle.mu_grammar.specs.Bodies.{IsBareEquation, derivative, algebraic, equation_kind}
 use Rattle.mu_grammar.specs.Bodies.{IsEquation, IsBareStatement, assign, restart, statement_kind}
 use Rattle.mu_grammar.specs.Bodies.{IsStatement, AreBranches, last_branch, branch_then}
 use Rattle.mu_grammar.specs.Bodies.{IsBareClause, when, clause_kind, IsClause}
-use Rattle.mu_grammar.specs.Conditions as conditions
 use Rattle.mu_grammar.specs.Conditions.{IsCondition}
 use Rattle.mu_grammar.specs.Grammar.{Symbol, first_place, signed, scaled, sum_of, product_of}
 use Rattle.mu_grammar.specs.Grammar.{exponent_of, IsSum, unsigned, added, subtracted, MoreTerms}
 use Rattle.mu_grammar.specs.Grammar.{last_term, plus, minus, IsProduct, product, MoreFactors}
 use Rattle.mu_grammar.specs.Grammar.{last_factor, times, divide, IsFactor, plain, power, IsPrimary}
 use Rattle.mu_grammar.specs.Grammar.{literal, variable, time, pre}
-use Rattle.mu_grammar.specs.Grammar as grammar
 use Rattle.mu_grammar.specs.Lists.{Runs, no_more, one_more, Listed, listed_end, listed_then}
 use Rattle.mu_grammar.specs.Loops.{Kind, IsItem, bare, loop, AreItems, no_items, item_then}
 use Rattle.mu_grammar.specs.ModelGrammar.{Sections, AddsEquation, adds_equation, AddsClause}
 use Rattle.mu_grammar.specs.ModelGrammar.{adds_clause, AddsStart, adds_start, IsSection, equations}
-use Rattle.mu_grammar.specs.ModelGrammar.{clauses, starts, SpellsModel, model}
-use Rattle.mu_tree.specs.Expression.{Expression, Signed, Scaled, Sum, terms_of, factors_of}
+use Rattle.mu_grammar.specs.ModelGrammar.{clauses, starts, model}
+use Rattle.mu_tree.specs.Expression.{Signed, Scaled, terms_of, factors_of}
 use Rattle.mu_tree.specs.ModelTree.{Condition, Range, EquationTree, StatementTree, BranchTree}
-use Rattle.mu_tree.specs.ModelTree.{ClauseTree, equations_of, statements_of, clauses_of, ModelTree}
+use Rattle.mu_tree.specs.ModelTree.{ClauseTree, equations_of, statements_of, clauses_of}
 use Rattle.mu_unroll.specs.WellFormed.{HasSmallPowers, HaveSmallPowersTerms, HaveSmallPowersFactors}
 use Rattle.mu_unroll.specs.WellFormed.{EquationHas, EquationsHave, StatementHas, StatementsHave}
 use Rattle.mu_unroll.specs.WellFormed.{BranchHas, ClauseHas, ClausesHave, IsWellFormed}
+use Rattle.mu_grammar.specs.Conditions as conditions
+use Rattle.mu_grammar.specs.Grammar as grammar
 
 both_true : (a b : Bool) → a && b ≡ true → (a ≡ true) × (b ≡ true)
 both_true true b e = (refl, e)

@@ -1,16 +1,14 @@
 -- The size of a value that has just crossed its bound is at most its speed.
-use Rattle.std.proofs.Common.{◌≡◌, ◌≢◌, ℕ, zero, suc, ◌+◌, ◌-◌, ℤ, pos, ◌+ℤ◌, ◌*ℤ◌, ◌≤ℤ◌, refl, sym}
-use Rattle.std.proofs.Common.{◌∙◌, ap, subst, arith}
-use Rattle.std.proofs.lemmas.Int.{ints, by_lt_z}
-use Rattle.std.specs.Prelude.{Some, int_le}
+use Rattle.qss_components.proofs.Common
+use Common.{ℕ, ℤ, ◌*ℤ◌, ◌+ℤ◌, ◌+◌, ◌-◌, ◌∙◌, ◌≡◌, ◌≢◌, ap, arith, compares, DetectorView, ints}
+use Common.{IsCrossingNext, Less, pos, refl, same_flag, Some, subst, suc, sym, value_at, zero}
+use Rattle.std.proofs.Common.{◌≤ℤ◌}
+use Rattle.std.proofs.lemmas.Int.{by_lt_z}
+use Rattle.std.specs.Prelude.{int_le}
 use Rattle.qss_machine.specs.declared.machine_parts.Rel.{Rel}
-use Rattle.qss_machine.specs.declared.machine_parts.Rel.TheVariants.{Less, LessEq, Greater}
-use Rattle.qss_machine.specs.declared.machine_parts.Rel.TheVariants.{GreaterEq}
-use Rattle.qss_machine.specs.Machines.{compares}
-use Rattle.qss_cross.specs.Crossing.{DetectorView, IsDetectorView, IsSmall, value_at, bound_of}
+use Rattle.qss_machine.specs.declared.machine_parts.Rel.TheVariants.{LessEq, Greater, GreaterEq}
+use Rattle.qss_cross.specs.Crossing.{IsDetectorView, IsSmall, bound_of}
 use Rattle.qss_cross.proofs.Across.{at_least, below, differs_to, differs_back}
-use Rattle.qss_events.proofs.Silence.{same_flag}
-use Rattle.qss_components.specs.Crossings.{IsCrossingNext}
 use Rattle.qss_components.proofs.Ticks.{one_more}
 
 small_across : (b z s t : ℤ) → pos 0 ≤ℤ b → b ≤ℤ pos 1 → t ≡ z +ℤ s → int_le b t ≢ int_le b z → IsSmall s → IsSmall t

@@ -1,25 +1,11 @@
 -- Components that receive no message agree with the values of their variables at later ticks.
-use Rattle.std.proofs.Common.{◌≡◌, ℕ, ◌+◌, ◌-◌, ◌<◌, Bool, true, false, ℤ, pos, ◌+ℤ◌, ◌*ℤ◌, get_or}
-use Rattle.std.proofs.Common.{refl, sym, ◌∙◌, ap, arith}
-use Rattle.std.proofs.lemmas.Int.{ints}
-use Rattle.std.proofs.lemmas.Bool.Decides.{nat_tests}
-use Rattle.std.proofs.Math.IntN.{*ℤ-zero}
-use Rattle.std.specs.Prelude.{nat_lt, if◌then◌else◌}
-use Rattle.mu_num.proofs.Tests.{if-true, if-false}
-use Rattle.qss_machine.specs.declared.machine_parts.Condition.{Condition}
-use Rattle.qss_machine.specs.declared.compiled_machine.Machine.{Machine}
-use Rattle.mu_num.specs.IndexedSums.{int_at}
-use Rattle.qss_machine.specs.Machines.{state_count, discrete_count, level_unit}
-use Rattle.qss_quant.specs.IntegratorLines.{Line}
-use Rattle.qss_events.specs.Schedules.{condition_at}
-use Rattle.mu_num.proofs.Tables.{int_at-tabulate}
-use Rattle.qss_events.proofs.Silence.{line_more}
-use Rattle.qss_components.specs.declared.crossing_model.Input.{Input}
-use Rattle.qss_components.specs.Functions.{FunctionState}
-use Rattle.qss_components.specs.Crossings.{Crossing, form_at}
-use Rattle.qss_components.specs.Agreement.{Values, LineAgrees, SummingAgrees, Moving, moving_of}
-use Rattle.qss_components.specs.Agreement.{InputAgrees, CrossingAgrees}
-use Rattle.qss_components.specs.ComponentTheorems.{values_after, AgreementLasts}
+use Rattle.qss_components.proofs.Common
+use Common.{*ℤ-zero, ℕ, ℤ, ◌*ℤ◌, ◌+ℤ◌, ◌+◌, ◌-◌, ◌<◌, ◌∙◌, ◌≡◌, ap, arith, Bool, Condition}
+use Common.{condition_at, Crossing, CrossingAgrees, discrete_count, false, form_at, FunctionState}
+use Common.{get_or, if-false, if-true, if◌then◌else◌, Input, InputAgrees, int_at, int_at-tabulate}
+use Common.{ints, level_unit, Line, line_more, LineAgrees, Machine, Moving, moving_of, nat_lt}
+use Common.{nat_tests, pos, refl, state_count, SummingAgrees, sym, true, Values, values_after}
+use Rattle.qss_components.specs.ComponentTheorems.{AgreementLasts}
 use Rattle.qss_components.proofs.Moving.{form_moves}
 
 module _ (m : Machine) (tick ticks : ℕ) (v : Values) where

@@ -1,18 +1,10 @@
 -- Crossings that received a message, and those that it does not go to.
-use Rattle.std.proofs.Common.{◌≡◌, ℕ, ◌<◌, Bool, true, false, List, length, get_or, map, All, refl}
-use Rattle.std.proofs.Common.{sym, ◌∙◌, ap, subst, arith}
-use Rattle.std.proofs.lemmas.List.{get_or-map, length-map}
-use Rattle.std.proofs.lemmas.List.Folds.{list_any_at}
-use Rattle.std.specs.Prelude.{◌==◌}
-use Rattle.qss_machine.specs.declared.machine_parts.Entry.{Entry}
-use Rattle.qss_machine.specs.declared.machine_parts.Condition.{Condition}
-use Rattle.qss_machine.specs.declared.compiled_machine.Machine.{Machine}
+use Rattle.qss_components.proofs.Common
+use Common.{ℕ, ◌<◌, ◌==◌, ◌∙◌, ◌≡◌, All, ap, arith, Bool, Condition, Crossing}
+use Common.{crossing_after_message, CrossingAgrees, Entry, entry_of, false, form_at, get_or}
+use Common.{get_or-map, Input, input_after_message, InputAgrees, length, length-map, List}
+use Common.{list_any_at, Machine, map, Message, refl, speed_by, subst, sym, true, Values}
 use Rattle.qss_machine.specs.Readers.{has_entry}
-use Rattle.qss_components.specs.declared.crossing_model.Input.{Input}
-use Rattle.qss_components.specs.declared.atomic.Message.{Message}
-use Rattle.qss_components.specs.Crossings.{Crossing, input_after_message, crossing_after_message}
-use Rattle.qss_components.specs.Crossings.{form_at, speed_by, entry_of}
-use Rattle.qss_components.specs.Agreement.{Values, InputAgrees, CrossingAgrees}
 use Rattle.qss_components.proofs.Moving.{no_ticks}
 use Rattle.qss_components.proofs.Inputs.{entries_same}
 

@@ -1,10 +1,9 @@
 -- A list that is changed one place after another.
-use Rattle.std.proofs.Common.{◌≡◌, ◌≢◌, ℕ, ◌+◌, ◌≤◌, ◌<◌, List, length, get_or, set, map, inl, inr}
-use Rattle.std.proofs.Common.{refl, sym, ◌∙◌, ap, subst, arith}
-use Rattle.std.proofs.lemmas.Bool.{cases_lt}
-use Rattle.std.proofs.lemmas.List.{get_or-map, get_or-set_same, get_or-set_other, get_or_default}
-use Rattle.std.proofs.lemmas.List.{length-map, length-set}
-use Rattle.qss_events.proofs.Firsts.{same_lists}
+use Rattle.qss_components.proofs.Common
+use Common.{ℕ, ◌+◌, ◌<◌, ◌∙◌, ◌≡◌, ◌≢◌, ◌≤◌, ap, arith, cases_lt, get_or, get_or-map}
+use Common.{get_or-set_other, get_or-set_same, get_or_default, inl, inr, length, length-map, List}
+use Common.{map, refl, same_lists, set, subst, sym}
+use Rattle.std.proofs.lemmas.List.{length-set}
 
 -- the elements before place k are changed, and the others are as they were
 pub record IsUpTo {X : Type 0} (f : X → X) (k : ℕ) (old now : List X) : Type 0 where

@@ -1,18 +1,10 @@
 -- A function that receives a message.
-use Rattle.std.proofs.Common.{◌≡◌, ◌≢◌, ℕ, ◌-◌, Bool, true, false, List, ℤ, refl, sym, ◌∙◌, ap}
-use Rattle.std.proofs.Common.{subst}
-use Rattle.std.proofs.lemmas.Bool.Decides.{Decides-int_eq}
-use Rattle.std.specs.Ordering.{int_eq}
-use Rattle.std.specs.Prelude.{slice_set, Option, Some, None, if◌then◌else◌}
-use Rattle.mu_num.proofs.Tests.{if-true, if-false}
-use Rattle.qss_machine.specs.declared.compiled_machine.Machine.{Machine}
-use Rattle.qss_machine.specs.Machines.{state_count, row_at}
-use Rattle.qss_machine.specs.Readers.{row_reads}
-use Rattle.qss_components.specs.declared.atomic.Message.{Message}
-use Rattle.qss_components.specs.declared.atomic.Message.TheVariants.{Level, Discrete}
-use Rattle.qss_components.specs.Functions.{FunctionState, sum_at, sum_of, change_by}
-use Rattle.qss_components.specs.Functions.{function_after_message, levels_after_message}
-use Rattle.qss_components.specs.Functions.{discretes_after_message}
+use Rattle.qss_components.proofs.Common
+use Common.{ℕ, ℤ, ◌-◌, ◌∙◌, ◌≡◌, ◌≢◌, ap, Bool, Decides-int_eq, Discrete, discretes_after_message}
+use Common.{false, function_after_message, FunctionState, if-false, if-true, if◌then◌else◌, int_eq}
+use Common.{Level, levels_after_message, List, Machine, Message, None, Option, refl, row_at}
+use Common.{row_reads, set as slice_set, Some, state_count, subst, sum_at, sum_of, sym, true}
+use Rattle.qss_components.specs.Functions.{change_by}
 
 pub level_told : (m : Machine) (row : ℕ) (levels : List ℤ) (message : Message) (var : ℕ) (level : ℤ)
     → message ≡ Level var level →

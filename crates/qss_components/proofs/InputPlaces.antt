@@ -1,25 +1,18 @@
 -- The places of inputs, and what binary search finds among them.
-use Rattle.std.proofs.Common.{◌≡◌, ◌≢◌, ℕ, ◌+◌, ◌-◌, ◌<◌, ◌≤◌, true, false, List, length, get_or}
-use Rattle.std.proofs.Common.{Result, Ok, Err, All, pos, sym, ◌∙◌, subst, arith, inl, inr}
-use Rattle.std.proofs.lemmas.Bool.{cases_lt}
-use Rattle.std.proofs.lemmas.Bool.Decides.{nat_tests}
+use Rattle.qss_components.proofs.Common
+use Common.{ℕ, ◌+◌, ◌-◌, ◌<◌, ◌==◌, ◌∙◌, ◌≡◌, ◌≢◌, ◌≤◌, All, AreInputs, arith, cases_lt}
+use Common.{discrete_count, eqb-yes, Err, false, FunctionInput, get_or, get_or-map, inl, input_vars}
+use Common.{inr, is_listed, IsStrictlyIncreasing, length, length-map, List, list_any_at, Machine}
+use Common.{nat_tests, Ok, pos, state_count, subst, sym, true}
+use Rattle.std.proofs.Common.{Result}
 use Rattle.std.proofs.lemmas.Cmp.{ranked}
-use Rattle.std.proofs.lemmas.List.{get_or-map, length-map}
-use Rattle.std.proofs.lemmas.List.Folds.{list_any_at}
 use Rattle.std.proofs.lemmas.List.Sorted.{IsNonDecreasingBy-from_default}
-use Rattle.std.specs.Prelude.{MatchResult, slice_index, ◌==◌}
+use Rattle.std.specs.Prelude.{MatchResult, slice_index}
 use Rattle.std.specs.Ordering.{nat_cmp, ordering_index}
-use Rattle.std.specs.List.Sorted.{IsStrictlyIncreasing, IsSearchInRange, IsBinarySearchResult}
-use Rattle.std.specs.List.Sorted.{IsNonDecreasingBy}
+use Rattle.std.specs.List.Sorted.{IsSearchInRange, IsBinarySearchResult, IsNonDecreasingBy}
 use Rattle.mu_num.proofs.RisingNumbers.{few_numbers}
-use Rattle.mu_num.proofs.Tests.{eqb-yes}
 use Rattle.mu_num.proofs.Writes.{index_of}
-use Rattle.mu_num.specs.ListedPlaces.{is_listed}
-use Rattle.qss_machine.specs.declared.compiled_machine.Machine.{Machine}
-use Rattle.qss_machine.specs.Machines.{state_count, discrete_count}
 use Rattle.qss_machine.proofs.ProductStates.{rising_to}
-use Rattle.qss_components.specs.declared.function_inputs.FunctionInput.{FunctionInput}
-use Rattle.qss_components.specs.FunctionInputs.{input_vars, AreInputs}
 
 abbrev pub no_input : FunctionInput
 no_input = record { var = 0; coef = pos 0; value = pos 0 }

@@ -1,38 +1,24 @@
 -- Sums over the inputs of a row are its slope and its absolute row sum.
-use Rattle.std.proofs.Common.{◌≡◌, ℕ, ◌+◌, ◌<◌, ◌≤◌, true, false, not, List, [], ◌∷◌, length}
-use Rattle.std.proofs.Common.{get_or, map, All, ◌^◌, ℤ, pos, ◌+ℤ◌, ◌*ℤ◌, refl, sym, ◌∙◌, ap, subst, arith}
-use Rattle.std.proofs.Common.{inl, inr}
+use Rattle.qss_components.proofs.Common
+use Common.{[], ℕ, ℤ, ◌*ℤ◌, ◌+ℤ◌, ◌+◌, ◌<◌, ◌==◌, ◌^◌, ◌||◌, ◌∙◌, ◌∷◌, ◌≡◌, ◌≤◌, abs_of, All}
+use Common.{All-head, All-tail, ap, AreInputs, arith, cases_Bool, cases_lt, coefficient_of}
+use Common.{discrete_count, Entry, exceeds, exceeds_row_limits, false, FunctionInput, get_or}
+use Common.{get_or-map, get_or_default, if-false, if-true, if◌then◌else◌, inl, input_discretes}
+use Common.{input_levels, input_value, input_vars, inr, int_at, int_at-tabulate, ints, is_listed}
+use Common.{length, length-map, length-map-range_with_len, List, Machine, map, mode_coefficient}
+use Common.{mode_fits, nat_lt, no_row, not, pos, refl, row_at, slope_of, SlopeRow, state_count}
+use Common.{subst, sum_at, sum_over, sym, true, weight_of}
 use Rattle.std.proofs.Math.IntN.{*ℤ_comm}
-use Rattle.std.proofs.lemmas.Bool.{cases_Bool, cases_lt, lt-ltb}
-use Rattle.std.proofs.lemmas.Int.{ints}
-use Rattle.std.proofs.lemmas.List.{get_or-map, get_or_default, length-map}
-use Rattle.std.proofs.lemmas.List.Elements.{All-head, All-tail}
-use Rattle.std.proofs.lemmas.List.FromFn.{length-map-range_with_len}
-use Rattle.std.specs.Prelude.{◌==◌, ◌||◌, if◌then◌else◌, nat_lt}
-use Rattle.mu_num.specs.Sizes.{exceeds}
-use Rattle.mu_num.specs.IndexedSums.{int_at, abs_of, sum_over, sum_below}
-use Rattle.mu_num.specs.ListedPlaces.{is_listed}
+use Rattle.std.proofs.lemmas.Bool.{lt-ltb}
+use Rattle.mu_num.specs.IndexedSums.{sum_below}
 use Rattle.mu_num.proofs.Sums.{sum_below-same, sum_below-split}
-use Rattle.mu_num.proofs.Tables.{int_at-tabulate}
-use Rattle.mu_num.proofs.Tests.{if-true, if-false}
-use Rattle.qss_machine.specs.declared.machine_parts.Entry.{Entry}
-use Rattle.qss_machine.specs.declared.machine_parts.SlopeRow.{SlopeRow}
-use Rattle.qss_machine.specs.declared.compiled_machine.Machine.{Machine}
 use Rattle.qss_machine.specs.MachineLimits.{IsRow}
-use Rattle.qss_machine.specs.Machines.{state_count, discrete_count, row_at}
-use Rattle.qss_machine.specs.Slopes.{coefficient_of, mode_coefficient, mode_fits, slope_of, weight_of}
-use Rattle.qss_machine.specs.Ticks.{exceeds_row_limits}
 use Rattle.qss_machine.proofs.Distinct.{plain, coefficient_size}
 use Rattle.qss_machine.proofs.ModeTests.{fits_true, fits_false}
 use Rattle.qss_machine.proofs.ProductStates.{IsFree, own_mode, own_mode_fits}
 use Rattle.qss_machine.proofs.SumLaws.{sum_below-entries}
 use Rattle.qss_machine.proofs.Unread.{unread_mode}
 use Rattle.qss_machine.proofs.WeightLaws.{size-mul}
-use Rattle.qss_events.specs.Schedules.{no_row}
-use Rattle.qss_components.specs.declared.function_inputs.FunctionInput.{FunctionInput}
-use Rattle.qss_components.specs.FunctionInputs.{input_vars, input_value, input_levels}
-use Rattle.qss_components.specs.FunctionInputs.{input_discretes, AreInputs}
-use Rattle.qss_components.specs.Functions.{sum_at}
 use Rattle.qss_components.proofs.InputPlaces.{no_input, input_place}
 use Rattle.qss_components.proofs.InputValues.{value_entry, value_is, entries_rise, sum_over-map}
 

@@ -1,30 +1,21 @@
 -- The values of inputs, also after one is set.
-use Rattle.std.proofs.Common.{◌≡◌, ◌≢◌, ℕ, zero, suc, ◌+◌, ◌-◌, ◌<◌, ◌≤◌, Bool, true, false, ◌&&◌, List}
-use Rattle.std.proofs.Common.{[], ◌∷◌, length, get_or, map, set, All, ℤ, pos, ◌+ℤ◌, refl, sym, ◌∙◌}
-use Rattle.std.proofs.Common.{ap, subst, arith, inl, inr}
+use Rattle.qss_components.proofs.Common
+use Common.{[], ℕ, ℤ, ◌&&◌, ◌+ℤ◌, ◌+◌, ◌-◌, ◌<◌, ◌==◌, ◌∙◌, ◌∷◌, ◌≡◌, ◌≢◌, ◌≤◌, All, All-head}
+use Common.{All-tail, ap, AreInputs, arith, Bool, cases_Bool, cases_eq, coefficient_of}
+use Common.{discrete_count, Entry, eqb-no, eqb-yes, false, FunctionInput, get_or, get_or-map}
+use Common.{get_or-set_same, if-false, if-true, if◌then◌else◌, inl, input_discretes, input_levels}
+use Common.{input_value, input_vars, inr, int_at, int_at-tabulate, is_listed, IsStrictlyIncreasing}
+use Common.{IsWithin, length, length-map, length-map-range_with_len, length-set, List, Machine, map}
+use Common.{pos, refl, row_at, row_reads, same_lists, set, state_count, subst, suc, sum_over, sym}
+use Common.{tabulate-same, true, zero}
 use Rattle.std.proofs.Math.IntN.{+ℤ_idl}
-use Rattle.std.proofs.Math.ListN.{length-set}
-use Rattle.std.proofs.lemmas.Bool.{cases_Bool, cases_eq, and_from, and_right}
-use Rattle.std.proofs.lemmas.List.{get_or-map, get_or-set_same, length-map}
-use Rattle.std.proofs.lemmas.List.Elements.{All-head, All-tail, All-set}
-use Rattle.std.proofs.lemmas.List.FromFn.{length-map-range_with_len}
-use Rattle.std.specs.List.Sorted.{IsStrictlyIncreasing}
-use Rattle.std.specs.Prelude.{◌==◌, if◌then◌else◌}
-use Rattle.mu_num.specs.Sizes.{IsWithin}
-use Rattle.mu_num.specs.IndexedSums.{int_at, sum_over, tabulate}
-use Rattle.mu_num.specs.ListedPlaces.{is_listed}
-use Rattle.mu_num.proofs.Tables.{map_twice, tabulate-same, int_at-tabulate}
-use Rattle.mu_num.proofs.Tests.{if-true, if-false, eqb-yes, eqb-no}
-use Rattle.qss_machine.specs.declared.machine_parts.Entry.{Entry}
-use Rattle.qss_machine.specs.declared.compiled_machine.Machine.{Machine}
-use Rattle.qss_machine.specs.Machines.{state_count, discrete_count, row_at, row_coefficient}
-use Rattle.qss_machine.specs.Readers.{row_reads}
-use Rattle.qss_machine.specs.Slopes.{coefficient_of}
+use Rattle.std.proofs.lemmas.Bool.{and_from, and_right}
+use Rattle.std.proofs.lemmas.List.Elements.{All-set}
+use Rattle.mu_num.specs.IndexedSums.{tabulate}
+use Rattle.mu_num.proofs.Tables.{map_twice}
+use Rattle.qss_machine.specs.Machines.{row_coefficient}
 use Rattle.qss_machine.proofs.Distinct.{coefficient_at}
-use Rattle.qss_events.proofs.Firsts.{same_lists}
-use Rattle.qss_components.specs.declared.function_inputs.FunctionInput.{FunctionInput}
-use Rattle.qss_components.specs.FunctionInputs.{input_vars, input_value, input_levels}
-use Rattle.qss_components.specs.FunctionInputs.{input_discretes, AreValued, AreInputs}
+use Rattle.qss_components.specs.FunctionInputs.{AreValued}
 use Rattle.qss_components.proofs.InputPlaces.{no_input, input_place, input_listed, others}
 use Rattle.qss_components.proofs.Variables.{set_same, set_other}
 

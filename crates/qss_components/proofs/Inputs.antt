@@ -1,26 +1,16 @@
 -- Inputs of a crossing that received a message.
-use Rattle.std.proofs.Common.{◌≡◌, ℕ, ◌+◌, ◌-◌, ◌*◌, ◌≤◌, ◌<◌, ◌^◌, List, [], ◌∷◌, length, get_or}
-use Rattle.std.proofs.Common.{map, ℤ, pos, ◌*ℤ◌, unsigned_abs, All, inl, inr, refl, sym, ◌∙◌, ap}
-use Rattle.std.proofs.Common.{subst, arith}
+use Rattle.qss_components.proofs.Common
+use Common.{[], ℕ, ℤ, ◌*ℤ◌, ◌*◌, ◌+◌, ◌-◌, ◌<◌, ◌==◌, ◌^◌, ◌||◌, ◌∙◌, ◌∷◌, ◌≡◌, ◌≤◌, All, ap}
+use Common.{AreParts, arith, cases_lt, Discrete, discrete_count, Entry, entry_of, eqb-true, get_or}
+use Common.{get_or-map, if_cases, inl, Input, input_after_message, input_at, inr, ints, IsInput}
+use Common.{IsMessage, IsWithin, length, length-map, Level, level_unit, List, Machine, map, Message}
+use Common.{pos, refl, Slope, State, state_count, StaysIfDiscrete, subst, sum_by, sym, Truth}
+use Common.{unsigned_abs-mul}
+use Rattle.std.proofs.Common.{unsigned_abs}
 use Rattle.std.proofs.Math.Nat.{mul-le-mul}
-use Rattle.std.proofs.lemmas.Bool.{cases_lt}
-use Rattle.std.proofs.lemmas.Int.{ints, unsigned_abs-mul}
-use Rattle.std.proofs.lemmas.List.{get_or-map, length-map}
 use Rattle.std.proofs.lemmas.List.Sums.{sum_by-cons}
-use Rattle.std.specs.Prelude.{sum_by, ◌||◌, ◌==◌}
-use Rattle.mu_num.specs.Sizes.{IsWithin}
-use Rattle.mu_num.proofs.Tests.{if_cases, eqb-true}
 use Rattle.qss_machine.proofs.Near.{unit_low, unit_high}
-use Rattle.qss_machine.specs.declared.machine_parts.Entry.{Entry}
-use Rattle.qss_machine.specs.declared.compiled_machine.Machine.{Machine}
-use Rattle.qss_machine.specs.Machines.{state_count, discrete_count, level_unit}
-use Rattle.qss_components.specs.declared.crossing_model.Input.{Input}
-use Rattle.qss_components.specs.declared.atomic.Message.{Message}
-use Rattle.qss_components.specs.declared.atomic.Message.TheVariants.{Slope, State, Level, Discrete}
-use Rattle.qss_components.specs.declared.atomic.Message.TheVariants.{Truth}
-use Rattle.qss_components.specs.Messages.{IsMessage}
-use Rattle.qss_components.specs.Crossings.{entry_of, input_at, input_after_message, AreSmallAt}
-use Rattle.qss_components.specs.Crossings.{IsInput, StaysIfDiscrete, AreParts}
+use Rattle.qss_components.specs.Crossings.{AreSmallAt}
 
 -- ---- entries stay
 

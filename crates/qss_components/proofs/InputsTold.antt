@@ -1,16 +1,9 @@
 -- An input that receives a message, by the kind of the message.
-use Rattle.std.proofs.Common.{◌≡◌, ◌≢◌, ℕ, ◌+◌, Bool, true, false, List, map, ℤ, pos, ◌*ℤ◌, refl}
-use Rattle.std.proofs.Common.{sym, ◌∙◌, ap, subst}
-use Rattle.std.specs.Prelude.{◌==◌, ◌||◌, not}
-use Rattle.mu_num.proofs.Tests.{if-true, if-false, eqb-yes, eqb-no}
-use Rattle.qss_machine.specs.declared.compiled_machine.Machine.{Machine}
-use Rattle.qss_machine.specs.Machines.{discrete_count, level_unit}
-use Rattle.qss_components.specs.declared.crossing_model.Input.{Input}
-use Rattle.qss_components.specs.declared.atomic.Message.{Message}
-use Rattle.qss_components.specs.declared.atomic.Message.TheVariants.{Slope, State, Discrete}
-use Rattle.qss_cross.specs.Crossing.{DetectorView}
-use Rattle.qss_components.specs.Crossings.{Crossing, input_at, input_after_message, form_at}
-use Rattle.qss_components.specs.Crossings.{speed_by, crossing_after_message}
+use Rattle.qss_components.proofs.Common
+use Common.{ℕ, ℤ, ◌*ℤ◌, ◌+◌, ◌==◌, ◌||◌, ◌∙◌, ◌≡◌, ◌≢◌, ap, Bool, Crossing, crossing_after_message}
+use Common.{DetectorView, Discrete, discrete_count, eqb-no, eqb-yes, false, form_at, if-false}
+use Common.{if-true, Input, input_after_message, input_at, level_unit, List, Machine, map, Message}
+use Common.{not, pos, refl, Slope, speed_by, State, subst, sym, true}
 
 module _ (m : Machine) (tick : ℕ) (i : Input) (message : Message) (var : ℕ) where
   pub slope_given : (slope : ℤ) → message ≡ Slope var slope → i.var ≡ var → record i { tick = tick; at = input_at tick i; speed = slope } ≡ input_after_message m tick message i

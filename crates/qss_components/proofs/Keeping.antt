@@ -1,30 +1,19 @@
 -- Messages keep components in agreement.
-use Rattle.std.proofs.Common.{◌≡◌, ◌≢◌, ℕ, ◌+◌, ◌-◌, ◌≤◌, ◌<◌, Bool, true, false, List, get_or, set}
-use Rattle.std.proofs.Common.{ℤ, refl, sym, ◌∙◌, ap, subst, arith, inl, inr, ◌⊎◌}
-use Rattle.std.proofs.lemmas.Bool.{cases_eq}
-use Rattle.std.proofs.lemmas.Bool.Decides.{Decides-int_eq}
-use Rattle.std.proofs.Math.ListN.{length-set}
+use Rattle.qss_components.proofs.Common
+use Common.{ℕ, ℤ, ◌+◌, ◌-◌, ◌<◌, ◌==◌, ◌||◌, ◌∙◌, ◌≡◌, ◌≢◌, ◌≤◌, ◌⊎◌, ap, arith, Bool, cases_eq}
+use Common.{Condition, condition_at, Crossing, crossing_after_message, CrossingAgrees}
+use Common.{Decides-int_eq, Discrete, discrete_count, eqb-false, eqb-true, false}
+use Common.{function_after_message, FunctionState, get_or, HasEach, if-false, if-true, if_cases}
+use Common.{if◌then◌else◌, inl, inr, int_at, int_eq, length-set, Level, Line, LineAgrees, List}
+use Common.{Machine, None, Option, refl, row_at, row_reads, set, Slope, Some, State, state_at}
+use Common.{state_count, subst, sum_of, SummingAgrees, sym, true, value_at, Values}
+use Common.{values_after_message}
 use Rattle.std.specs.Option.{option_or}
-use Rattle.std.specs.Ordering.{int_eq}
-use Rattle.std.specs.Prelude.{Option, Some, None, ◌==◌, ◌||◌, if◌then◌else◌}
-use Rattle.mu_num.proofs.Tests.{if_cases, if-true, if-false, eqb-true, eqb-false}
-use Rattle.qss_machine.specs.declared.machine_parts.Condition.{Condition}
-use Rattle.qss_machine.specs.declared.compiled_machine.Machine.{Machine}
-use Rattle.mu_num.specs.IndexedSums.{int_at}
-use Rattle.qss_machine.specs.Machines.{state_count, discrete_count, row_at}
-use Rattle.qss_machine.specs.Readers.{row_reads, condition_reads}
-use Rattle.qss_quant.specs.IntegratorLines.{Line, state_at}
-use Rattle.qss_events.specs.Schedules.{condition_at}
-use Rattle.qss_components.specs.declared.atomic.Message.TheVariants.{Slope, State, Level, Discrete}
+use Rattle.qss_machine.specs.Readers.{condition_reads}
 use Rattle.qss_components.specs.Integrators.{line_after_message}
-use Rattle.qss_components.specs.Functions.{FunctionState, sum_of, summing_sent, summing_with}
-use Rattle.qss_components.specs.Functions.{function_after_message}
-use Rattle.qss_cross.specs.Crossing.{value_at}
-use Rattle.qss_components.specs.Crossings.{Crossing, crossing_after_message}
+use Rattle.qss_components.specs.Functions.{summing_sent, summing_with}
 use Rattle.qss_components.specs.Crossings.{crossing_after_transition}
-use Rattle.qss_components.specs.Agreement.{Values, HasEach, LineAgrees, SummingAgrees}
-use Rattle.qss_components.specs.Agreement.{CrossingAgrees}
-use Rattle.qss_components.specs.ComponentTheorems.{values_after_message, MessagesKeepAgreement}
+use Rattle.qss_components.specs.ComponentTheorems.{MessagesKeepAgreement}
 use Rattle.qss_components.proofs.Moving.{no_ticks}
 use Rattle.qss_components.proofs.ExpectedResult.{unread, told, untold}
 use Rattle.qss_components.proofs.Variables.{set_same, set_other, neither, slope_given, state_given}

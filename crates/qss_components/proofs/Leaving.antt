@@ -1,26 +1,16 @@
 -- Where the state of a line is up to the tick at which it leaves the quantum of its level.
-use Rattle.std.proofs.Common.{◌≡◌, ℕ, zero, suc, ◌+◌, ◌-◌, ◌≤◌, ◌<◌, ◌^◌, Bool, true, false, ℤ}
-use Rattle.std.proofs.Common.{◌+ℤ◌, inl, inr, refl, sym, ◌∙◌, ap, subst, arith}
-use Rattle.std.proofs.lemmas.Bool.{cases_lt}
-use Rattle.std.proofs.lemmas.Int.{ints}
-use Rattle.std.specs.Prelude.{Option, Some, None, MatchBool}
-use Rattle.mu_num.specs.Levels.{IsWithinOneLevel}
-use Rattle.mu_num.specs.Sizes.{IsWithin}
-use Rattle.mu_num.specs.Ticks.{FirstAfter, IsFirstAfter}
-use Rattle.mu_num.proofs.Tests.{int_lt-true, int_lt-false, int_lt-yes, int_lt-no}
-use Rattle.mu_num.specs.Limits.{tick_limit}
-use Rattle.qss_machine.specs.declared.compiled_machine.Machine.{Machine}
-use Rattle.qss_machine.specs.Machines.{state_count, level_unit, quantum_of}
-use Rattle.qss_machine.specs.Ticks.{is_within_quantum, IsNextLevel}
-use Rattle.qss_quant.specs.declared.quantizer.Rule.{Rule}
-use Rattle.qss_quant.specs.IntegratorLines.{Line, state_at, IsLine, IsLineWithinQuantum, IsAway}
-use Rattle.qss_quant.specs.LevelRules.{IsAnswer}
-use Rattle.qss_events.specs.AllowedLevels.{IsAllowedLevel}
-use Rattle.qss_events.specs.Schedules.{LeavesAt}
+use Rattle.qss_components.proofs.Common
+use Common.{ℕ, ℤ, ◌+ℤ◌, ◌+◌, ◌-◌, ◌<◌, ◌^◌, ◌∙◌, ◌≡◌, ◌≤◌, ap, arith, Bool, cases_lt, false}
+use Common.{FirstAfter, inl, inr, int_lt-true, ints, is_within_quantum, IsAllowedLevel, IsAnswer}
+use Common.{IsLine, IsLineNext, IsLineWithinQuantum, IsNextLevel, IsWithin, IsWithinOneLevel}
+use Common.{LeavesAt, level_unit, Line, Machine, MatchBool, None, Option, quantum_of, refl, Rule}
+use Common.{Some, state_at, state_count, subst, suc, sym, tick_limit, true, zero}
+use Rattle.mu_num.specs.Ticks.{IsFirstAfter}
+use Rattle.mu_num.proofs.Tests.{int_lt-false, int_lt-yes, int_lt-no}
+use Rattle.qss_quant.specs.IntegratorLines.{IsAway}
 use Rattle.qss_events.proofs.NextLevels.{next_is_near}
 use Rattle.qss_events.proofs.Ranges.{near_small}
 use Rattle.qss_events.proofs.Lines.{line_here}
-use Rattle.qss_components.specs.Integrators.{IsLineNext}
 use Rattle.qss_components.proofs.Ticks.{one_more, first_one}
 
 sum_small : (x s total : ℤ) → total ≡ x +ℤ s → IsWithin 88 x → IsWithin 88 s → IsWithin 89 total

@@ -1,3 +1,4 @@
+mod Common
 mod Ticks
 pub mod Places
 pub mod Leaving

@@ -1,10 +1,6 @@
 -- A line whose numbers went through the types of the code.
-use Rattle.std.proofs.Common.{◌≡◌, ℕ, ℤ}
-use Rattle.std.proofs.lemmas.Int.{to_z-of_z}
-use Rattle.std.specs.Int.RustNames.{FitsSigned}
-use Rattle.qss_quant.specs.IntegratorLines.{Line}
-use mir.Syntax.{w64, w128}
-use mir.Val.{to_z, of_z}
+use Rattle.qss_components.proofs.Common
+use Common.{ℕ, ℤ, ◌≡◌, FitsSigned, Line, of_z, to_z, to_z-of_z, w128, w64}
 
 -- a line by its parts, the state last
 abbrev pub line_at : ℕ → ℤ → ℤ → ℤ → Line

@@ -1,11 +1,7 @@
 -- A line that receives a message, by the kind of the message.
-use Rattle.std.proofs.Common.{◌≡◌, ◌≢◌, ℕ, ℤ, sym, subst}
-use Rattle.std.specs.Prelude.{◌==◌}
-use Rattle.mu_num.proofs.Tests.{if-true, if-false, eqb-yes, eqb-no}
-use Rattle.qss_quant.specs.IntegratorLines.{Line}
-use Rattle.qss_components.specs.declared.atomic.Message.{Message}
-use Rattle.qss_components.specs.declared.atomic.Message.TheVariants.{Slope, State}
-use Rattle.qss_components.specs.Integrators.{line_told}
+use Rattle.qss_components.proofs.Common
+use Common.{ℕ, ℤ, ◌==◌, ◌≡◌, ◌≢◌, eqb-no, eqb-yes, if-false, if-true, Line, line_told, Message}
+use Common.{Slope, State, subst, sym}
 
 module _ (var other : ℕ) (line : Line) (message : Message) where
   pub slope_told : (slope : ℤ) → message ≡ Slope other slope → other ≡ var → record line { slope = slope } ≡ line_told var line message

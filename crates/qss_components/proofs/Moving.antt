@@ -1,15 +1,10 @@
 -- Lines go on, and so do the forms over them.
-use Rattle.std.proofs.Common.{◌≡◌, ℕ, suc, ◌+◌, ◌-◌, ◌≤◌, ◌^◌, List, [], ◌∷◌, ℤ, pos, ◌+ℤ◌, ◌*ℤ◌}
-use Rattle.std.proofs.Common.{All, ◌∙◌, ap, arith}
-use Rattle.std.proofs.lemmas.Int.{ints}
-use Rattle.std.proofs.Math.IntN.{*ℤ-zero, zero-*ℤ}
+use Rattle.qss_components.proofs.Common
+use Common.{*ℤ-zero, [], ℕ, ℤ, ◌*ℤ◌, ◌+ℤ◌, ◌+◌, ◌-◌, ◌^◌, ◌∙◌, ◌∷◌, ◌≡◌, ◌≤◌, All, ap, arith}
+use Common.{form_at, Input, input_at, ints, line_more, List, Machine, pos, speed_by, suc, sum_over}
+use Common.{zero-*ℤ}
 use Rattle.mu_num.proofs.Integers.{mul-add}
-use Rattle.qss_machine.specs.declared.compiled_machine.Machine.{Machine}
-use Rattle.mu_num.specs.IndexedSums.{sum_over}
 use Rattle.qss_events.proofs.Lines.{term_line, time_line}
-use Rattle.qss_events.proofs.Silence.{line_more}
-use Rattle.qss_components.specs.declared.crossing_model.Input.{Input}
-use Rattle.qss_components.specs.Crossings.{input_at, form_at, speed_by}
 
 -- a line no ticks on
 pub no_ticks : (x s : ℤ) (tick : ℕ) → x +ℤ pos (tick - tick) *ℤ s ≡ x

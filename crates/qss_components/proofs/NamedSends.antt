@@ -1,11 +1,6 @@
 -- A quantizer with a name gives one level.
-use Rattle.std.proofs.Common.{◌≡◌, ℕ, ℤ, refl, sym, ◌∙◌, ap}
-use Rattle.std.specs.Prelude.{Option, Some}
-use Rattle.qss_machine.specs.declared.compiled_machine.Machine.{Machine}
-use Rattle.qss_quant.specs.declared.quantizer.Rule.{Rule}
-use Rattle.qss_quant.specs.IntegratorLines.{Line}
-use Rattle.qss_components.specs.declared.atomic.Message.{Message}
-use Rattle.qss_components.specs.declared.atomic.Message.TheVariants.{Level}
+use Rattle.qss_components.proofs.Common
+use Common.{ℕ, ℤ, ◌∙◌, ◌≡◌, ap, Level, Line, Machine, Message, Option, refl, Rule, Some, sym}
 use Rattle.qss_components.specs.Integrators.{SendsLevel}
 use Rattle.qss_components.specs.ComponentTheorems.{NamedSendsOne}
 

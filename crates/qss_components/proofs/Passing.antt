@@ -1,10 +1,7 @@
 -- A message whose level or slope is within its limit.
-use Rattle.std.proofs.Common.{◌≡◌, false}
+use Rattle.qss_components.proofs.Common
+use Common.{◌≡◌, Discrete, false, HasSmallLevel, Level, Message, passes_limit, Slope, State, Truth}
 use Rattle.mu_num.proofs.SizeTests.{passes-within}
-use Rattle.qss_components.specs.declared.atomic.Message.{Message}
-use Rattle.qss_components.specs.declared.atomic.Message.TheVariants.{Slope, State, Level, Discrete}
-use Rattle.qss_components.specs.declared.atomic.Message.TheVariants.{Truth}
-use Rattle.qss_components.specs.Messages.{HasSmallLevel, passes_limit}
 
 pub level_small : (message : Message) → passes_limit message ≡ false → HasSmallLevel message
 level_small (Slope var slope) e = tt

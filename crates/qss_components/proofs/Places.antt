@@ -1,9 +1,7 @@
 -- Lists whose elements are as their places ask.
-use Rattle.std.proofs.Common.{◌≡◌, ℕ, ◌<◌, ◌≤◌, List, [], ◌∷◌, ◌++◌, length, get_or, sym, subst}
-use Rattle.std.proofs.Common.{arith, inl, inr}
-use Rattle.std.proofs.lemmas.Bool.{cases_lt}
-use Rattle.std.proofs.lemmas.List.{get_or_append_left, get_or_at, length-append}
-use Rattle.qss_components.specs.ComponentPlaces.{EachAt}
+use Rattle.qss_components.proofs.Common
+use Common.{[], ℕ, ◌++◌, ◌<◌, ◌∷◌, ◌≡◌, ◌≤◌, arith, cases_lt, EachAt, get_or, get_or_append_left}
+use Common.{get_or_at, inl, inr, length, length-append, List, subst, sym}
 
 -- one more element that is as its place asks
 pub each_more : {X : Type 0} (P : ℕ → X → Type 0) (n : ℕ) (old new : List X) (x : X) → new ≡ old ++ x ∷ [] → length old ≡ n → EachAt P old → P n x → EachAt P new

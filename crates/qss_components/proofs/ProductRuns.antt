@@ -1,16 +1,13 @@
 -- The products of one state are adjacent.
-use Rattle.std.proofs.Common.{◌≡◌, ℕ, zero, suc, ◌+◌, ◌-◌, ◌<◌, ◌≤◌, ◌≢◌, List, length, get_or, take, drop}
-use Rattle.std.proofs.Common.{ℤ, pos, ◌+ℤ◌, ◌*ℤ◌, refl, sym, ◌∙◌, ap, subst, arith, add-one, ◌==◌}
-use Rattle.std.proofs.Math.IntN.{+ℤ_idr}
-use Rattle.std.proofs.lemmas.List.{take_all, length-drop, get_or-drop}
+use Rattle.qss_components.proofs.Common
+use Common.{+ℤ_idr, ℕ, ℤ, ◌*ℤ◌, ◌+ℤ◌, ◌+◌, ◌-◌, ◌<◌, ◌==◌, ◌∙◌, ◌≡◌, ◌≢◌, ◌≤◌, ap, arith, eqb-no}
+use Common.{get_or, if-false, if◌then◌else◌, int_at, length, List, nat_lt, pos, Product}
+use Common.{products_of, refl, subst, suc, sym, take, take_all, zero}
+use Rattle.std.proofs.Common.{drop, add-one}
+use Rattle.std.proofs.lemmas.List.{length-drop, get_or-drop}
 use Rattle.std.proofs.lemmas.List.Sorted.{IsPartitionedBy-ltb}
-use Rattle.std.specs.Prelude.{if◌then◌else◌, nat_lt}
 use Rattle.std.specs.List.Sorted.{IsPartitionedBy}
-use Rattle.mu_num.proofs.Tests.{if-false, eqb-no}
-use Rattle.qss_machine.specs.declared.machine_parts.Product.{Product}
 use Rattle.qss_machine.specs.MachineLimits.{AreProducts}
-use Rattle.mu_num.specs.IndexedSums.{int_at}
-use Rattle.qss_machine.specs.Slopes.{products_of}
 use Rattle.qss_machine.proofs.ProductStates.{rising_states}
 use Rattle.mu_num.proofs.Sums.{sum_over_more}
 

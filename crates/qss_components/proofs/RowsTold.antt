@@ -1,22 +1,17 @@
 -- The rows of handlers list the effects of the handlers.
-use Rattle.std.proofs.Common.{◌≡◌, ℕ, ◌-◌, ◌++◌, [], ◌∷◌, List, ℤ, pos, set, refl, ◌∙◌, ap}
+use Rattle.qss_components.proofs.Common
+use Common.{[], ℕ, ℤ, ◌++◌, ◌-◌, ◌∙◌, ◌∷◌, ◌≡◌, ap, Discrete, discrete_count, exceeds, if_cases}
+use Common.{List, Machine, pos, refl, set, Some, State, state_count, Values, values_after_message}
 use Rattle.std.proofs.lemmas.List.Sums.{fold-append}
-use Rattle.std.specs.Prelude.{Some}
-use Rattle.mu_num.proofs.Tests.{if_cases}
-use Rattle.mu_num.specs.Sizes.{exceeds}
 use Rattle.qss_machine.specs.declared.machine_parts.Action.{Action}
 use Rattle.qss_machine.specs.declared.machine_parts.Action.TheVariants.{Set, Reinit}
 use Rattle.qss_machine.specs.declared.machine_parts.Row.{Row}
-use Rattle.qss_machine.specs.declared.machine_parts.RowKind.TheVariants as kind
-use Rattle.qss_machine.specs.declared.compiled_machine.Machine.{Machine}
 use Rattle.qss_machine.specs.Handlers.{HandlerState, assign, fire_row}
 use Rattle.qss_machine.specs.MachineLimits.{IsAction}
-use Rattle.qss_machine.specs.Machines.{state_count, discrete_count}
 use Rattle.qss_events.proofs.Kept.{after_clauses}
-use Rattle.qss_components.specs.declared.atomic.Message.TheVariants.{State, Discrete}
-use Rattle.qss_components.specs.Agreement.{Values}
-use Rattle.qss_components.specs.ComponentTheorems.{values_after_message, values_after_row}
-use Rattle.qss_components.specs.ComponentTheorems.{values_after_rows, RowsTellHandlers}
+use Rattle.qss_components.specs.ComponentTheorems.{values_after_row, values_after_rows}
+use Rattle.qss_components.specs.ComponentTheorems.{RowsTellHandlers}
+use Rattle.qss_machine.specs.declared.machine_parts.RowKind.TheVariants as kind
 
 module _ (m : Machine) (tick : ℕ) (v : Values) where
   abbrev Tells : HandlerState → Type 0

@@ -1,24 +1,14 @@
 -- Where no function has a sum to send, the sums that were sent are the slopes.
-use Rattle.std.proofs.Common.{◌≡◌, ℕ, ◌+◌, ◌≤◌, ◌<◌, ◌^◌, Bool, true, false, pos, All, refl, sym}
-use Rattle.std.proofs.Common.{◌∙◌, ap, subst, arith}
-use Rattle.std.proofs.lemmas.List.FromFn.{length-map-range_with_len}
+use Rattle.qss_components.proofs.Common
+use Common.{ℕ, ◌+◌, ◌<◌, ◌^◌, ◌||◌, ◌∙◌, ◌≡◌, ◌≤◌, Agree, All, ap, arith, Bool, discrete_count}
+use Common.{exceeds, exceeds_row_limits, false, FunctionState, HasEach, if-false, if-true}
+use Common.{if◌then◌else◌, int_at, int_at-tabulate, IsWithin, length-map-range_with_len, Machine}
+use Common.{mode_coefficient, mode_fits, no_row, None, not, pos, Product, refl, row_at, same_lists}
+use Common.{slope_at, slope_of, slopes_of, state_count, subst, sum_at, sum_of, SummingAgrees, sym}
+use Common.{tabulate-same, true, Values, weight_of}
 use Rattle.std.specs.List.{list_all}
-use Rattle.std.specs.Prelude.{None, not, ◌||◌, if◌then◌else◌}
-use Rattle.mu_num.specs.Sizes.{IsWithin, exceeds}
-use Rattle.mu_num.proofs.Tests.{if-true, if-false}
-use Rattle.qss_machine.specs.declared.machine_parts.Product.{Product}
-use Rattle.qss_machine.specs.declared.compiled_machine.Machine.{Machine}
-use Rattle.mu_num.specs.IndexedSums.{int_at}
-use Rattle.qss_machine.specs.Slopes.{mode_coefficient, mode_fits, slope_of, weight_of}
-use Rattle.qss_machine.specs.Machines.{state_count, discrete_count, row_at, slope_at}
-use Rattle.qss_machine.specs.Ticks.{exceeds_row_limits}
-use Rattle.qss_events.specs.Schedules.{slopes_of, no_row}
-use Rattle.qss_events.proofs.Firsts.{same_lists}
-use Rattle.mu_num.proofs.Tables.{int_at-tabulate, tabulate-same}
 use Rattle.qss_events.proofs.Ranges.{position-none}
 use Rattle.qss_events.proofs.SameSlopes.{mode_same, slope_same, weight_same}
-use Rattle.qss_components.specs.Functions.{FunctionState, sum_at, sum_of}
-use Rattle.qss_components.specs.Agreement.{Values, HasEach, SummingAgrees, Agree}
 use Rattle.qss_components.specs.ComponentTheorems.{SettledStand}
 
 module _ (m : Machine) (tick : ℕ) (v : Values) (each : HasEach m v) (j : ℕ) (h : j < state_count m) (s : FunctionState) (a : SummingAgrees m tick v j s) where

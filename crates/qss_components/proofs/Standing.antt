@@ -1,44 +1,27 @@
 -- Components that represent a snapshot are lines, detectors and due ticks that represent it.
-use Rattle.std.proofs.Common.{◌≡◌, ◌≢◌, ℕ, zero, suc, ◌+◌, ◌-◌, ◌*◌, ◌≤◌, ◌<◌, ◌^◌, Bool, true}
-use Rattle.std.proofs.Common.{false, List, [], ◌∷◌, ◌++◌, length, get_or, map, ℤ, pos, ◌+ℤ◌, ◌*ℤ◌}
-use Rattle.std.proofs.Common.{All, refl, sym, ◌∙◌, ap, subst, arith, inl, inr}
-use Rattle.std.proofs.lemmas.Bool.{cases_lt}
-use Rattle.std.proofs.lemmas.Bool.Decides.{nat_tests}
-use Rattle.std.proofs.lemmas.Int.{ints}
-use Rattle.std.proofs.lemmas.List.{get_or_past, get_or_append_left, get_or-append_right, get_or-map}
-use Rattle.std.proofs.lemmas.List.{length-map}
-use Rattle.std.proofs.lemmas.List.FromFn.{length-map-range_with_len}
-use Rattle.std.proofs.Math.IntN.{zero-*ℤ}
-use Rattle.std.specs.Prelude.{Option, Some, None, MatchBool, nat_lt, if◌then◌else◌}
-use Rattle.mu_num.specs.Ticks.{FirstAfter}
-use Rattle.mu_num.proofs.Tests.{if-true, if-false}
-use Rattle.qss_machine.specs.declared.machine_parts.Entry.{Entry}
-use Rattle.qss_machine.specs.declared.machine_parts.Condition.{Condition}
-use Rattle.qss_machine.specs.declared.machine_parts.Rel.TheVariants.{Less}
-use Rattle.qss_machine.specs.declared.compiled_machine.Machine.{Machine}
-use Rattle.mu_num.specs.IndexedSums.{int_at, sum_over}
+use Rattle.qss_components.proofs.Common
+use Common.{[], ℕ, ℤ, ◌*ℤ◌, ◌*◌, ◌++◌, ◌+ℤ◌, ◌+◌, ◌-◌, ◌<◌, ◌^◌, ◌∙◌, ◌∷◌, ◌≡◌, ◌≢◌, ◌≤◌, Agree}
+use Common.{All, ap, arith, Bool, cases_lt, compares, Condition, condition_at, Crossing}
+use Common.{CrossingAgrees, DetectorView, discrete_count, Entry, entry_of, false, FirstAfter}
+use Common.{get_or, get_or-map, get_or_append_left, holds_at, if-false, if-true, if◌then◌else◌, inl}
+use Common.{Input, input_at, inr, int_at, int_at-tabulate, ints, is_within_quantum, IsCrossingNext}
+use Common.{IsLineNext, LeavesAt, length, length-map, length-map-range_with_len, Less, level_unit}
+use Common.{Line, LineAgrees, List, Machine, map, MatchBool, Moving, moving_of, nat_lt, nat_tests}
+use Common.{None, Option, pos, refl, same_flag, slope_at, slopes_of, Some, state_count, subst, suc}
+use Common.{sum_over, sym, tabulate-same, tick_limit, true, value_at, Values, values_after, zero}
+use Common.{zero-*ℤ}
+use Rattle.std.proofs.lemmas.List.{get_or_past, get_or-append_right}
 use Rattle.qss_machine.specs.Slopes.{weighted_sum}
-use Rattle.qss_machine.specs.Machines.{state_count, discrete_count, level_unit, slope_at, inputs}
-use Rattle.qss_machine.specs.Machines.{value_of, speed_of, compares, truth}
+use Rattle.qss_machine.specs.Machines.{inputs, value_of, speed_of, truth}
 use Rattle.qss_machine.specs.Handlers.{conditions}
 use Rattle.mu_num.specs.ListedPlaces.{flag_at}
-use Rattle.qss_machine.specs.Ticks.{Snapshot, is_within_quantum}
+use Rattle.qss_machine.specs.Ticks.{Snapshot}
 use Rattle.qss_machine.proofs.SumLaws.{weighted_sum-entries}
-use Rattle.qss_quant.specs.IntegratorLines.{Line}
-use Rattle.qss_cross.specs.Crossing.{DetectorView, value_at, holds_at}
 use Rattle.qss_events.specs.EventFreeTicks.{snapshot_after}
-use Rattle.qss_events.specs.Schedules.{slopes_of, condition_at, IsLineOf, IsDue, IsDetectorOf}
-use Rattle.qss_events.specs.Schedules.{IsChange, LeavesAt}
-use Rattle.mu_num.proofs.Tables.{int_at-tabulate, tabulate-same}
-use Rattle.mu_num.specs.Limits.{tick_limit}
-use Rattle.qss_events.proofs.Silence.{from_later, same_flag}
-use Rattle.qss_components.specs.declared.crossing_model.Input.{Input}
-use Rattle.qss_components.specs.Integrators.{IsLineNext}
-use Rattle.qss_components.specs.Crossings.{Crossing, input_at, IsCrossingNext, entry_of}
-use Rattle.qss_components.specs.Agreement.{Values, values_of, LineAgrees, Moving, moving_of}
-use Rattle.qss_components.specs.Agreement.{CrossingAgrees, Agree, ComponentsRepresent}
-use Rattle.qss_components.specs.ComponentTheorems.{values_after, ComponentsStand, ComponentsMove}
-use Rattle.qss_components.specs.ComponentTheorems.{CrossingsTell}
+use Rattle.qss_events.specs.Schedules.{IsLineOf, IsDue, IsDetectorOf, IsChange}
+use Rattle.qss_events.proofs.Silence.{from_later}
+use Rattle.qss_components.specs.Agreement.{values_of, ComponentsRepresent}
+use Rattle.qss_components.specs.ComponentTheorems.{ComponentsStand, ComponentsMove, CrossingsTell}
 use Rattle.qss_components.proofs.Agreement.{agreement_lasts}
 
 -- a sum over inputs is one over their entries

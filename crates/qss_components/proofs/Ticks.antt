@@ -1,9 +1,7 @@
 -- First ticks, and one tick more on a line.
-use Rattle.std.proofs.Common.{◌≡◌, ℕ, suc, ◌≤◌, ℤ, pos, ◌+ℤ◌, ◌*ℤ◌, ◌∙◌, ap, refl, inl, inr, arith}
-use Rattle.std.proofs.lemmas.Bool.{cases_lt}
-use Rattle.std.proofs.lemmas.Int.{ints}
-use Rattle.std.specs.Prelude.{Option, Some, None}
-use Rattle.mu_num.specs.Ticks.{FirstAfter}
+use Rattle.qss_components.proofs.Common
+use Common.{ℕ, ℤ, ◌*ℤ◌, ◌+ℤ◌, ◌∙◌, ◌≡◌, ◌≤◌, ap, arith, cases_lt, FirstAfter, inl, inr, ints, None}
+use Common.{Option, pos, refl, Some, suc}
 use Rattle.mu_num.proofs.Integers.{add-mul}
 
 -- there is one first tick

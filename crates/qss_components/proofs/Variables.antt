@@ -1,20 +1,12 @@
 -- What the inputs of a crossing are after a message.
-use Rattle.std.proofs.Common.{◌≡◌, ◌≢◌, ℕ, ◌+◌, ◌-◌, ◌≤◌, ◌<◌, Bool, true, false, List, length, set}
-use Rattle.std.proofs.Common.{ℤ, pos, ◌*ℤ◌, refl, sym, ◌∙◌, ap, subst, arith, inl, inr, ◌⊎◌}
-use Rattle.std.proofs.lemmas.Bool.{cases_eq, cases_lt}
-use Rattle.std.proofs.lemmas.Bool.Decides.{nat_tests}
+use Rattle.qss_components.proofs.Common
+use Common.{ℕ, ℤ, ◌*ℤ◌, ◌+◌, ◌-◌, ◌<◌, ◌==◌, ◌||◌, ◌∙◌, ◌≡◌, ◌≢◌, ◌≤◌, ◌⊎◌, ap, arith, Bool}
+use Common.{cases_eq, cases_lt, Discrete, discrete_count, eqb-no, eqb-yes, false, get_or-set_other}
+use Common.{HasEach, if-false, if-true, if◌then◌else◌, inl, Input, input_after_message, input_at}
+use Common.{InputAgrees, inr, int_at, length, level_unit, List, Machine, Moving, moving_of, nat_lt}
+use Common.{nat_tests, pos, refl, set, Slope, State, state_count, subst, sym, true, Values}
+use Common.{values_after_message}
 use Rattle.std.proofs.lemmas.Grind.{get_or-set_at}
-use Rattle.std.proofs.lemmas.List.{get_or-set_other}
-use Rattle.std.specs.Prelude.{nat_lt, ◌==◌, ◌||◌, if◌then◌else◌}
-use Rattle.mu_num.proofs.Tests.{if-true, if-false, eqb-yes, eqb-no}
-use Rattle.qss_machine.specs.declared.compiled_machine.Machine.{Machine}
-use Rattle.mu_num.specs.IndexedSums.{int_at}
-use Rattle.qss_machine.specs.Machines.{state_count, discrete_count, level_unit}
-use Rattle.qss_components.specs.declared.crossing_model.Input.{Input}
-use Rattle.qss_components.specs.declared.atomic.Message.TheVariants.{Slope, State, Discrete}
-use Rattle.qss_components.specs.Crossings.{input_at, input_after_message}
-use Rattle.qss_components.specs.Agreement.{Values, HasEach, Moving, moving_of, InputAgrees}
-use Rattle.qss_components.specs.ComponentTheorems.{values_after_message}
 use Rattle.qss_components.proofs.Moving.{no_ticks}
 
 -- ---- a number of a list that was set

@@ -1,12 +1,11 @@
 -- A value on a line crosses a bound at most once.
-use Rattle.std.proofs.Common.{◌≡◌, ◌≢◌, ℕ, ◌-◌, ◌≤◌, ℤ, pos, ◌+ℤ◌, ◌*ℤ◌, ◌≤ℤ◌, sym, ap, subst, ◌∙◌, refl, arith}
-use Rattle.std.specs.Prelude.{int_le, not}
-use Rattle.std.proofs.lemmas.Int.{ints, by_lt_z}
+use Rattle.qss_cross.proofs.Common
+use Common.{ℕ, ℤ, ◌*ℤ◌, ◌+ℤ◌, ◌-◌, ◌∙◌, ◌≡◌, ◌≢◌, ◌≤ℤ◌, ap, arith, bound_of, compares, Greater}
+use Common.{GreaterEq, int_le, ints, Less, LessEq, not, pos, refl, Rel, subst, sym}
+use Rattle.std.proofs.Common.{◌≤◌}
+use Rattle.std.proofs.lemmas.Int.{by_lt_z}
 use Rattle.mu_num.proofs.Integers.{add-mul, mul-nonneg, mul-nonpos}
-use Rattle.qss_machine.specs.declared.machine_parts.Rel.{Rel}
-use Rattle.qss_machine.specs.declared.machine_parts.Rel.TheVariants.{Less, LessEq, Greater, GreaterEq}
-use Rattle.qss_machine.specs.Machines.{compares}
-use Rattle.qss_cross.specs.Crossing.{value_at, bound_of, CrossesOnce}
+use Rattle.qss_cross.specs.Crossing.{value_at, CrossesOnce}
 use Rattle.qss_cross.proofs.Across.{differs_back, less_is, less_eq_is, greater_is}
 
 rising_once : (b x d e : ℤ) → pos 0 ≤ℤ d → pos 0 ≤ℤ e → int_le b x ≢ int_le b (x +ℤ d) → int_le b ((x +ℤ d) +ℤ e) ≡ int_le b (x +ℤ d)

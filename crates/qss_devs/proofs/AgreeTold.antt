@@ -1,29 +1,16 @@
 -- Components that received a message agree with its value.
-use Rattle.std.proofs.Common.{◌≡◌, ◌≢◌, ℕ, ◌+◌, ◌-◌, ◌<◌, List, [], ◌∷◌, length, get_or, take, ℤ}
-use Rattle.std.proofs.Common.{refl, sym, ◌∙◌, ap, subst}
-use Rattle.std.proofs.lemmas.List.{length-set}
+use Rattle.qss_devs.proofs.Common
+use Common.{[], ℕ, ℤ, ◌+◌, ◌-◌, ◌<◌, ◌∙◌, ◌∷◌, ◌≡◌, ◌≢◌, Agrees, ap, Components, condition_at}
+use Common.{conditions, Crossing, crossing_at, CrossingAgrees, crossings_given, Discrete}
+use Common.{function_state_at, functions_given, FunctionState, get_or, HasEach, HaveReceived}
+use Common.{IsMessage, length, length-set, Level, Line, line_at, LineAgrees, lines_given, List}
+use Common.{Machine, refl, Row, RowKind, Slope, State, state_at, state_count, subst, sum_of}
+use Common.{summing_sent, SummingAgrees, sym, take, Values, values_after_row, values_after_rows}
 use Rattle.std.proofs.lemmas.List.Sums.{fold_more}
-use Rattle.qss_machine.specs.declared.machine_parts.Row.{Row}
-use Rattle.qss_machine.specs.declared.machine_parts.RowKind.{RowKind}
-use Rattle.qss_machine.specs.declared.machine_parts.RowKind.TheVariants as kind
-use Rattle.qss_machine.specs.declared.compiled_machine.Machine.{Machine}
-use Rattle.qss_machine.specs.Machines.{state_count}
-use Rattle.qss_machine.specs.Handlers.{conditions}
-use Rattle.qss_quant.specs.IntegratorLines.{Line, state_at}
-use Rattle.qss_events.specs.Schedules.{condition_at}
-use Rattle.qss_components.specs.declared.atomic.Message.TheVariants.{Slope, State, Level, Discrete}
-use Rattle.qss_components.specs.Messages.{IsMessage}
-use Rattle.qss_components.specs.Functions.{FunctionState, sum_of, summing_sent}
-use Rattle.qss_components.specs.Crossings.{Crossing}
-use Rattle.qss_components.specs.Agreement.{Values, HasEach, LineAgrees, SummingAgrees}
-use Rattle.qss_components.specs.Agreement.{CrossingAgrees, Agree}
-use Rattle.qss_components.specs.ComponentTheorems.{values_after_message, values_after_row}
-use Rattle.qss_components.specs.ComponentTheorems.{values_after_rows, crossings_given, lines_given}
-use Rattle.qss_components.specs.ComponentTheorems.{functions_given}
+use Rattle.qss_components.specs.Agreement.{Agree}
+use Rattle.qss_components.specs.ComponentTheorems.{values_after_message}
 use Rattle.qss_components.proofs.Keeping.{messages_keep_agreement}
-use Rattle.qss_devs.specs.declared.coupled_messages.Components.{Components}
-use Rattle.qss_devs.specs.Coupling.{line_at, function_state_at, crossing_at, HaveReceived}
-use Rattle.qss_devs.specs.CoupledSteps.{Agrees}
+use Rattle.qss_machine.specs.declared.machine_parts.RowKind.TheVariants as kind
 
 -- agreement is one of each component
 pub agree_same : (m : Machine) (tick : ℕ) (v : Values) (line now_line : ℕ → Line) (s now_s : ℕ → FunctionState) (c now_c : ℕ → Crossing) →

@@ -1,46 +1,19 @@
 -- A coupled model on arrival at the next tick, and what its handlers leave.
-use Rattle.std.proofs.Common.{◌≡◌, ℕ, ◌+◌, ◌<◌, ◌≤◌, ◌^◌, Bool, true, false, List, [], length}
-use Rattle.std.proofs.Common.{get_or, ℤ, pos, ◌+ℤ◌, refl, sym, ◌∙◌, ap, subst, arith}
-use Rattle.std.proofs.lemmas.List.{length-map, get_or-map}
-use Rattle.std.proofs.lemmas.List.FromFn.{length-map-range_with_len}
-use Rattle.std.specs.Option.{option_or}
-use Rattle.std.specs.Prelude.{Option, Some, None, is_some, position}
-use Rattle.mu_num.specs.Sizes.{IsWithin}
-use Rattle.qss_machine.specs.declared.machine_parts.Condition.{Condition}
-use Rattle.qss_machine.specs.declared.machine_parts.Rel.TheVariants.{Less}
-use Rattle.qss_machine.specs.declared.compiled_machine.Machine.{Machine}
-use Rattle.mu_num.specs.ListedPlaces.{flag_at}
-use Rattle.qss_machine.specs.Handlers.{HandlerState, conditions, truths, firing_flags, run_clauses}
-use Rattle.qss_machine.specs.Machines.{state_count, discrete_count, slope_at, compares, truth}
-use Rattle.mu_num.specs.IndexedSums.{int_at, first_exceeding}
-use Rattle.qss_machine.specs.Ticks.{Snapshot, moved_states, handlers_at, exceeds_row_limits}
-use Rattle.qss_machine.specs.Ticks.{snapshot_unless, IsStep}
-use Rattle.qss_quant.specs.IntegratorLines.{Line, state_at}
-use Rattle.qss_quant.specs.declared.quantizer.Rule.{Rule}
-use Rattle.qss_cross.specs.Crossing.{holds_at}
+use Rattle.qss_devs.proofs.Common
+use Common.{[], ℕ, ℤ, ◌+ℤ◌, ◌+◌, ◌<◌, ◌^◌, ◌∙◌, ◌≡◌, ◌≤◌, Agrees, all_within, ap, AreComponents}
+use Common.{AreReady, AreSmallAt, AreValuesOf, arith, arrived_values, Bool, clauses_stay, compares}
+use Common.{Components, components_move, ComponentsRepresent, Condition, condition_at, conditions}
+use Common.{crossing_at, crossings_tell, CrossingsLater, discrete_count, exceeds_row_limits, false}
+use Common.{firing_flags, first_exceeding, flag_at, function_state_at, get_or, get_or-map}
+use Common.{handlers_at, HandlerState, handling_of, HasEach, holds_at, Input, input_at, int_at}
+use Common.{is_some, IsAllowedLevel, IsCrossingNext, IsLineNext, IsStep, IsSummingReady, IsTimely}
+use Common.{IsWithin, length, length-map, length-map-range_with_len, Less, Line, line_at, List}
+use Common.{Machine, moved_states, Moving, moving_state, None, Option, option_or, pos, position}
+use Common.{refl, Rule, run_clauses, same_lists, slope_at, slopes_of, Snapshot, snapshot_after}
+use Common.{snapshot_of, snapshot_unless, Some, state_at, state_count, states_at, Store}
+use Common.{StoreRepresents, subst, sym, true, truth, truths}
 use Rattle.qss_hand.specs.Values.{Values as Kept}
-use Rattle.qss_hand.specs.Works.{AreValuesOf, handling_of}
-use Rattle.qss_hand.proofs.Turns.{clauses_stay}
-use Rattle.qss_events.specs.AllowedLevels.{IsAllowedLevel}
-use Rattle.qss_events.specs.Schedules.{slopes_of, condition_at}
-use Rattle.qss_events.specs.EventFreeTicks.{snapshot_after}
-use Rattle.qss_events.proofs.Firsts.{same_lists}
 use Rattle.qss_events.proofs.Quiet.{moved_is}
-use Rattle.qss_events.proofs.Overs.{all_within}
-use Rattle.qss_components.specs.declared.crossing_model.Input.{Input}
-use Rattle.qss_components.specs.Messages.{IsTimely}
-use Rattle.qss_components.specs.Integrators.{IsLineNext}
-use Rattle.qss_components.specs.Crossings.{IsCrossingNext, input_at, AreSmallAt}
-use Rattle.qss_components.specs.Agreement.{HasEach, Moving, ComponentsRepresent}
-use Rattle.qss_components.proofs.Standing.{components_move, crossings_tell}
-use Rattle.qss_components.proofs.Variables.{moving_state}
-use Rattle.qss_devs.specs.declared.coupled_messages.Components.{Components}
-use Rattle.qss_devs.specs.declared.coupled_start.Store.{Store}
-use Rattle.qss_devs.specs.Coupling.{line_at, function_state_at, crossing_at, AreComponents}
-use Rattle.qss_devs.specs.Coupling.{IsSummingReady, AreReady}
-use Rattle.qss_devs.specs.CoupledSteps.{Agrees}
-use Rattle.qss_devs.specs.CoupledEvents.{states_at, snapshot_of, StoreRepresents, arrived_values}
-use Rattle.qss_devs.specs.CoupledEvents.{CrossingsLater}
 use Rattle.qss_devs.proofs.Followed.{states_are}
 use Rattle.qss_devs.proofs.Stays.{holds_still}
 

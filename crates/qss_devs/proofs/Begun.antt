@@ -1,53 +1,27 @@
 -- The components at the start represent the snapshot there.
-use Rattle.std.proofs.Common.{◌≡◌, ℕ, ◌+◌, ◌-◌, ◌≤◌, ◌<◌, ◌^◌, true, false, ◌⊎◌, List, [], ◌∷◌}
-use Rattle.std.proofs.Common.{length, get_or, map, ℤ, pos, ◌*ℤ◌, unsigned_abs, All, inl}
-use Rattle.std.proofs.Common.{inr, refl, sym, ◌∙◌, ap, subst, arith}
-use Rattle.std.proofs.lemmas.Bool.{cases_lt}
-use Rattle.std.proofs.lemmas.Bool.Decides.{nat_tests}
-use Rattle.std.proofs.lemmas.Int.{ints}
-use Rattle.std.proofs.lemmas.List.{get_or-map, length-map, take_all}
-use Rattle.std.proofs.lemmas.List.FromFn.{length-map-range_with_len}
-use Rattle.std.proofs.lemmas.List.Sums.{sum_by_more, sum_by-take-le}
+use Rattle.qss_devs.proofs.Common
+use Common.{[], ℕ, ℤ, ◌*ℤ◌, ◌+◌, ◌-◌, ◌<◌, ◌^◌, ◌∙◌, ◌∷◌, ◌≡◌, ◌≤◌, ◌⊎◌, All, ap, AreParts, arith}
+use Common.{branch_at, cases_lt, clause_at, ComponentsRepresent, Condition, condition_at}
+use Common.{conditions, conditions_few, count_start, Crossing, CrossingAgrees, discrete_count}
+use Common.{DiscreteInfo, discretes_start, Entry, entry_of, exceeds_row_limits, false}
+use Common.{first_crossing, first_input, first_line, first_place, first_summing, FunctionState}
+use Common.{get_or, get_or-map, HasEach, if-false, if-true, if◌then◌else◌, inl, inr, int_at}
+use Common.{int_at-tabulate, ints, IsGiven, IsWithin, length, length-conditions, length-map}
+use Common.{length-map-range_with_len, Less, level_unit, levels_at_start, levels_start, Line}
+use Common.{LineAgrees, List, Machine, map, Moving, moving_state, nat_lt, nat_tests, no_row}
+use Common.{no_ticks, none_passes, pos, refl, row_at, row_reads, slope_at, Some, start_discretes}
+use Common.{start_snapshot, start_values, state_count, StateInfo, states_start, subst, sum_by_more}
+use Common.{sum_same, SummingAgrees, sym, take_all, true, unsigned_abs, width_of}
+use Rattle.std.proofs.lemmas.List.Sums.{sum_by-take-le}
 use Rattle.std.specs.List.{sum_by}
-use Rattle.std.specs.Prelude.{nat_lt, if◌then◌else◌, Some}
-use Rattle.mu_num.specs.Sizes.{IsWithin}
-use Rattle.mu_num.proofs.Tests.{if-true, if-false}
-use Rattle.qss_machine.specs.declared.machine_parts.Condition.{Condition}
-use Rattle.qss_machine.specs.declared.machine_parts.DiscreteInfo.{DiscreteInfo}
-use Rattle.qss_machine.specs.declared.machine_parts.Entry.{Entry}
-use Rattle.qss_machine.specs.declared.machine_parts.Rel.TheVariants.{Less}
-use Rattle.qss_machine.specs.declared.machine_parts.StateInfo.{StateInfo}
-use Rattle.qss_machine.specs.declared.compiled_machine.Machine.{Machine}
-use Rattle.mu_num.specs.IndexedSums.{int_at}
 use Rattle.qss_machine.specs.MachineLimits.{IsBounded}
 use Rattle.qss_machine.specs.Slopes.{weight_of}
-use Rattle.qss_machine.specs.Machines.{state_count, discrete_count, level_unit, row_at, slope_at}
-use Rattle.qss_machine.specs.Machines.{start_discretes}
-use Rattle.qss_machine.specs.Readers.{row_reads}
-use Rattle.qss_machine.specs.Handlers.{conditions}
-use Rattle.qss_machine.specs.Firing.{first_place}
-use Rattle.qss_hand.specs.Works.{clause_at, branch_at}
-use Rattle.qss_hand.proofs.Turns.{length-conditions, conditions_few}
-use Rattle.qss_hand.proofs.Branches.{width_of, condition_by}
-use Rattle.qss_machine.specs.Ticks.{start_snapshot, exceeds_row_limits}
-use Rattle.qss_quant.specs.IntegratorLines.{Line}
-use Rattle.qss_events.specs.Schedules.{condition_at, no_row}
-use Rattle.mu_num.proofs.Tables.{int_at-tabulate}
-use Rattle.qss_events.proofs.Ranges.{none_passes}
+use Rattle.qss_hand.proofs.Branches.{condition_by}
 use Rattle.qss_machine.proofs.WeightLaws.{slope-within_weight}
-use Rattle.qss_events.proofs.Starts.{levels_at_start, levels_are, levels_start, count_start}
-use Rattle.qss_events.proofs.Starts.{light_start}
-use Rattle.qss_machine.proofs.StartValues.{states_start, discretes_start}
-use Rattle.qss_components.specs.Functions.{FunctionState}
-use Rattle.qss_components.specs.Crossings.{Crossing, AreParts, entry_of}
-use Rattle.qss_components.specs.Agreement.{HasEach, Moving, moving_of, InputAgrees, LineAgrees}
-use Rattle.qss_components.specs.Agreement.{SummingAgrees, CrossingAgrees, ComponentsRepresent}
-use Rattle.qss_components.proofs.Inputs.{IsGiven, scaled_small}
-use Rattle.qss_components.proofs.Moving.{no_ticks}
-use Rattle.qss_components.proofs.Sent.{sum_same}
-use Rattle.qss_components.proofs.Variables.{moving_state, moving_discrete, moving_before}
-use Rattle.qss_devs.specs.Starts.{start_values, first_line, first_summing, first_input}
-use Rattle.qss_devs.specs.Starts.{first_crossing}
+use Rattle.qss_events.proofs.Starts.{levels_are, light_start}
+use Rattle.qss_components.specs.Agreement.{moving_of, InputAgrees}
+use Rattle.qss_components.proofs.Inputs.{scaled_small}
+use Rattle.qss_components.proofs.Variables.{moving_discrete, moving_before}
 
 -- ---- values at the start
 

@@ -1,34 +1,18 @@
 -- A coupled model just before its next event step.
-use Rattle.std.proofs.Common.{◌≡◌, ℕ, zero, suc, ◌+◌, ◌-◌, ◌≤◌, ◌<◌, Bool, List, [], ◌∷◌, length}
-use Rattle.std.proofs.Common.{get_or, map, ℤ, pos, ◌+ℤ◌, ◌*ℤ◌, refl, sym, ◌∙◌, ap, subst, arith}
-use Rattle.std.proofs.Common.{Vec, Global}
-use Rattle.std.proofs.lemmas.List.{length-map}
-use Rattle.std.proofs.lemmas.List.FromFn.{length-map-range_with_len}
-use Rattle.std.specs.Prelude.{Option, Some}
-use Rattle.qss_machine.specs.declared.compiled_machine.Machine.{Machine}
-use Rattle.mu_num.specs.IndexedSums.{int_at}
-use Rattle.qss_machine.specs.Machines.{state_count, slope_at}
-use Rattle.qss_machine.specs.Handlers.{conditions, truths}
-use Rattle.qss_machine.specs.Ticks.{Snapshot}
-use Rattle.qss_quant.specs.declared.quantizer.Rule.{Rule}
-use Rattle.qss_quant.specs.IntegratorLines.{Line, state_at}
-use Rattle.qss_events.specs.EventFreeRuns.{AreEventFree}
-use Rattle.qss_events.specs.Schedules.{IsScheduleOf, HasNoEventBefore, no_line}
-use Rattle.qss_events.specs.EventFreeTicks.{states_after, snapshot_after}
-use Rattle.qss_events.proofs.Firsts.{same_lists}
-use Rattle.mu_num.proofs.Tables.{int_at-tabulate}
-use Rattle.mu_num.specs.Limits.{tick_limit}
+use Rattle.qss_devs.proofs.Common
+use Common.{[], ℕ, ℤ, ◌*ℤ◌, ◌+ℤ◌, ◌+◌, ◌<◌, ◌∙◌, ◌∷◌, ◌≡◌, ◌≤◌, ap, AreEventFree, AreNext, arith}
+use Common.{arrived_then, Bool, components_move, ComponentsRepresent, conditions, crossing_at}
+use Common.{FitsMachine, function_state_at, get_or, Global, HasNoEventBefore, int_at}
+use Common.{int_at-tabulate, IntegratorModel, IsCrossingNext, IsLineNext, length, length-map}
+use Common.{length-map-range_with_len, levels_of, Line, line_at, List, Machine, map, no_line}
+use Common.{Option, pos, quiet_worlds, refl, Rule, same_lists, slope_at, Snapshot, snapshot_after}
+use Common.{snapshot_of, Some, state_at, state_count, states_at, Store, StoreRepresents, subst, suc}
+use Common.{sym, tick_limit, truths, Vec, zero}
+use Rattle.qss_events.specs.Schedules.{IsScheduleOf}
+use Rattle.qss_events.specs.EventFreeTicks.{states_after}
 use Rattle.qss_events.proofs.Silence.{line_more, silence, stands_still}
-use Rattle.qss_events.proofs.Silences.{quiet_worlds, quiet_leads, arrived_then}
-use Rattle.qss_components.specs.declared.integrator_model.IntegratorModel.{IntegratorModel}
-use Rattle.qss_components.specs.Integrators.{IsLineNext}
-use Rattle.qss_components.specs.Crossings.{IsCrossingNext}
-use Rattle.qss_components.specs.Agreement.{AreNext, ComponentsRepresent}
-use Rattle.qss_components.proofs.Standing.{components_move, components_stand}
-use Rattle.qss_devs.specs.declared.coupled_start.Store.{Store}
-use Rattle.qss_devs.specs.Coupling.{line_at, function_state_at, crossing_at}
-use Rattle.qss_devs.specs.CoupledEvents.{states_at, levels_of, snapshot_of, FitsMachine}
-use Rattle.qss_devs.specs.CoupledEvents.{StoreRepresents}
+use Rattle.qss_events.proofs.Silences.{quiet_leads}
+use Rattle.qss_components.proofs.Standing.{components_stand}
 
 -- an element of a list that was mapped twice
 pub at_twice : {X Y Z : Type 0} (f : X → Y) (g : Y → Z) (xs : List X) (j : ℕ) (d : Y) (e : Z) → j < length xs → get_or (map (λ x. g (f x)) xs) j e ≡ g (get_or (map f xs) j d)

@@ -1,23 +1,17 @@
 -- The flags of due branches, and those of one clause among all.
-use Rattle.std.proofs.Common.{◌≡◌, ℕ, ◌+◌, ◌-◌, ◌<◌, ◌≤◌, Bool, false, ◌&&◌, List, [], length, take}
-use Rattle.std.proofs.Common.{drop, refl, sym, ◌∙◌, ap, arith, inl, inr}
-use Rattle.std.proofs.lemmas.Bool.{cases_lt}
-use Rattle.std.proofs.lemmas.List.{get_or-take, get_or-drop, get_or_past, length-take, length-drop}
+use Rattle.qss_devs.proofs.Common
+use Common.{[], ℕ, ◌&&◌, ◌+◌, ◌-◌, ◌<◌, ◌∙◌, ◌≡◌, ◌≤◌, ap, arith, Bool, cases_lt, clause_at}
+use Common.{clauses_stay, conditions, drop, false, firing_flags, flag_at, flags_from, get_or_past}
+use Common.{HandlerState, handling_of, inl, inr, length, length-conditions, List, Machine, None}
+use Common.{none_passes, not, refl, run_clauses, run_first_due, Some, sym, take, values_after}
+use Common.{width_of}
+use Rattle.std.proofs.lemmas.List.{get_or-take, get_or-drop, length-take, length-drop}
 use Rattle.std.proofs.lemmas.List.Sums.{sum_by_more_le}
 use Rattle.std.specs.List.{position, sum_by}
-use Rattle.std.specs.Prelude.{None, Some, not}
-use Rattle.qss_machine.specs.declared.compiled_machine.Machine.{Machine}
-use Rattle.mu_num.specs.ListedPlaces.{flag_at}
-use Rattle.qss_machine.specs.Handlers.{HandlerState, conditions, firing_flags, run_first_due}
-use Rattle.qss_machine.specs.Handlers.{run_clauses}
 use Rattle.qss_hand.specs.Values.{Values}
-use Rattle.qss_hand.specs.Works.{handling_of, values_after, clause_at}
 use Rattle.qss_hand.proofs.AfterStatements.{whole}
-use Rattle.qss_hand.proofs.Turns.{length-conditions, next_turn, clauses_stay}
-use Rattle.qss_hand.proofs.Branches.{width_of}
-use Rattle.qss_events.proofs.Ranges.{none_passes}
+use Rattle.qss_hand.proofs.Turns.{next_turn}
 use Rattle.qss_events.proofs.Flags.{flag_at-due_flags}
-use Rattle.qss_devs.specs.Flags.{flags_from}
 
 -- as these truths say
 pub due_of : (now at_arrival after_handlers : List Bool) (k : ℕ) → length at_arrival ≡ length now → length after_handlers ≡ length now → k < length now →

@@ -1,45 +1,21 @@
 -- What a coupled model keeps at the start represents the snapshot there.
-use Rattle.std.proofs.Common.{◌≡◌, ℕ, ◌+◌, ◌≤◌, ◌<◌, Bool, false, List, [], ◌∷◌, length, get_or}
-use Rattle.std.proofs.Common.{map, ℤ, pos, All, sym, ◌∙◌, ap, subst, arith}
-use Rattle.std.proofs.lemmas.List.{get_or-map, length-map}
-use Rattle.std.specs.Prelude.{Some, vec_capacity}
-use Rattle.mu_num.specs.Sizes.{IsWithin}
-use Rattle.qss_machine.specs.declared.machine_parts.DiscreteInfo.{DiscreteInfo}
-use Rattle.qss_machine.specs.declared.machine_parts.StateInfo.{StateInfo}
-use Rattle.qss_machine.specs.declared.compiled_machine.Machine.{Machine}
-use Rattle.mu_num.specs.IndexedSums.{int_at}
-use Rattle.qss_machine.specs.Machines.{state_count, discrete_count, start_states, start_discretes}
-use Rattle.qss_machine.specs.Machines.{compares, truth}
-use Rattle.qss_machine.specs.Handlers.{conditions, truths}
-use Rattle.qss_machine.specs.Ticks.{Snapshot, start_snapshot}
+use Rattle.qss_devs.proofs.Common
+use Common.{[], ℕ, ℤ, ◌+◌, ◌<◌, ◌∙◌, ◌∷◌, ◌≡◌, ◌≤◌, All, ap, AreComponents, arith, Bool, compares}
+use Common.{ComponentsRepresent, condition_at, conditions, count_start, Crossing, crossing_at}
+use Common.{crossing_of, CrossingModel, crossings_tell, discrete_count, DiscreteInfo}
+use Common.{discretes_start, EachAt, false, first_crossing, first_line, first_summing, FitsMachine}
+use Common.{function_state_at, function_state_of, get_or, get_or-map, holds_at, int_at}
+use Common.{IntegratorModel, IsCrossingNext, IsFirstAt, IsFirstFunction, IsFirstIntegrator}
+use Common.{IsLineNext, IsWithin, length, length-map, levels_at_start, levels_of, levels_start}
+use Common.{Line, line_at, List, Machine, map, no_crossing, no_line, no_summing, no_ticks, pos}
+use Common.{Quantizer, row_room, same_lists, Snapshot, snapshot_of, Some, start_discretes}
+use Common.{start_snapshot, start_states, start_values, state_at, state_count, StateInfo, states_at}
+use Common.{states_start, Store, StoreRepresents, subst, sym, truth, truths, vec_capacity}
 use Rattle.qss_machine.proofs.Near.{start_near}
-use Rattle.qss_quant.specs.declared.quantizer.Quantizer.{Quantizer}
-use Rattle.qss_quant.specs.IntegratorLines.{Line, state_at}
-use Rattle.qss_cross.specs.Crossing.{holds_at}
 use Rattle.qss_hand.specs.Values.{Values}
-use Rattle.qss_hand.specs.Works.{row_room}
-use Rattle.qss_events.specs.Schedules.{condition_at, no_line}
-use Rattle.qss_events.proofs.Firsts.{same_lists}
 use Rattle.qss_events.proofs.Flags.{truths_are}
-use Rattle.qss_events.proofs.Starts.{levels_at_start, levels_start, count_start, light_at}
-use Rattle.qss_machine.proofs.StartValues.{states_start, discretes_start}
-use Rattle.qss_components.specs.declared.crossing_model.CrossingModel.{CrossingModel}
-use Rattle.qss_components.specs.declared.integrator_model.IntegratorModel.{IntegratorModel}
-use Rattle.qss_components.specs.Integrators.{IsLineNext}
-use Rattle.qss_components.specs.Crossings.{Crossing, IsCrossingNext}
-use Rattle.qss_components.specs.ComponentModels.{function_state_of, crossing_of}
-use Rattle.qss_components.specs.Agreement.{ComponentsRepresent}
+use Rattle.qss_events.proofs.Starts.{light_at}
 use Rattle.qss_components.proofs.Leaving.{near_later}
-use Rattle.qss_components.proofs.Moving.{no_ticks}
-use Rattle.qss_components.proofs.Standing.{crossings_tell}
-use Rattle.qss_components.specs.ComponentPlaces.{EachAt}
-use Rattle.qss_devs.specs.declared.coupled_start.Store.{Store}
-use Rattle.qss_devs.specs.Coupling.{line_at, function_state_at, crossing_at, no_summing}
-use Rattle.qss_devs.specs.Coupling.{no_crossing, AreComponents}
-use Rattle.qss_devs.specs.Starts.{start_values, first_line, first_summing, first_crossing}
-use Rattle.qss_devs.specs.Starts.{IsFirstIntegrator, IsFirstFunction, IsFirstAt}
-use Rattle.qss_devs.specs.CoupledEvents.{states_at, levels_of, snapshot_of, FitsMachine}
-use Rattle.qss_devs.specs.CoupledEvents.{StoreRepresents}
 use Rattle.qss_devs.proofs.Begun.{begun_stand, line_agrees}
 
 -- an element of a mapped list is what each element at its place gives

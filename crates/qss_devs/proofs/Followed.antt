@@ -1,41 +1,18 @@
 -- What a tick leaves, from what its handlers did, the levels that were taken and the slopes that were sent.
-use Rattle.std.proofs.Common.{◌≡◌, ℕ, ◌≤◌, ◌<◌, Bool, false, List, [], ◌∷◌, length, get_or, map, ℤ}
-use Rattle.std.proofs.Common.{pos, refl, sym, ◌∙◌, ap, subst, arith}
-use Rattle.std.proofs.lemmas.List.{get_or-map, length-map}
-use Rattle.std.proofs.lemmas.List.FromFn.{length-map-range_with_len}
-use Rattle.std.specs.Option.{option_or}
-use Rattle.std.specs.Prelude.{Option, Some, None, Result, Ok, Err, position}
-use Rattle.mu_num.specs.Sizes.{IsWithin}
-use Rattle.qss_machine.specs.declared.machine_parts.Condition.{Condition}
-use Rattle.qss_machine.specs.declared.machine_parts.Rel.TheVariants.{Less}
-use Rattle.qss_machine.specs.declared.compiled_machine.Machine.{Machine}
-use Rattle.qss_machine.specs.Machines.{state_count, discrete_count, slope_at, compares, truth}
-use Rattle.mu_num.specs.IndexedSums.{int_at, first_exceeding}
-use Rattle.qss_machine.specs.Handlers.{HandlerState, conditions, truths, firing_flags}
-use Rattle.qss_machine.specs.Ticks.{Snapshot, moved_states, handlers_at, exceeds_row_limits}
-use Rattle.qss_machine.specs.Ticks.{snapshot_unless, AreNextLevels, IsStep}
-use Rattle.qss_quant.specs.declared.quantizer.Rule.{Rule}
-use Rattle.qss_quant.specs.IntegratorLines.{Line, state_at}
-use Rattle.qss_events.specs.AllowedLevels.{IsAllowedLevel}
-use Rattle.qss_events.specs.Schedules.{slopes_of, no_line}
-use Rattle.qss_events.specs.EventFreeTicks.{MayFollowTick}
-use Rattle.qss_events.proofs.Firsts.{same_lists}
-use Rattle.mu_num.proofs.Tables.{int_at-tabulate}
-use Rattle.mu_num.specs.Limits.{tick_limit}
-use Rattle.qss_events.proofs.LightRows.{row_is_light}
-use Rattle.qss_components.specs.declared.crossing_model.CrossingModel.{CrossingModel}
-use Rattle.qss_components.specs.declared.integrator_model.IntegratorModel.{IntegratorModel}
-use Rattle.qss_components.specs.Agreement.{Values, ComponentsRepresent}
-use Rattle.qss_components.specs.Crossings.{Crossing}
-use Rattle.qss_components.specs.ComponentModels.{crossing_of}
-use Rattle.qss_components.specs.ComponentTheorems.{values_after_rows}
+use Rattle.qss_devs.proofs.Common
+use Common.{[], ℕ, ℤ, ◌<◌, ◌∙◌, ◌∷◌, ◌≡◌, ◌≤◌, Agrees, ap, AreComponents, AreNextLevels, AreValues}
+use Common.{arith, arrived_values, Bool, compares, Components, ComponentsRepresent, Condition}
+use Common.{conditions, Crossing, crossing_at, crossing_of, CrossingModel, crossings_tell}
+use Common.{CrossingsLater, discrete_count, Err, exceeds_row_limits, false, firing_flags}
+use Common.{first_exceeding, function_state_at, get_or, get_or-map, handlers_at, HandlerState}
+use Common.{int_at, int_at-tabulate, IntegratorModel, IsAllowedLevel, IsStep, IsWithin, length}
+use Common.{length-map, length-map-range_with_len, Less, levels_of, Line, line_at, List, Machine}
+use Common.{map, MayFollowTick, moved_states, no_crossing, no_line, None, Ok, Option, option_or}
+use Common.{pos, position, refl, row_is_light, Rule, same_lists, slope_at, slopes_of, Snapshot}
+use Common.{snapshot_unless, Some, state_at, state_count, states_at, subst, sym, tick_limit, truth}
+use Common.{truths, Values, values_after_rows}
+use Rattle.std.specs.Prelude.{Result}
 use Rattle.qss_components.proofs.RowsTold.{rows_tell_handlers}
-use Rattle.qss_components.proofs.Standing.{crossings_tell}
-use Rattle.qss_devs.specs.declared.coupled_messages.Components.{Components}
-use Rattle.qss_devs.specs.Coupling.{no_crossing, line_at, function_state_at, crossing_at}
-use Rattle.qss_devs.specs.Coupling.{AreComponents}
-use Rattle.qss_devs.specs.CoupledSteps.{Agrees, AreValues}
-use Rattle.qss_devs.specs.CoupledEvents.{states_at, levels_of, arrived_values, CrossingsLater}
 use Rattle.qss_devs.proofs.Stays.{holds_still}
 
 module _ (m : Machine) (name : Option Rule) (tick : ℕ) (w : Snapshot) where

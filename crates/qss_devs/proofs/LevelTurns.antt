@@ -1,28 +1,12 @@
 -- An integrator that made its transition.
-use Rattle.std.proofs.Common.{◌≡◌, ◌≢◌, ℕ, ◌<◌, true, false, List, [], ◌∷◌, ◌++◌, get_or, set, ℤ}
-use Rattle.std.proofs.Common.{sym, ◌∙◌, ap, subst, arith, inl, inr}
-use Rattle.std.proofs.lemmas.Bool.{cases_eq}
-use Rattle.std.specs.Prelude.{Option, Some, None}
-use Rattle.mu_num.specs.Sizes.{IsWithin}
-use Rattle.qss_machine.specs.declared.machine_parts.Row.{Row}
-use Rattle.qss_machine.specs.declared.machine_parts.RowKind.TheVariants as kind
-use Rattle.qss_machine.specs.declared.compiled_machine.Machine.{Machine}
-use Rattle.qss_machine.specs.Machines.{state_count}
-use Rattle.qss_quant.specs.declared.quantizer.Quantizer.{Quantizer}
-use Rattle.qss_quant.specs.declared.quantizer.Rule.{Rule}
-use Rattle.qss_quant.specs.IntegratorLines.{Line}
-use Rattle.qss_components.specs.declared.integrator_model.IntegratorModel.{IntegratorModel}
-use Rattle.qss_components.specs.declared.atomic.Message.{Message}
-use Rattle.qss_components.specs.declared.atomic.Message.TheVariants.{Level}
-use Rattle.qss_components.specs.Messages.{IsMessage, IsTimely, HasSmallLevel, passes_limit}
-use Rattle.qss_components.specs.Integrators.{IsLineNext, SendsLevel, TakesLevel}
-use Rattle.qss_components.specs.Agreement.{Values}
-use Rattle.qss_components.specs.ComponentTheorems.{lines_given}
+use Rattle.qss_devs.proofs.Common
+use Common.{[], ℕ, ℤ, ◌++◌, ◌<◌, ◌∙◌, ◌∷◌, ◌≡◌, ◌≢◌, Agrees, ap, AreComponents, AreReady, AreRuled}
+use Common.{AreValues, arith, cases_eq, Components, crossing_at, false, function_state_at, get_or}
+use Common.{HasSmallLevel, HaveReceived, inl, inr, IntegratorModel, IsLevelTaken, IsLineNext}
+use Common.{IsMessage, IsTimely, IsWithin, Level, level_after, Line, line_at, lines_given, List}
+use Common.{Machine, Message, None, Option, passes_limit, Quantizer, Row, Rule, SendsLevel, set}
+use Common.{Some, state_count, subst, sym, TakesLevel, true, Values}
 use Rattle.qss_components.proofs.Passing.{level_small}
-use Rattle.qss_devs.specs.declared.coupled_messages.Components.{Components}
-use Rattle.qss_devs.specs.Coupling.{line_at, function_state_at, crossing_at, AreComponents}
-use Rattle.qss_devs.specs.Coupling.{AreRuled, AreReady, HaveReceived}
-use Rattle.qss_devs.specs.CoupledSteps.{Agrees, AreValues, level_after, IsLevelTaken}
 use Rattle.qss_devs.proofs.AgreeTold.{agree_same}
 use Rattle.qss_devs.proofs.OwnLevels.{later_yet, rest_level, due_level, taken_rests, taken_passes}
 use Rattle.qss_devs.proofs.OwnLevels.{taken_sends}
@@ -30,6 +14,7 @@ use Rattle.qss_devs.proofs.OwnTurns.{own_machine, own_var, own_line, own_rule, o
 use Rattle.qss_devs.proofs.OwnTurns.{line_turned, lines_other, summings_stay, crossings_stay}
 use Rattle.qss_devs.proofs.OwnTurns.{integrator_turned, ruled_turned, ready_turned}
 use Rattle.qss_devs.proofs.ToldAgain.{line_ready}
+use Rattle.qss_machine.specs.declared.machine_parts.RowKind.TheVariants as kind
 
 -- a level message changes no line
 pub level_lines : {X : Type 0} {g : _} (m : Machine) (tick k : ℕ) (level : ℤ) (sent : Message) (mid new : Components X g) → sent ≡ Level k level → HaveReceived m tick sent mid new →

@@ -1,41 +1,25 @@
 -- Integrators that take their levels one after another.
-use Rattle.std.proofs.Common.{◌≡◌, ℕ, zero, suc, ◌+◌, ◌≤◌, ◌<◌, Bool, true, false, List, [], ◌∷◌}
-use Rattle.std.proofs.Common.{◌++◌, length, set, flat_map, ℤ, pos, ◌<ℤ◌, inl, inr, refl, sym, ◌∙◌}
-use Rattle.std.proofs.Common.{ap, subst, arith, append-nil, append_assoc}
-use Rattle.std.proofs.lemmas.Bool.{cases_eq, cases_lt}
+use Rattle.qss_devs.proofs.Common
+use Common.{[], ℕ, ℤ, ◌++◌, ◌+◌, ◌<◌, ◌∙◌, ◌∷◌, ◌≡◌, ◌≤◌, Agrees, ap, append-nil, AreNextLevels}
+use Common.{AreTaken, AreTakenUpTo, AreValues, arith, Bool, cases_eq, cases_lt, Components, exceeds}
+use Common.{false, first_is, Floor, HasEach, if-false, if-true, if◌then◌else◌, inl, inr, int_at}
+use Common.{int_at-tabulate, int_eq, ints, is_within_quantum, IsAllowedLevel, IsLevelTaken}
+use Common.{IsWithin, IsWithinOneLevel, length, length-map-range_with_len, length-set, level_after}
+use Common.{level_by, level_unit, leveled, List, Machine, MatchBool, None, Option, passes-within}
+use Common.{pos, position-none, range_with_len, refl, Row, row_after, Rule, same_lists, set}
+use Common.{set_other, set_same, Some, state_count, subst, suc, sym, tabulate, true, Values}
+use Common.{within-passes, zero}
+use Rattle.std.proofs.Common.{flat_map, ◌<ℤ◌, append_assoc}
 use Rattle.std.proofs.lemmas.Grind.{flat_map-append}
-use Rattle.std.proofs.lemmas.Int.{ints}
-use Rattle.std.proofs.lemmas.List.{length-set}
-use Rattle.std.proofs.lemmas.List.FromFn.{length-map-range_with_len}
-use Rattle.std.specs.List.{range_with_len}
-use Rattle.std.specs.Ordering.{int_eq}
-use Rattle.std.specs.Prelude.{Option, Some, None, MatchBool, if◌then◌else◌}
-use Rattle.mu_num.specs.Levels.{IsWithinOneLevel}
-use Rattle.mu_num.specs.Sizes.{IsWithin, exceeds}
 use Rattle.mu_num.proofs.NearLevels.{floor-free, near-free, inward-free}
-use Rattle.mu_num.proofs.SizeTests.{passes-within, within-passes}
-use Rattle.mu_num.proofs.Tests.{if-true, if-false}
-use Rattle.qss_machine.specs.declared.machine_parts.Row.{Row}
-use Rattle.qss_machine.specs.declared.machine_parts.RowKind.TheVariants as kind
-use Rattle.qss_machine.specs.declared.compiled_machine.Machine.{Machine}
-use Rattle.qss_machine.specs.Machines.{state_count, level_unit}
-use Rattle.mu_num.specs.IndexedSums.{int_at, tabulate}
-use Rattle.qss_machine.specs.Ticks.{is_within_quantum, IsNextLevel, AreNextLevels}
-use Rattle.qss_quant.specs.declared.quantizer.Rule.{Rule}
-use Rattle.qss_quant.specs.declared.quantizer.Rule.TheVariants.{Floor, Near, Inward}
-use Rattle.qss_quant.specs.LevelRules.{level_by, IsAnswer}
-use Rattle.qss_events.specs.AllowedLevels.{IsAllowedLevel}
-use Rattle.qss_events.proofs.Firsts.{first_is, same_lists}
+use Rattle.qss_machine.specs.Ticks.{IsNextLevel}
+use Rattle.qss_quant.specs.declared.quantizer.Rule.TheVariants.{Near, Inward}
+use Rattle.qss_quant.specs.LevelRules.{IsAnswer}
 use Rattle.qss_events.proofs.LevelRows.{range_more}
-use Rattle.mu_num.proofs.Tables.{int_at-tabulate}
 use Rattle.qss_machine.proofs.Near.{unit_fits}
-use Rattle.qss_events.proofs.Ranges.{position-none}
-use Rattle.qss_components.specs.Agreement.{Values, HasEach}
-use Rattle.qss_components.proofs.Variables.{set_same, set_other}
-use Rattle.qss_devs.specs.declared.coupled_messages.Components.{Components}
-use Rattle.qss_devs.specs.CoupledSteps.{Agrees, AreValues, level_after, row_after, levels_upto}
-use Rattle.qss_devs.specs.CoupledSteps.{leveled, IsLevelTaken, AreTakenUpTo, AreTaken}
+use Rattle.qss_devs.specs.CoupledSteps.{levels_upto}
 use Rattle.qss_devs.proofs.Overs.{not_past, is_past}
+use Rattle.qss_machine.specs.declared.machine_parts.RowKind.TheVariants as kind
 
 -- ---- the levels of a rule
 

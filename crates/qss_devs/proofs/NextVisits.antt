@@ -1,27 +1,13 @@
 -- The ticks of the next transitions of all components.
-use Rattle.std.proofs.Common.{◌≡◌, ℕ, ◌+◌, ◌-◌, ◌≤◌, ◌<◌, false, List, [], ◌∷◌, ◌++◌, length}
-use Rattle.std.proofs.Common.{get_or, ◌⊎◌, inl, inr, sym, ◌∙◌, ap, subst, arith}
-use Rattle.std.proofs.lemmas.Bool.{cases_lt}
-use Rattle.std.proofs.lemmas.List.{get_or-map, get_or_append_left, get_or-append_right, get_or_past}
-use Rattle.std.proofs.lemmas.List.{length-append}
-use Rattle.std.specs.Prelude.{Option, Some, None, if◌then◌else◌}
-use Rattle.qss_machine.specs.declared.compiled_machine.Machine.{Machine}
-use Rattle.qss_machine.specs.Machines.{state_count}
-use Rattle.qss_machine.specs.Handlers.{conditions}
-use Rattle.qss_machine.specs.Ticks.{Snapshot}
-use Rattle.qss_quant.specs.IntegratorLines.{Line}
-use Rattle.qss_events.specs.Schedules.{rises, HasNoEventBefore, no_line}
-use Rattle.qss_components.specs.declared.crossing_model.CrossingModel.{CrossingModel}
-use Rattle.qss_components.specs.declared.function_model.FunctionModel.{FunctionModel}
-use Rattle.qss_components.specs.declared.integrator_model.IntegratorModel.{IntegratorModel}
-use Rattle.qss_components.specs.Integrators.{IsLineNext}
-use Rattle.qss_components.specs.Functions.{FunctionState}
-use Rattle.qss_components.specs.Crossings.{Crossing, IsCrossingNext}
-use Rattle.qss_components.specs.ComponentModels.{function_state_of, crossing_of}
-use Rattle.qss_components.specs.Agreement.{AreNext}
-use Rattle.qss_devs.specs.declared.coupled_messages.Components.{Components}
-use Rattle.qss_devs.specs.Coupling.{line_at, function_state_at, crossing_at, no_summing}
-use Rattle.qss_devs.specs.Coupling.{no_crossing, AreComponents}
+use Rattle.qss_devs.proofs.Common
+use Common.{[], ℕ, ◌++◌, ◌+◌, ◌-◌, ◌<◌, ◌∙◌, ◌∷◌, ◌≡◌, ◌≤◌, ◌⊎◌, ap, AreComponents, AreNext, arith}
+use Common.{cases_lt, Components, conditions, Crossing, crossing_at, crossing_of, CrossingModel}
+use Common.{false, function_state_at, function_state_of, FunctionModel, FunctionState, get_or}
+use Common.{get_or-map, get_or_append_left, get_or_past, HasNoEventBefore, if◌then◌else◌, inl, inr}
+use Common.{IntegratorModel, IsCrossingNext, IsLineNext, length, length-append, Line, line_at, List}
+use Common.{Machine, no_crossing, no_line, no_summing, None, Option, rises, Snapshot, Some}
+use Common.{state_count, subst, sym}
+use Rattle.std.proofs.lemmas.List.{get_or-append_right}
 
 -- some element of a list that has one
 pub some_element : {X : Type 0} (xs : List X) (j : ℕ) → j < length xs → X

@@ -1,7 +1,6 @@
 -- Whether a variable passes its limit.
-use Rattle.std.proofs.Common.{◌≡◌, ℕ, Bool, true, false, refl}
-use Rattle.std.specs.Prelude.{Option, Some, None, is_some, if◌then◌else◌}
-use Rattle.qss_events.proofs.Overs.{clash}
+use Rattle.qss_devs.proofs.Common
+use Common.{ℕ, ◌≡◌, Bool, clash, false, if◌then◌else◌, is_some, None, Option, refl, Some, true}
 
 -- what is one variable or none is that one where it is some
 pub over_is : (b : Bool) (j : ℕ) (o : Option ℕ) → is_some o ≡ true → o ≡ (if b then Some j else None) → o ≡ Some j

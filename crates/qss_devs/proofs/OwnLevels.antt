@@ -1,39 +1,21 @@
 -- The level that an integrator takes at a tick, or keeps.
-use Rattle.std.proofs.Common.{◌≡◌, ◌≢◌, ℕ, zero, suc, ◌+◌, ◌-◌, ◌≤◌, ◌<◌, ◌^◌, Bool, true, false}
-use Rattle.std.proofs.Common.{List, [], ◌∷◌, ◌++◌, set, ℤ, pos, inl, inr, refl, sym, ◌∙◌, ap, subst}
-use Rattle.std.proofs.Common.{arith, append-nil}
-use Rattle.std.proofs.lemmas.Bool.{cases_lt}
+use Rattle.qss_devs.proofs.Common
+use Common.{[], ℕ, ℤ, ◌++◌, ◌+◌, ◌-◌, ◌<◌, ◌^◌, ◌∙◌, ◌∷◌, ◌≡◌, ◌≢◌, ◌≤◌, Agrees, ap, append-nil}
+use Common.{arith, Bool, cases_lt, Components, crossing_at, exceeds, false, FirstAfter}
+use Common.{function_state_at, HasEach, HaveReceived, if-false, if-true, inl, inr, int_at, int_eq}
+use Common.{ints, is_within_quantum, IsFirstAfter, IsLevelTaken, IsLineNext, IsWithin}
+use Common.{IsWithinOneLevel, LeavesAt, Level, level_after, level_by, level_unit, Line, line_at}
+use Common.{LineAgrees, List, Machine, MatchBool, Message, None, Option, passes_limit, pos, refl}
+use Common.{Row, row_after, Rule, SendsLevel, set, set-get_or, Some, state_at, state_count, subst}
+use Common.{suc, sym, TakesLevel, true, Values, within-passes, zero}
 use Rattle.std.proofs.lemmas.Bool.Decides.{Decides-int_eq}
-use Rattle.std.proofs.lemmas.Int.{ints}
-use Rattle.std.proofs.lemmas.List.{set-get_or}
-use Rattle.std.specs.Ordering.{int_eq}
-use Rattle.std.specs.Prelude.{Option, Some, None, MatchBool}
-use Rattle.mu_num.specs.Levels.{IsWithinOneLevel}
-use Rattle.mu_num.specs.Sizes.{IsWithin, exceeds}
-use Rattle.mu_num.specs.Ticks.{FirstAfter, IsFirstAfter}
-use Rattle.mu_num.proofs.SizeTests.{within-passes}
-use Rattle.mu_num.proofs.Tests.{int_lt-false, int_lt-true, int_lt-no, if-true, if-false}
-use Rattle.qss_machine.specs.declared.machine_parts.Row.{Row}
-use Rattle.qss_machine.specs.declared.machine_parts.RowKind.TheVariants as kind
-use Rattle.qss_machine.specs.declared.compiled_machine.Machine.{Machine}
-use Rattle.qss_machine.specs.Machines.{state_count, level_unit, quantum_of}
-use Rattle.mu_num.specs.IndexedSums.{int_at}
-use Rattle.qss_machine.specs.Ticks.{is_within_quantum}
-use Rattle.qss_quant.specs.declared.quantizer.Rule.{Rule}
-use Rattle.qss_quant.specs.IntegratorLines.{Line, state_at, IsLineWithinQuantum}
-use Rattle.qss_quant.specs.LevelRules.{level_by}
+use Rattle.mu_num.proofs.Tests.{int_lt-false, int_lt-true, int_lt-no}
+use Rattle.qss_machine.specs.Machines.{quantum_of}
+use Rattle.qss_quant.specs.IntegratorLines.{IsLineWithinQuantum}
 use Rattle.qss_events.proofs.Changes.{leaving_changes_level}
 use Rattle.qss_events.proofs.Lines.{line_here}
-use Rattle.qss_events.specs.Schedules.{LeavesAt}
-use Rattle.qss_components.specs.declared.atomic.Message.{Message}
-use Rattle.qss_components.specs.declared.atomic.Message.TheVariants.{Level}
-use Rattle.qss_components.specs.Messages.{passes_limit}
-use Rattle.qss_components.specs.Integrators.{IsLineNext, SendsLevel, TakesLevel}
-use Rattle.qss_components.specs.Agreement.{Values, HasEach, LineAgrees}
-use Rattle.qss_devs.specs.declared.coupled_messages.Components.{Components}
-use Rattle.qss_devs.specs.Coupling.{line_at, function_state_at, crossing_at, HaveReceived}
-use Rattle.qss_devs.specs.CoupledSteps.{Agrees, level_after, row_after, IsLevelTaken}
 use Rattle.qss_devs.proofs.AgreeTold.{agree_level}
+use Rattle.qss_machine.specs.declared.machine_parts.RowKind.TheVariants as kind
 
 module _ (m : Machine) (var : ℕ) (line : Line) where
   abbrev near_at : ℕ → Bool

@@ -1,31 +1,14 @@
 -- The sum that a function sends at a tick, or has sent.
-use Rattle.std.proofs.Common.{◌≡◌, ◌≢◌, ℕ, ◌<◌, Bool, true, false, List, set, ℤ, pos, refl, sym}
-use Rattle.std.proofs.Common.{◌∙◌, ap, subst}
-use Rattle.std.proofs.lemmas.List.{set-get_or}
-use Rattle.std.specs.Prelude.{◌==◌, Option, Some, None, MatchBool, if◌then◌else◌}
-use Rattle.mu_num.specs.Sizes.{IsWithin, exceeds}
-use Rattle.mu_num.specs.Ticks.{FirstAfter, IsFirstAfter}
-use Rattle.mu_num.proofs.SizeTests.{within-passes}
-use Rattle.mu_num.proofs.Tests.{if-true, if-false}
-use Rattle.qss_machine.specs.declared.compiled_machine.Machine.{Machine}
-use Rattle.qss_machine.specs.Machines.{state_count, row_at, slope_at}
-use Rattle.mu_num.specs.IndexedSums.{int_at}
-use Rattle.qss_machine.specs.Ticks.{is_within_quantum, exceeds_row_limits}
-use Rattle.qss_quant.specs.IntegratorLines.{Line, state_at}
-use Rattle.qss_events.proofs.LightRows.{light_row}
-use Rattle.qss_events.specs.Schedules.{LeavesAt}
-use Rattle.qss_components.specs.declared.atomic.Message.{Message}
-use Rattle.qss_components.specs.declared.atomic.Message.TheVariants.{Slope}
-use Rattle.qss_components.specs.Messages.{passes_limit}
-use Rattle.qss_components.specs.Integrators.{IsLineNext, line_after_message, line_moved}
-use Rattle.qss_components.specs.Functions.{FunctionState, sum_at, sum_of, summing_sent}
-use Rattle.qss_components.specs.Agreement.{Values, HasEach, LineAgrees, SummingAgrees}
-use Rattle.qss_components.specs.ComponentTheorems.{lines_given}
-use Rattle.qss_components.proofs.Sent.{sum_same, still_light, own_slope}
-use Rattle.qss_devs.specs.declared.coupled_messages.Components.{Components}
-use Rattle.qss_devs.specs.Coupling.{line_at, function_state_at, crossing_at, AllLinesLater}
-use Rattle.qss_devs.specs.Coupling.{HaveReceived}
-use Rattle.qss_devs.specs.CoupledSteps.{Agrees, AreWithinQuanta, IsSlopeSent}
+use Rattle.qss_devs.proofs.Common
+use Common.{ℕ, ℤ, ◌<◌, ◌==◌, ◌∙◌, ◌≡◌, ◌≢◌, Agrees, AllLinesLater, ap, AreWithinQuanta, Bool}
+use Common.{Components, crossing_at, exceeds, exceeds_row_limits, false, FirstAfter}
+use Common.{function_state_at, FunctionState, HasEach, HaveReceived, if-false, if-true}
+use Common.{if◌then◌else◌, int_at, is_within_quantum, IsFirstAfter, IsLineNext, IsSlopeSent}
+use Common.{IsWithin, LeavesAt, light_row, Line, line_after_message, line_at, line_moved}
+use Common.{LineAgrees, lines_given, List, Machine, MatchBool, Message, None, Option, passes_limit}
+use Common.{pos, refl, row_at, set, set-get_or, Slope, slope_at, Some, state_at, state_count, subst}
+use Common.{sum_at, sum_of, sum_same, summing_sent, SummingAgrees, sym, true, Values, within-passes}
+use Rattle.qss_components.proofs.Sent.{still_light, own_slope}
 use Rattle.qss_devs.proofs.AgreeTold.{agree_slope}
 
 -- a sum passes the limit of slopes where its row is past its limits

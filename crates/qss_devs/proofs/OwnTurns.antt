@@ -1,28 +1,12 @@
 -- Components of which one made a transition.
-use Rattle.std.proofs.Common.{◌≡◌, ◌≢◌, ℕ, ◌<◌, List, Vec, length, get_or, set, map, All, refl, sym}
-use Rattle.std.proofs.Common.{◌∙◌, ap, subst, arith, inl, inr}
-use Rattle.std.proofs.lemmas.Bool.{cases_eq}
-use Rattle.std.proofs.lemmas.List.{get_or-map, length-map, map-set, length-set, get_or-set_same}
-use Rattle.std.proofs.lemmas.List.{get_or-set_other, get_or_default, with_items_is}
-use Rattle.std.proofs.lemmas.List.Elements.{All-set}
-use Rattle.std.specs.Prelude.{Option}
-use Rattle.std.specs.Vec.{with_items}
-use Rattle.qss_machine.specs.declared.compiled_machine.Machine.{Machine}
-use Rattle.qss_machine.specs.Machines.{state_count}
-use Rattle.qss_quant.specs.declared.quantizer.Rule.{Rule}
-use Rattle.qss_quant.specs.IntegratorLines.{Line}
-use Rattle.qss_events.specs.Schedules.{no_line}
-use Rattle.qss_components.specs.declared.crossing_model.CrossingModel.{CrossingModel}
-use Rattle.qss_components.specs.declared.function_model.FunctionModel.{FunctionModel}
-use Rattle.qss_components.specs.declared.integrator_model.IntegratorModel.{IntegratorModel}
-use Rattle.qss_components.specs.Messages.{IsTimely}
-use Rattle.qss_components.specs.Integrators.{IsLineNext}
-use Rattle.qss_components.specs.Functions.{FunctionState}
-use Rattle.qss_components.specs.ComponentModels.{function_state_of, crossing_of}
-use Rattle.qss_devs.specs.declared.coupled_messages.Components.{Components}
-use Rattle.qss_devs.specs.Coupling.{no_summing, no_crossing, line_at, function_state_at}
-use Rattle.qss_devs.specs.Coupling.{crossing_at, IsIntegratorOf, AreComponents, AreRuled}
-use Rattle.qss_devs.specs.Coupling.{IsSummingReady, IsCrossingReady, AreReady}
+use Rattle.qss_devs.proofs.Common
+use Common.{ℕ, ◌<◌, ◌∙◌, ◌≡◌, ◌≢◌, All, All-set, ap, AreComponents, AreReady, AreRuled, arith}
+use Common.{cases_eq, Components, crossing_at, crossing_of, CrossingModel, function_state_at}
+use Common.{function_state_of, FunctionModel, FunctionState, get_or, get_or-map, get_or-set_other}
+use Common.{get_or-set_same, get_or_default, inl, inr, IntegratorModel, IsCrossingReady}
+use Common.{IsIntegratorOf, IsLineNext, IsSummingReady, IsTimely, length, length-map, length-set}
+use Common.{Line, line_at, List, Machine, map, map-set, no_crossing, no_line, no_summing, Option}
+use Common.{refl, Rule, set, state_count, subst, sym, Vec, with_items, with_items_is}
 use Rattle.qss_devs.proofs.ToldParts.{integrators_set, line_set}
 
 -- ---- an element of a borrowed list

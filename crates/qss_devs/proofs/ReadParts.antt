@@ -1,26 +1,11 @@
 -- Components whose crossings were read on arrival at a tick.
-use Rattle.std.proofs.Common.{◌≡◌, ℕ, ◌<◌, Bool, false, List, length, get_or, map, All, sym, ◌∙◌}
-use Rattle.std.proofs.Common.{ap, subst, arith}
-use Rattle.std.proofs.lemmas.List.{get_or-map, length-map}
-use Rattle.std.specs.Prelude.{Some}
-use Rattle.qss_machine.specs.declared.compiled_machine.Machine.{Machine}
-use Rattle.mu_num.specs.ListedPlaces.{flag_at}
-use Rattle.qss_machine.specs.Handlers.{conditions}
-use Rattle.qss_machine.specs.Machines.{compares}
-use Rattle.qss_events.specs.Schedules.{condition_at, no_line}
-use Rattle.qss_events.proofs.Firsts.{same_lists}
-use Rattle.qss_components.specs.declared.crossing_model.CrossingModel.{CrossingModel}
-use Rattle.qss_components.specs.declared.function_model.FunctionModel.{FunctionModel}
-use Rattle.qss_components.specs.declared.integrator_model.IntegratorModel.{IntegratorModel}
-use Rattle.qss_components.specs.Messages.{IsTimely}
-use Rattle.qss_components.specs.Crossings.{Crossing, IsCrossingNext, IsRead}
-use Rattle.qss_components.specs.ComponentModels.{function_state_of, crossing_of}
-use Rattle.qss_components.specs.Agreement.{Values, LineAgrees, SummingAgrees}
-use Rattle.qss_devs.specs.declared.coupled_messages.Components.{Components}
-use Rattle.qss_devs.specs.Coupling.{no_summing, no_crossing, crossing_at, IsIntegratorOf}
-use Rattle.qss_devs.specs.Coupling.{AreComponents}
-use Rattle.qss_devs.specs.CoupledSteps.{Agrees}
-use Rattle.qss_devs.specs.CoupledEvents.{CrossingsLater}
+use Rattle.qss_devs.proofs.Common
+use Common.{ℕ, ◌<◌, ◌∙◌, ◌≡◌, Agrees, All, ap, AreComponents, arith, Bool, compares, Components}
+use Common.{condition_at, conditions, Crossing, crossing_at, crossing_of, CrossingModel}
+use Common.{CrossingsLater, false, flag_at, function_state_of, FunctionModel, get_or, get_or-map}
+use Common.{IntegratorModel, IsCrossingNext, IsIntegratorOf, IsRead, IsTimely, length, length-map}
+use Common.{LineAgrees, List, Machine, map, no_crossing, no_line, no_summing, same_lists, Some}
+use Common.{subst, SummingAgrees, sym, Values}
 use Rattle.qss_devs.proofs.Coasting.{at_twice}
 use Rattle.qss_devs.proofs.NextVisits.{some_element}
 use Rattle.qss_devs.proofs.Readings.{read_agrees}

@@ -1,18 +1,11 @@
 -- Crossings that were read on arrival at a tick.
-use Rattle.std.proofs.Common.{◌≡◌, ◌≢◌, ℕ, ◌+◌, ◌≤◌, ◌<◌, List, length, get_or, set, inl, inr, refl}
-use Rattle.std.proofs.Common.{sym, ◌∙◌, ap, subst, arith}
-use Rattle.std.proofs.lemmas.Bool.{cases_lt}
-use Rattle.std.proofs.lemmas.List.{get_or-set_same, get_or-set_other, get_or_default, length-set}
-use Rattle.std.specs.Prelude.{Option, Some, None, IsSome, IfSome}
-use Rattle.qss_machine.specs.declared.machine_parts.Condition.{Condition}
-use Rattle.qss_machine.specs.declared.compiled_machine.Machine.{Machine}
+use Rattle.qss_devs.proofs.Common
+use Common.{ℕ, ◌+◌, ◌<◌, ◌∙◌, ◌≡◌, ◌≢◌, ◌≤◌, ap, arith, cases_lt, Condition, Crossing, crossing_of}
+use Common.{CrossingAgrees, CrossingModel, get_or, get_or-set_other, get_or-set_same}
+use Common.{get_or_default, inl, inr, IsCrossingNext, IsRead, length, length-set, List, Machine}
+use Common.{Message, no_ticks, None, Option, refl, set, Some, subst, sym, Values}
+use Rattle.std.specs.Prelude.{IsSome, IfSome}
 use Rattle.qss_cross.specs.Crossing.{value_at}
-use Rattle.qss_components.specs.declared.crossing_model.CrossingModel.{CrossingModel}
-use Rattle.qss_components.specs.declared.atomic.Message.{Message}
-use Rattle.qss_components.specs.Crossings.{Crossing, IsCrossingNext, IsRead}
-use Rattle.qss_components.specs.ComponentModels.{crossing_of}
-use Rattle.qss_components.specs.Agreement.{Values, CrossingAgrees}
-use Rattle.qss_components.proofs.Moving.{no_ticks}
 
 -- the message that is there
 pub message_is : (o : Option Message) (a : Message) → IsSome o → IfSome o (λ s. s ≡ a) → o ≡ Some a

@@ -1,25 +1,11 @@
 -- A function that made its transition.
-use Rattle.std.proofs.Common.{◌≡◌, ◌≢◌, ℕ, ◌<◌, true, false, get_or, set, sym, ◌∙◌, ap, subst}
-use Rattle.std.proofs.Common.{arith, inl, inr}
-use Rattle.std.proofs.lemmas.Bool.{cases_eq}
-use Rattle.std.specs.Prelude.{Some, None}
-use Rattle.mu_num.specs.Sizes.{IsWithin, exceeds}
-use Rattle.mu_num.proofs.SizeTests.{passes-within}
-use Rattle.qss_machine.specs.declared.compiled_machine.Machine.{Machine}
-use Rattle.qss_machine.specs.Machines.{state_count}
-use Rattle.qss_components.specs.declared.function_model.FunctionModel.{FunctionModel}
-use Rattle.qss_components.specs.declared.atomic.Message.{Message}
-use Rattle.qss_components.specs.declared.atomic.Message.TheVariants.{Slope}
-use Rattle.qss_components.specs.Integrators.{IsLineNext}
-use Rattle.qss_components.specs.Messages.{IsMessage, passes_limit}
-use Rattle.qss_components.specs.Functions.{FunctionState, sum_of, summing_sent}
-use Rattle.qss_components.specs.ComponentModels.{function_state_of}
-use Rattle.qss_components.specs.Agreement.{Values}
-use Rattle.qss_components.specs.ComponentTheorems.{functions_given}
-use Rattle.qss_devs.specs.declared.coupled_messages.Components.{Components}
-use Rattle.qss_devs.specs.Coupling.{line_at, function_state_at, crossing_at, AreComponents}
-use Rattle.qss_devs.specs.Coupling.{IsSummingReady, AreReady, AllLinesLater, HaveReceived}
-use Rattle.qss_devs.specs.CoupledSteps.{Agrees, AreWithinQuanta, AreValues, IsSlopeSent}
+use Rattle.qss_devs.proofs.Common
+use Common.{ℕ, ◌<◌, ◌∙◌, ◌≡◌, ◌≢◌, Agrees, AllLinesLater, ap, AreComponents, AreReady, AreValues}
+use Common.{AreWithinQuanta, arith, cases_eq, Components, crossing_at, exceeds, false}
+use Common.{function_state_at, function_state_of, FunctionModel, functions_given, FunctionState}
+use Common.{get_or, HaveReceived, inl, inr, IsLineNext, IsMessage, IsSlopeSent, IsSummingReady}
+use Common.{IsWithin, line_at, Machine, Message, None, passes-within, passes_limit, set, Slope}
+use Common.{Some, state_count, subst, sum_of, summing_sent, sym, true, Values}
 use Rattle.qss_devs.proofs.AgreeTold.{agree_same}
 use Rattle.qss_devs.proofs.OwnSlopes.{none_left, sent_rests, sent_passes, sent_sends, lines_later}
 use Rattle.qss_devs.proofs.OwnTurns.{function_machine, own_summing, summing_turned, summings_other}

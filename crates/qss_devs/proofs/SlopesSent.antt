@@ -1,27 +1,12 @@
 -- Functions that send their sums one after another.
-use Rattle.std.proofs.Common.{◌≡◌, ◌≢◌, ℕ, zero, suc, ◌+◌, ◌≤◌, ◌<◌, true, false, List, length, ℤ}
-use Rattle.std.proofs.Common.{pos, inl, inr, refl, sym, ◌∙◌, ap, subst, arith}
-use Rattle.std.proofs.lemmas.Bool.{cases_eq, cases_lt}
-use Rattle.std.proofs.lemmas.List.{length-set}
-use Rattle.std.proofs.lemmas.List.FromFn.{length-map-range_with_len}
-use Rattle.std.specs.Prelude.{Some, None}
-use Rattle.mu_num.specs.Sizes.{IsWithin}
-use Rattle.qss_machine.specs.declared.compiled_machine.Machine.{Machine}
-use Rattle.qss_machine.specs.Machines.{state_count, row_at, slope_at}
-use Rattle.mu_num.specs.IndexedSums.{int_at, tabulate}
-use Rattle.qss_machine.specs.Ticks.{exceeds_row_limits}
-use Rattle.qss_events.specs.Schedules.{no_row}
-use Rattle.qss_events.proofs.Firsts.{first_is, same_lists}
-use Rattle.mu_num.proofs.Tables.{int_at-tabulate}
-use Rattle.qss_events.proofs.Ranges.{position-none}
-use Rattle.qss_events.proofs.LightRows.{light_row}
-use Rattle.qss_components.specs.Functions.{FunctionState}
-use Rattle.qss_components.specs.Agreement.{Values, HasEach}
-use Rattle.qss_components.proofs.Variables.{set_same, set_other}
-use Rattle.qss_devs.specs.declared.coupled_messages.Components.{Components}
-use Rattle.qss_devs.specs.Coupling.{function_state_at}
-use Rattle.qss_devs.specs.CoupledSteps.{Agrees, AreValues, slopes_upto, sloped, IsSlopeSent}
-use Rattle.qss_devs.specs.CoupledSteps.{AreSentUpTo, AreSent}
+use Rattle.qss_devs.proofs.Common
+use Common.{ℕ, ℤ, ◌+◌, ◌<◌, ◌∙◌, ◌≡◌, ◌≢◌, ◌≤◌, Agrees, ap, AreSent, AreSentUpTo, AreValues, arith}
+use Common.{cases_eq, cases_lt, Components, exceeds_row_limits, false, first_is, function_state_at}
+use Common.{FunctionState, HasEach, inl, inr, int_at, int_at-tabulate, IsSlopeSent, IsWithin}
+use Common.{length, length-map-range_with_len, length-set, light_row, List, Machine, no_row, None}
+use Common.{pos, position-none, refl, row_at, same_lists, set_other, set_same, slope_at, sloped}
+use Common.{Some, state_count, subst, suc, sym, tabulate, true, Values, zero}
+use Rattle.qss_devs.specs.CoupledSteps.{slopes_upto}
 use Rattle.qss_devs.proofs.Overs.{not_past, is_past}
 
 module _ (m : Machine) (v : Values) where

@@ -1,41 +1,27 @@
 -- The inputs of a row at the start, variable by variable.
-use Rattle.std.proofs.Common.{◌≡◌, ℕ, ◌+◌, ◌-◌, ◌<◌, ◌≤◌, Bool, true, false, ◌||◌, List, [], ◌∷◌}
-use Rattle.std.proofs.Common.{◌++◌, length, get_or, set, take, All, pos, refl, sym, ◌∙◌, ap, subst, arith}
-use Rattle.std.proofs.Common.{inl, inr, ◌⊎◌}
-use Rattle.std.proofs.lemmas.Bool.{cases_Bool, cases_lt, cases_eq}
-use Rattle.std.proofs.lemmas.Bool.Decides.{nat_tests}
-use Rattle.std.proofs.lemmas.List.{get_or_append_left, get_or_default, get_or_push, get_or-map}
-use Rattle.std.proofs.lemmas.List.{length_push, map_push}
-use Rattle.std.proofs.lemmas.List.Elements.{All-head, All-tail, All-push}
+use Rattle.qss_devs.proofs.Common
+use Common.{[], ℕ, ◌++◌, ◌+◌, ◌-◌, ◌<◌, ◌==◌, ◌||◌, ◌∙◌, ◌∷◌, ◌≡◌, ◌≤◌, ◌⊎◌, All, All-push}
+use Common.{among_rows, ap, AreFirstInputs, AreInputs, AreRisingBelow, arith, Bool, cases_eq}
+use Common.{cases_lt, discrete_count, EachAt, Entry, eqb-no, eqb-yes, false, FunctionInput, get_or}
+use Common.{get_or-map, get_or_append_left, get_or_default, if-false, if-true, if◌then◌else◌, inl}
+use Common.{input_discretes, input_levels, inr, int_at, is_listed, IsWithin, IsWritten, length}
+use Common.{List, list_any, Machine, nat_lt, nat_tests, no_row, not_before, pos, read_levels}
+use Common.{reading_numbers, reading_rows, refl, row_at, row_coefficient, row_reads, set}
+use Common.{start_values, state_count, subst, sym, take, true, written_more}
+use Rattle.std.proofs.lemmas.Bool.{cases_Bool}
+use Rattle.std.proofs.lemmas.List.{get_or_push, length_push, map_push}
+use Rattle.std.proofs.lemmas.List.Elements.{All-head, All-tail}
 use Rattle.std.specs.List.Sorted.{IsStrictlyIncreasing}
-use Rattle.std.specs.List.{list_any}
-use Rattle.std.specs.Prelude.{◌==◌, if◌then◌else◌, nat_lt}
-use Rattle.mu_num.specs.Sizes.{IsWithin}
-use Rattle.mu_num.specs.IndexedSums.{int_at}
-use Rattle.mu_num.specs.ListedPlaces.{is_listed, AreRisingBelow}
-use Rattle.mu_num.specs.Writes.{IsWritten}
-use Rattle.mu_num.proofs.RisingNumbers.{not_before}
 use Rattle.mu_num.proofs.Tables.{tabulate-same}
-use Rattle.mu_num.proofs.Tests.{if-true, if-false, eqb-yes, eqb-no}
-use Rattle.mu_num.proofs.Writes.{among_push, among_at, index_of, written_more}
-use Rattle.qss_machine.specs.declared.machine_parts.Entry.{Entry}
+use Rattle.mu_num.proofs.Writes.{among_push, among_at, index_of}
 use Rattle.qss_machine.specs.declared.machine_parts.Product.{Product}
-use Rattle.qss_machine.specs.declared.compiled_machine.Machine.{Machine}
 use Rattle.qss_machine.specs.MachineLimits.{IsRow}
-use Rattle.qss_machine.specs.Machines.{state_count, discrete_count, row_at, row_coefficient}
-use Rattle.qss_machine.specs.Readers.{has_entry, row_reads, reading_rows}
-use Rattle.qss_machine.proofs.Among.{among_rows}
+use Rattle.qss_machine.specs.Readers.{has_entry}
 use Rattle.qss_machine.proofs.Distinct.{coefficient_small}
-use Rattle.qss_machine.proofs.KeptReaders.{reading_numbers}
-use Rattle.qss_events.specs.Schedules.{no_row}
-use Rattle.qss_components.specs.declared.function_inputs.FunctionInput.{FunctionInput}
-use Rattle.qss_components.specs.ComponentPlaces.{EachAt}
-use Rattle.qss_components.specs.FunctionInputs.{input_vars, input_value, input_levels}
-use Rattle.qss_components.specs.FunctionInputs.{input_discretes, AreInputs}
+use Rattle.qss_components.specs.FunctionInputs.{input_vars, input_value}
 use Rattle.qss_components.proofs.InputPlaces.{no_input, input_place, others, vars_many}
 use Rattle.qss_components.proofs.InputValues.{value_at, no_value}
-use Rattle.qss_devs.specs.Starts.{start_values, read_levels, read_discretes, level_or_value}
-use Rattle.qss_devs.specs.Starts.{AreFirstInputs}
+use Rattle.qss_devs.specs.Starts.{read_discretes, level_or_value}
 use Rattle.qss_devs.proofs.Begun.{level_small, discrete_small}
 
 -- ---- variables that no row reads

@@ -1,14 +1,8 @@
 -- A crossing holds up to its next transition as at its own tick.
-use Rattle.std.proofs.Common.{◌≡◌, ◌≢◌, ℕ, zero, suc, ◌+◌, ◌-◌, ◌≤◌, ◌<◌, inl, inr, ◌∙◌, ap, arith}
-use Rattle.std.proofs.lemmas.Bool.{cases_lt}
-use Rattle.std.specs.Prelude.{Some}
-use Rattle.mu_num.specs.Ticks.{IsFirstAfter}
-use Rattle.mu_num.specs.Limits.{tick_limit}
-use Rattle.qss_machine.specs.Machines.{compares}
-use Rattle.qss_cross.specs.Crossing.{DetectorView, holds_at}
+use Rattle.qss_devs.proofs.Common
+use Common.{ℕ, ◌+◌, ◌-◌, ◌<◌, ◌∙◌, ◌≡◌, ◌≢◌, ◌≤◌, ap, arith, cases_lt, compares, DetectorView}
+use Common.{holds_at, inl, inr, IsCrossingNext, IsFirstAfter, no_ticks, Some, suc, tick_limit, zero}
 use Rattle.qss_events.proofs.Silence.{same_flag}
-use Rattle.qss_components.specs.Crossings.{IsCrossingNext}
-use Rattle.qss_components.proofs.Moving.{no_ticks}
 
 module _ (w : DetectorView) (tick : ℕ) (early : w.tick ≤ tick) (in_time : tick ≤ tick_limit) (later : (next : ℕ) → IsCrossingNext w (Some next) → tick < next) where
   holds_through : (n k : ℕ) → k ≤ n → w.tick + n ≤ tick → holds_at w (w.tick + k) ≡ compares w.rel w.value

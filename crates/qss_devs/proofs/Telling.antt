@@ -1,28 +1,13 @@
 -- Functions and crossings that receive a message, one after another.
-use Rattle.std.proofs.Common.{◌≡◌, ℕ, ◌+◌, ◌<◌, ◌^◌, Bool, true, false, List, length, get_or, set}
-use Rattle.std.proofs.Common.{take, map, All, refl, sym, ◌∙◌, ap, subst, arith}
-use Rattle.std.proofs.lemmas.List.{get_or-map, length-map, map-set}
-use Rattle.std.proofs.lemmas.List.Elements.{All-set}
-use Rattle.mu_num.proofs.Tests.{if-true, if-false}
-use Rattle.std.specs.Prelude.{◌||◌}
-use Rattle.qss_machine.specs.declared.compiled_machine.Machine.{Machine}
-use Rattle.qss_machine.specs.Machines.{state_count}
-use Rattle.qss_machine.specs.Handlers.{conditions}
-use Rattle.mu_num.specs.ListedPlaces.{is_listed, AreRisingBelow}
-use Rattle.qss_events.specs.Schedules.{condition_at}
-use Rattle.mu_num.specs.Writes.{IsWritten}
-use Rattle.mu_num.proofs.RisingNumbers.{not_before}
-use Rattle.mu_num.proofs.Writes.{written_more}
-use Rattle.qss_components.specs.declared.crossing_model.CrossingModel.{CrossingModel}
-use Rattle.qss_components.specs.declared.function_model.FunctionModel.{FunctionModel}
-use Rattle.qss_components.specs.declared.atomic.Message.{Message}
-use Rattle.qss_components.specs.Messages.{IsMessage, IsTimely}
-use Rattle.qss_components.specs.Functions.{FunctionState, function_after_message}
-use Rattle.qss_components.specs.Crossings.{Crossing, IsCrossingNext, crossing_after_message}
-use Rattle.qss_components.specs.ComponentModels.{function_state_of, crossing_of}
-use Rattle.qss_components.specs.ComponentTheorems.{goes_to_function, goes_to_crossing}
-use Rattle.qss_components.specs.ComponentTheorems.{functions_given, crossings_given}
-use Rattle.qss_devs.specs.Coupling.{no_summing, no_crossing, IsSummingReady, IsCrossingReady}
+use Rattle.qss_devs.proofs.Common
+use Common.{ℕ, ◌+◌, ◌<◌, ◌^◌, ◌||◌, ◌∙◌, ◌≡◌, All, All-set, ap, AreRisingBelow, arith, Bool}
+use Common.{condition_at, conditions, Crossing, crossing_after_message, crossing_of, CrossingModel}
+use Common.{crossings_given, false, function_after_message, function_state_of, FunctionModel}
+use Common.{functions_given, FunctionState, get_or, get_or-map, goes_to_crossing, goes_to_function}
+use Common.{if-false, if-true, is_listed, IsCrossingNext, IsCrossingReady, IsMessage}
+use Common.{IsSummingReady, IsTimely, IsWritten, length, length-map, List, Machine, map, map-set}
+use Common.{Message, no_crossing, no_summing, not_before, refl, set, state_count, subst, sym, take}
+use Common.{true, written_more}
 use Rattle.qss_devs.proofs.ToldAgain.{summing_ready_given, crossing_ready_given}
 
 module _ (m : Machine) (tick : ℕ) (message : Message) (places : List ℕ) (i : ℕ) (h : i < length places) where

@@ -1,35 +1,18 @@
 -- What a tick leaves, after its handlers.
-use Rattle.std.proofs.Common.{◌≡◌, ℕ, ◌<◌, true, List, length, map, ℤ, pos, refl, sym, ◌∙◌, ap}
-use Rattle.std.proofs.Common.{subst, arith}
-use Rattle.std.proofs.lemmas.List.FromFn.{length-map-range_with_len}
-use Rattle.std.specs.Prelude.{Option, Some, None, is_some, Ok, Err, position}
-use Rattle.mu_num.specs.Sizes.{IsWithin}
+use Rattle.qss_devs.proofs.Common
+use Common.{ℕ, ℤ, ◌<◌, ◌∙◌, ◌≡◌, Agrees, all_within, ap, AreComponents, AreReady, AreSent, AreTaken}
+use Common.{AreValues, AreWithinQuanta, arith, arrived_values, compares, Components}
+use Common.{ComponentsRepresent, crossing_at, CrossingModel, CrossingsLater, discrete_count, Err}
+use Common.{exceeds_row_limits, first_exceeding, function_state_at, HasEach, int_at}
+use Common.{int_at-tabulate, is_some, IsAllowedLevel, IsStep, IsWithin, length}
+use Common.{length-map-range_with_len, levels_of, line_at, List, Machine, map, MayFollowTick}
+use Common.{moved_states, None, Ok, Option, pos, position, refl, Row, row_is_light, Rule, slope_at}
+use Common.{Snapshot, snapshot_unless, Some, state_count, states_at, Store, subst, sym, tabulate}
+use Common.{true, truths, Values, values_after_rows}
 use Rattle.mu_num.proofs.Tests.{int_lt-yes}
-use Rattle.qss_machine.specs.declared.machine_parts.Row.{Row}
-use Rattle.qss_machine.specs.declared.compiled_machine.Machine.{Machine}
-use Rattle.qss_machine.specs.Handlers.{truths}
-use Rattle.qss_machine.specs.Machines.{state_count, discrete_count, slope_at, compares}
-use Rattle.mu_num.specs.IndexedSums.{int_at, tabulate, first_exceeding}
-use Rattle.qss_machine.specs.Ticks.{Snapshot, moved_states, exceeds_row_limits, snapshot_unless}
-use Rattle.qss_machine.specs.Ticks.{IsStep}
-use Rattle.qss_quant.specs.declared.quantizer.Rule.{Rule}
-use Rattle.qss_events.specs.AllowedLevels.{IsAllowedLevel}
-use Rattle.qss_events.specs.EventFreeTicks.{MayFollowTick}
 use Rattle.qss_events.proofs.NextLevels.{next_is_near}
-use Rattle.mu_num.proofs.Tables.{int_at-tabulate}
-use Rattle.qss_events.proofs.Overs.{all_within}
-use Rattle.qss_events.proofs.LightRows.{row_is_light}
-use Rattle.qss_components.specs.declared.crossing_model.CrossingModel.{CrossingModel}
-use Rattle.qss_components.specs.Agreement.{Values, HasEach, ComponentsRepresent}
-use Rattle.qss_components.specs.ComponentTheorems.{values_after_rows}
 use Rattle.qss_components.proofs.Sent.{settled_stand}
-use Rattle.qss_devs.specs.declared.coupled_messages.Components.{Components}
-use Rattle.qss_devs.specs.declared.coupled_start.Store.{Store}
-use Rattle.qss_devs.specs.Coupling.{line_at, function_state_at, crossing_at, AreComponents}
-use Rattle.qss_devs.specs.Coupling.{AreReady}
-use Rattle.qss_devs.specs.CoupledSteps.{Agrees, AreWithinQuanta, AreValues, AreTaken, AreSent}
-use Rattle.qss_devs.specs.CoupledEvents.{states_at, levels_of, arrived_values, IsAfterHandlers}
-use Rattle.qss_devs.specs.CoupledEvents.{CrossingsLater}
+use Rattle.qss_devs.specs.CoupledEvents.{IsAfterHandlers}
 use Rattle.qss_devs.proofs.Followed.{handled_values, told_all, handled_fit, step_level, step_slope}
 use Rattle.qss_devs.proofs.Followed.{step_done, states_are, levels_are, settled_are}
 

@@ -1,30 +1,17 @@
 -- Components that received a message may receive another.
-use Rattle.std.proofs.Common.{◌≡◌, ℕ, ◌+◌, ◌<◌, ◌≤◌, ◌^◌, Bool, true, false, List, [], ◌∷◌, length}
-use Rattle.std.proofs.Common.{get_or, map, ℤ, pos, ◌*ℤ◌, refl, sym, ◌∙◌, ap, subst, arith}
-use Rattle.std.proofs.lemmas.List.{get_or-map, length-map}
-use Rattle.std.specs.Ordering.{int_eq}
-use Rattle.std.specs.Option.{option_or}
-use Rattle.std.specs.Prelude.{◌==◌, ◌||◌, Option, Some, None, MatchBool, if◌then◌else◌}
-use Rattle.mu_num.specs.Sizes.{IsWithin}
-use Rattle.mu_num.specs.Ticks.{FirstAfter}
-use Rattle.mu_num.proofs.Tests.{if_cases, if-true, if-false, eqb-true}
-use Rattle.qss_machine.specs.declared.compiled_machine.Machine.{Machine}
-use Rattle.qss_machine.specs.Machines.{state_count, discrete_count, level_unit}
-use Rattle.qss_machine.specs.Ticks.{is_within_quantum}
-use Rattle.qss_quant.specs.IntegratorLines.{Line}
-use Rattle.qss_events.specs.Schedules.{LeavesAt}
-use Rattle.qss_components.specs.declared.crossing_model.Input.{Input}
-use Rattle.qss_components.specs.declared.atomic.Message.{Message}
-use Rattle.qss_components.specs.declared.atomic.Message.TheVariants.{Slope, State, Level, Discrete}
-use Rattle.qss_components.specs.declared.atomic.Message.TheVariants.{Truth}
-use Rattle.qss_components.specs.Messages.{IsMessage, IsTimely}
-use Rattle.qss_components.specs.Integrators.{IsLineNext, line_moved, line_told, line_after_message}
-use Rattle.qss_components.specs.Functions.{FunctionState, sum_at, sum_of, levels_after_message}
-use Rattle.qss_components.specs.Functions.{discretes_after_message, function_after_message}
-use Rattle.qss_components.specs.Crossings.{Crossing, input_at, input_after_message, form_at}
-use Rattle.qss_components.specs.Crossings.{speed_by, crossing_after_message}
-use Rattle.qss_components.proofs.Moving.{no_ticks}
-use Rattle.qss_devs.specs.Coupling.{IsSummingReady, IsCrossingReady}
+use Rattle.qss_devs.proofs.Common
+use Common.{[], ℕ, ℤ, ◌*ℤ◌, ◌+◌, ◌<◌, ◌==◌, ◌^◌, ◌||◌, ◌∙◌, ◌∷◌, ◌≡◌, ◌≤◌, ap, arith, Bool}
+use Common.{Crossing, crossing_after_message, Discrete, discrete_count, false, FirstAfter, form_at}
+use Common.{function_after_message, FunctionState, get_or, get_or-map, if-false, if-true, if_cases}
+use Common.{if◌then◌else◌, Input, input_at, int_eq, is_within_quantum, IsCrossingReady, IsLineNext}
+use Common.{IsMessage, IsSummingReady, IsTimely, IsWithin, LeavesAt, length, length-map, Level}
+use Common.{level_unit, Line, line_after_message, line_moved, List, Machine, map, MatchBool}
+use Common.{Message, no_ticks, None, Option, option_or, pos, refl, Slope, Some, speed_by, State}
+use Common.{state_count, subst, sum_at, sum_of, sym, true, Truth}
+use Rattle.mu_num.proofs.Tests.{eqb-true}
+use Rattle.qss_components.specs.Integrators.{line_told}
+use Rattle.qss_components.specs.Functions.{levels_after_message, discretes_after_message}
+use Rattle.qss_components.specs.Crossings.{input_after_message}
 
 -- ---- functions
 

@@ -1,42 +1,20 @@
 -- Components of which some received a message.
-use Rattle.std.proofs.Common.{◌≡◌, ◌≢◌, ℕ, ◌+◌, ◌<◌, Bool, false, List, length, get_or, set, map}
-use Rattle.std.proofs.Common.{All, refl, sym, ◌∙◌, ap, subst, arith, inl, inr}
-use Rattle.std.proofs.lemmas.Bool.{cases_eq}
-use Rattle.std.proofs.lemmas.List.{get_or-map, length-map, map-set, length-set, get_or-set_same}
-use Rattle.std.proofs.lemmas.List.{get_or-set_other}
-use Rattle.std.proofs.lemmas.List.Elements.{All-set}
-use Rattle.std.specs.Prelude.{◌||◌, ◌==◌}
-use Rattle.mu_num.proofs.Tests.{if_cases, if-true, if-false, eqb-yes, eqb-no}
-use Rattle.qss_machine.specs.declared.machine_parts.Condition.{Condition}
-use Rattle.qss_machine.specs.declared.compiled_machine.Machine.{Machine}
-use Rattle.qss_machine.specs.Machines.{state_count, discrete_count, row_at}
-use Rattle.qss_machine.specs.Handlers.{conditions}
-use Rattle.qss_machine.specs.Readers.{row_reads, condition_reads, reading_rows, reading_conditions}
-use Rattle.qss_quant.specs.declared.quantizer.Quantizer.{Quantizer}
-use Rattle.qss_quant.specs.IntegratorLines.{Line}
-use Rattle.mu_num.specs.ListedPlaces.{is_listed}
-use Rattle.qss_events.specs.Schedules.{condition_at, no_line}
-use Rattle.mu_num.specs.Writes.{IsWritten}
-use Rattle.qss_machine.proofs.Among.{among_rows}
-use Rattle.qss_components.specs.declared.crossing_model.CrossingModel.{CrossingModel}
-use Rattle.qss_components.specs.declared.function_model.FunctionModel.{FunctionModel}
-use Rattle.qss_components.specs.declared.integrator_model.IntegratorModel.{IntegratorModel}
-use Rattle.qss_components.specs.declared.atomic.Message.{Message}
-use Rattle.qss_components.specs.declared.atomic.Message.TheVariants.{Slope, State, Level, Discrete}
-use Rattle.qss_components.specs.declared.atomic.Message.TheVariants.{Truth}
-use Rattle.qss_components.specs.Messages.{IsMessage, IsTimely}
-use Rattle.qss_components.specs.Integrators.{IsLineNext, line_after_message}
-use Rattle.qss_components.specs.Functions.{function_after_message}
-use Rattle.qss_components.specs.Crossings.{Crossing, crossing_after_message}
-use Rattle.qss_components.specs.ComponentModels.{function_state_of, crossing_of, IsGivenLine}
-use Rattle.qss_components.specs.ComponentTheorems.{goes_to_integrator, goes_to_function}
-use Rattle.qss_components.specs.ComponentTheorems.{goes_to_crossing, lines_given, functions_given}
-use Rattle.qss_components.specs.ComponentTheorems.{crossings_given}
-use Rattle.qss_devs.specs.declared.coupled_messages.Components.{Components}
-use Rattle.qss_devs.specs.Coupling.{no_summing, no_crossing, line_at, function_state_at}
-use Rattle.qss_devs.specs.Coupling.{crossing_at, IsIntegratorOf, AreComponents, IsSummingReady}
-use Rattle.qss_devs.specs.Coupling.{IsCrossingReady, AreReady, IsOfLine, IsOfLevel, IsOfDiscrete}
-use Rattle.qss_devs.specs.Coupling.{HaveReceived}
+use Rattle.qss_devs.proofs.Common
+use Common.{ℕ, ◌+◌, ◌<◌, ◌==◌, ◌||◌, ◌∙◌, ◌≡◌, ◌≢◌, All, All-set, among_rows, ap, AreComponents}
+use Common.{AreReady, arith, Bool, cases_eq, Components, Condition, condition_at, conditions}
+use Common.{Crossing, crossing_after_message, crossing_at, crossing_of, CrossingModel}
+use Common.{crossings_given, Discrete, discrete_count, eqb-no, eqb-yes, false}
+use Common.{function_after_message, function_state_at, function_state_of, FunctionModel}
+use Common.{functions_given, get_or, get_or-map, get_or-set_other, get_or-set_same}
+use Common.{goes_to_crossing, goes_to_function, HaveReceived, if-false, if-true, if_cases, inl, inr}
+use Common.{IntegratorModel, is_listed, IsCrossingReady, IsGivenLine, IsIntegratorOf, IsLineNext}
+use Common.{IsMessage, IsSummingReady, IsTimely, IsWritten, length, length-map, length-set, Level}
+use Common.{Line, line_after_message, line_at, lines_given, List, Machine, map, map-set, Message}
+use Common.{no_crossing, no_line, no_summing, Quantizer, reading_conditions, reading_rows, refl}
+use Common.{row_at, row_reads, set, Slope, State, state_count, subst, sym, Truth}
+use Rattle.qss_machine.specs.Readers.{condition_reads}
+use Rattle.qss_components.specs.ComponentTheorems.{goes_to_integrator}
+use Rattle.qss_devs.specs.Coupling.{IsOfLine, IsOfLevel, IsOfDiscrete}
 use Rattle.qss_devs.proofs.ToldAgain.{summing_ready_given, crossing_ready_given, line_ready_given}
 use Rattle.qss_devs.proofs.ToldAgain.{told_twice}
 use Rattle.qss_events.proofs.Readers.{among_conditions}

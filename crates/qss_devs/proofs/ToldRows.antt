@@ -1,21 +1,14 @@
 -- The rows of handlers may be sent as messages.
-use Rattle.std.proofs.Common.{ℕ, ◌+◌, Bool, List, [], ◌∷◌, ◌++◌, ℤ, pos, set, ◌-◌}
-use Rattle.std.proofs.lemmas.List.Elements.{All-push}
-use Rattle.std.specs.Prelude.{All, Some}
-use Rattle.mu_num.proofs.SizeTests.{passes-within}
-use Rattle.mu_num.proofs.Tests.{if_cases}
-use Rattle.mu_num.specs.Sizes.{exceeds}
-use Rattle.qss_machine.specs.declared.machine_parts.Action.{Action}
+use Rattle.qss_devs.proofs.Common
+use Common.{[], ℕ, ℤ, ◌++◌, ◌-◌, ◌∷◌, Action, All, All-push, Bool, discrete_count, exceeds}
+use Common.{HandlerState, if_cases, IsToldMessage, List, Machine, passes-within, pos, Row}
+use Common.{run_clauses, set, Some, state_count}
 use Rattle.qss_machine.specs.declared.machine_parts.Action.TheVariants.{Set, Reinit}
-use Rattle.qss_machine.specs.declared.machine_parts.Row.{Row}
-use Rattle.qss_machine.specs.declared.machine_parts.RowKind.TheVariants as kind
-use Rattle.qss_machine.specs.declared.compiled_machine.Machine.{Machine}
-use Rattle.qss_machine.specs.Handlers.{HandlerState, assign, fire_row, run_clauses}
+use Rattle.qss_machine.specs.Handlers.{assign, fire_row}
 use Rattle.qss_machine.specs.MachineLimits.{IsAction}
-use Rattle.qss_machine.specs.Machines.{state_count, discrete_count}
 use Rattle.qss_hand.proofs.Targets.{target_set, target_reinit}
 use Rattle.qss_events.proofs.Kept.{after_clauses}
-use Rattle.qss_devs.specs.CoupledSteps.{IsToldMessage}
+use Rattle.qss_machine.specs.declared.machine_parts.RowKind.TheVariants as kind
 
 module _ (m : Machine) (tick : ℕ) where
   abbrev set_row : ℕ → ℤ → Row

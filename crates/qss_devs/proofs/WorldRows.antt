@@ -1,18 +1,10 @@
 -- The rows of states, from their integrators.
-use Rattle.std.proofs.Common.{◌≡◌, ℕ, ◌≤◌, ◌<◌, ◌++◌, List, length, get_or, map, ℤ, pos, All, sym}
-use Rattle.std.proofs.Common.{◌∙◌, ap, subst, arith}
-use Rattle.std.proofs.lemmas.List.{get_or-map, length-map}
-use Rattle.std.specs.Prelude.{Option}
-use Rattle.qss_machine.specs.declared.machine_parts.RowKind.{RowKind}
-use Rattle.qss_machine.specs.declared.compiled_machine.Machine.{Machine}
-use Rattle.qss_machine.specs.Runs.{state_rows, discrete_rows, snapshot_rows}
-use Rattle.qss_quant.specs.declared.quantizer.Rule.{Rule}
-use Rattle.qss_quant.specs.IntegratorLines.{Line, state_at}
-use Rattle.qss_events.specs.Schedules.{no_line}
-use Rattle.qss_events.proofs.EndRows.{state_row}
-use Rattle.qss_components.specs.declared.integrator_model.IntegratorModel.{IntegratorModel}
-use Rattle.qss_devs.specs.declared.coupled_start.Store.{Store}
-use Rattle.qss_devs.specs.CoupledEvents.{states_at, levels_of, snapshot_of, StoreRepresents}
+use Rattle.qss_devs.proofs.Common
+use Common.{ℕ, ℤ, ◌++◌, ◌<◌, ◌∙◌, ◌≡◌, ◌≤◌, All, ap, arith, get_or, get_or-map, IntegratorModel}
+use Common.{length, length-map, levels_of, Line, List, Machine, map, no_line, Option, pos, RowKind}
+use Common.{Rule, snapshot_of, snapshot_rows, state_at, state_row, states_at, Store}
+use Common.{StoreRepresents, subst, sym}
+use Rattle.qss_machine.specs.Runs.{state_rows, discrete_rows}
 
 abbrev pub levels_in : {X : Type 0} {g : _} → List (IntegratorModel X g) → List ℤ
 levels_in {X} {g} integrators = map (λ i. i.line.level) integrators

@@ -1,18 +1,11 @@
 -- Sums in which one term changes.
-use Rattle.std.proofs.Common.{◌≡◌, ℕ, ◌+◌, ◌^◌, ◌<◌, List, length, ℤ, pos, ◌+ℤ◌, ◌-ℤ◌, ◌*ℤ◌, ◌≤ℤ◌, ◌<ℤ◌, ◌∙◌, ap, subst, arith}
-use Rattle.std.proofs.lemmas.Int.{ints}
-use Rattle.std.proofs.lemmas.List.{get_or-set_same, get_or-set_other}
-use Rattle.std.proofs.Math.ListN.{length-set}
-use Rattle.std.specs.Prelude.{slice_set}
-use Rattle.std.specs.Int.RustNames.{unsigned_abs}
-use Rattle.mu_num.proofs.Integers.{mul-sub}
-use Rattle.mu_num.proofs.Tests.{int_lt-false}
-use Rattle.mu_num.proofs.Sums.{sum_changed}
-use Rattle.qss_machine.specs.declared.machine_parts.SlopeRow.{SlopeRow}
-use Rattle.mu_num.specs.IndexedSums.{int_at, sum_below, abs_of}
-use Rattle.qss_machine.specs.Slopes.{mode_coefficient, slope_of, weight_of, constant_part, coefficient_of}
-use Rattle.qss_machine.specs.Machines.{level_unit, quantum_of}
-use Rattle.qss_machine.proofs.Near.{quantum_positive, unit_le}
+use Rattle.qss_events.proofs.Common
+use Common.{ℕ, ℤ, ◌*ℤ◌, ◌+ℤ◌, ◌+◌, ◌-ℤ◌, ◌<ℤ◌, ◌<◌, ◌^◌, ◌∙◌, ◌≡◌, ◌≤ℤ◌, abs_of, ap, arith}
+use Common.{coefficient_of, constant_part, get_or-set_other, get_or-set_same, int_at, int_lt-false}
+use Common.{ints, length, length-set, level_unit, List, mode_coefficient, mul-sub, pos, quantum_of}
+use Common.{quantum_positive, slice_set, slope_of, SlopeRow, subst, sum_below, sum_changed}
+use Common.{unsigned_abs, weight_of}
+use Rattle.qss_machine.proofs.Near.{unit_le}
 use Rattle.qss_events.specs.SlopeChanges.{SlopesFollowLevels, LeavingChangesLevel}
 
 slope_follows : (bits : ℕ) (row : SlopeRow) (levels discretes : List ℤ) (i : ℕ) (level : ℤ) → i < length levels →

@@ -1,18 +1,10 @@
 -- A slope where one discrete value changes.
-use Rattle.std.proofs.Common.{◌≡◌, ◌≢◌, ℕ, ◌+◌, ◌-◌, ◌^◌, ◌<◌, Bool, true, false, List, [], ◌∷◌, length, ℤ, pos, ◌+ℤ◌, ◌-ℤ◌, ◌*ℤ◌, refl, ◌∙◌, ap, arith}
-use Rattle.std.proofs.lemmas.Int.{ints}
-use Rattle.std.proofs.lemmas.List.{get_or-set_same, get_or-set_other}
-use Rattle.std.proofs.Math.ListN.{length-set}
-use Rattle.std.specs.List.{list_any}
-use Rattle.std.specs.Prelude.{slice_set, ◌==◌, ◌||◌, if◌then◌else◌}
-use Rattle.mu_num.specs.Rounding.{nearest_of}
-use Rattle.mu_num.proofs.Integers.{mul-sub}
-use Rattle.mu_num.proofs.Tests.{eqb-false}
-use Rattle.qss_machine.specs.declared.machine_parts.Product.{Product}
-use Rattle.qss_machine.specs.declared.machine_parts.SlopeRow.{SlopeRow}
-use Rattle.mu_num.specs.IndexedSums.{int_at, sum_below}
-use Rattle.qss_machine.specs.Slopes.{products_of, mode_coefficient, constant_part, coefficient_of}
-use Rattle.mu_num.proofs.Sums.{sum_below-same, sum_changed}
+use Rattle.qss_events.proofs.Common
+use Common.{[], ℕ, ℤ, ◌*ℤ◌, ◌+ℤ◌, ◌+◌, ◌-ℤ◌, ◌-◌, ◌<◌, ◌==◌, ◌^◌, ◌||◌, ◌∙◌, ◌∷◌, ◌≡◌, ◌≢◌, ap}
+use Common.{arith, Bool, coefficient_of, constant_part, eqb-false, false, get_or-set_other}
+use Common.{get_or-set_same, if◌then◌else◌, int_at, ints, length, length-set, List, list_any}
+use Common.{mode_coefficient, mul-sub, nearest_of, pos, Product, products_of, refl, slice_set}
+use Common.{SlopeRow, sum_below, sum_below-same, sum_changed, true}
 use Rattle.qss_events.specs.SlopeChanges.{SlopesFollowDiscretes}
 
 neither : (a b : Bool) → (a || b) ≡ false → (a ≡ false) × (b ≡ false)

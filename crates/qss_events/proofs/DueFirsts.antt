@@ -1,10 +1,11 @@
 -- The first number past a limit, where only those at some places may pass it.
-use Rattle.std.proofs.Common.{◌≡◌, ℕ, ◌<◌, ◌≤◌, Bool, true, false, List, length, get_or, sym, ap, ◌∙◌, subst, inl, inr, ◌⊎◌, arith}
-use Rattle.std.proofs.lemmas.Bool.{cases_Bool, cases_lt}
+use Rattle.qss_events.proofs.Common
+use Common.{ℕ, ◌<◌, ◌∙◌, ◌≡◌, ◌≤◌, ap, AreRisingBelow, arith, Bool, cases_Bool, cases_lt, false}
+use Common.{get_or, inl, inr, is_listed, length, List, None, Option, position, Some, subst, sym}
+use Common.{true}
+use Rattle.std.proofs.Common.{◌⊎◌}
 use Rattle.std.proofs.lemmas.List.Kept.{AllPairs-from_increasing}
 use Rattle.std.specs.List.Sorted.{IsStrictlyIncreasing}
-use Rattle.std.specs.Prelude.{Option, Some, None, position}
-use Rattle.mu_num.specs.ListedPlaces.{is_listed, AreRisingBelow}
 use Rattle.mu_num.specs.Writes.{IsFirstOf}
 use Rattle.qss_events.proofs.Firsts.{first_is}
 use Rattle.qss_events.proofs.Ranges.{position-none}

@@ -1,10 +1,9 @@
 -- Rows of states and discrete variables, one after another.
-use Rattle.std.proofs.Common.{◌≡◌, ℕ, ◌+◌, List, [], ◌∷◌, ◌++◌, map, ℤ, pos, ◌∙◌, ap, sym, arith, append_assoc}
+use Rattle.qss_events.proofs.Common
+use Common.{[], ℕ, ℤ, ◌++◌, ◌+◌, ◌∙◌, ◌∷◌, ◌≡◌, ap, arith, int_at, List, map, pos, range_with_len}
+use Common.{Row, RowKind, sym}
+use Rattle.std.proofs.Common.{append_assoc}
 use Rattle.std.proofs.lemmas.List.FromFn.{map-range_with_len_more}
-use Rattle.std.specs.List.{range_with_len}
-use Rattle.qss_machine.specs.declared.machine_parts.Row.{Row}
-use Rattle.qss_machine.specs.declared.machine_parts.RowKind.{RowKind}
-use Rattle.mu_num.specs.IndexedSums.{int_at}
 
 abbrev pub state_row : RowKind → ℕ → List ℤ → List ℤ → ℕ → Row
 state_row kind tick levels x j = record { tick = tick; kind = kind; var = j; level = int_at levels j; state = int_at x j }

@@ -1,11 +1,10 @@
 -- The first element that passes a test, and lists by their elements.
-use Rattle.std.proofs.Common.{◌≡◌, ℕ, ◌+◌, ◌<◌, Bool, true, false, cond, List, length, get_or, set, refl, ap, subst, ◌∙◌, sym, arith}
+use Rattle.qss_events.proofs.Common
+use Common.{ℕ, ◌+◌, ◌<◌, ◌∙◌, ◌≡◌, ap, arith, Bool, cond, false, fill_by_all, get_or, length, List}
+use Common.{nat_lt, nat_tests, None, refl, slice_set as set, Some, subst, sym, true}
 use Rattle.std.proofs.lemmas.List.Edits.{fill_by_more}
-use Rattle.std.proofs.lemmas.List.FromFn.{fill_by_all}
-use Rattle.std.proofs.lemmas.Bool.Decides.{nat_tests}
 use Rattle.std.proofs.lemmas.List.Sums.{position_or_len_is}
 use Rattle.std.specs.List.{position}
-use Rattle.std.specs.Prelude.{Some, None, nat_lt}
 
 pub less_yes : (i n : ℕ) → i < n → nat_lt i n ≡ true
 less_yes i n h = grind (arith, nat_tests)

@@ -1,14 +1,8 @@
 -- Flags of branches by place.
-use Rattle.std.proofs.Common.{◌≡◌, ℕ, zero, suc, ◌<◌, Bool, false, ◌&&◌, List, [], ◌∷◌, length, ℤ, pos, refl, ap, sym, ◌∙◌, arith}
-use Rattle.std.proofs.lemmas.List.{get_or-map, length-map}
-use Rattle.std.specs.Prelude.{not}
-use Rattle.qss_machine.specs.declared.machine_parts.Condition.{Condition}
-use Rattle.qss_machine.specs.declared.machine_parts.Rel.TheVariants.{Less}
-use Rattle.qss_machine.specs.declared.compiled_machine.Machine.{Machine}
-use Rattle.qss_machine.specs.Machines.{truth}
-use Rattle.qss_machine.specs.Handlers.{conditions, truths, firing_flags}
-use Rattle.mu_num.specs.ListedPlaces.{flag_at}
-use Rattle.qss_events.specs.Schedules.{condition_at}
+use Rattle.qss_events.proofs.Common
+use Common.{[], ℕ, ℤ, ◌&&◌, ◌<◌, ◌∙◌, ◌∷◌, ◌≡◌, ap, arith, Bool, Condition, condition_at}
+use Common.{conditions, false, firing_flags, flag_at, get_or-map, length, length-map, Less, List}
+use Common.{Machine, not, pos, refl, suc, sym, truth, truths, zero}
 use Rattle.qss_events.proofs.Firsts.{same_lists}
 
 pub length-due_flags : (now at_arrival after_handlers : List Bool) → length at_arrival ≡ length now → length after_handlers ≡ length now → length (firing_flags now at_arrival after_handlers) ≡ length now

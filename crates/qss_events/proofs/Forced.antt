@@ -1,15 +1,13 @@
 -- An event-free tick under whichever rule.
-use Rattle.std.proofs.Common.{◌≡◌, ℕ, ◌+◌, Bool, true, false, List, [], ℤ, pos, refl, sym, ◌∙◌, ap, subst}
-use Rattle.std.specs.Prelude.{None, Result, Ok, MatchBool}
-use Rattle.qss_machine.specs.declared.compiled_machine.Machine.{Machine}
-use Rattle.mu_num.specs.IndexedSums.{int_at}
-use Rattle.qss_machine.specs.Machines.{state_count}
-use Rattle.qss_machine.specs.Handlers.{HandlerState}
+use Rattle.qss_events.proofs.Common
+use Common.{[], ℕ, ℤ, ◌+◌, ◌∙◌, ◌≡◌, ap, Bool, false, finish_tick, handlers_at, HandlerState}
+use Common.{int_at, IsEventFree, IsStep, List, Machine, MatchBool, MayFollowTick, None, NoneRises}
+use Common.{Ok, pos, refl, Result, Snapshot, snapshot_after, state_count, states_after, subst, sym}
+use Common.{tabulate-int_at, tabulate-same, true}
 use Rattle.mu_num.specs.Levels.{IsWithinOneLevel}
-use Rattle.qss_machine.specs.Ticks.{Snapshot, handlers_at, AreNextLevels, finish_tick, IsStep}
-use Rattle.qss_events.specs.EventFreeTicks.{states_after, snapshot_after, NoneRises, IsEventFree, MayFollowTick, EventFreeTickIsUnique}
+use Rattle.qss_machine.specs.Ticks.{AreNextLevels}
+use Rattle.qss_events.specs.EventFreeTicks.{EventFreeTickIsUnique}
 use Rattle.qss_events.proofs.Quiet.{quiet_handling, quiet_settle}
-use Rattle.mu_num.proofs.Tables.{tabulate-same, tabulate-int_at}
 
 near_only : (b : Bool) (P Q : Type 0) → b ≡ true → MatchBool b P Q → P
 near_only true P Q e p = p

@@ -1,20 +1,12 @@
 -- A first-order run from its start.
-use Rattle.std.proofs.Common.{◌≡◌, ℕ, ◌-◌, ◌++◌, sym, ap, ◌∙◌, subst, arith}
-use Rattle.std.specs.Prelude.{Some, All}
-use Rattle.qss_machine.specs.declared.machine_parts.RowKind.TheVariants as kind
-use Rattle.qss_machine.specs.declared.compiled_machine.Machine.{Machine}
-use Rattle.qss_machine.specs.Ticks.{start_snapshot}
-use Rattle.qss_machine.specs.Runs.{Run, run_from, snapshot_rows, run_rows}
-use Rattle.qss_quant.specs.declared.quantizer.Rule.{Rule}
-use Rattle.qss_quant.specs.LevelRules.{level_by}
-use Rattle.qss_rows.specs.RowTexts.{HasVariable}
-use Rattle.qss_events.specs.declared.event_outcome.Outcome.{Outcome}
-use Rattle.qss_events.specs.declared.event_outcome.Outcome.TheVariants.{Events, Done, Over}
-use Rattle.qss_events.specs.EventFreeTicks.{rows_from}
-use Rattle.qss_events.specs.RunViews.{RunView}
-use Rattle.qss_events.specs.RemainingRows.{first_view, remaining_run, remaining_rows, EndsFrom, IsEndOf}
-use Rattle.qss_events.specs.RunTexts.{run_by_rule}
+use Rattle.qss_events.proofs.Common
+use Common.{ℕ, ◌++◌, ◌-◌, ◌∙◌, ◌≡◌, All, ap, arith, Done, EndsFrom, Events, first_view, HasVariable}
+use Common.{level_by, Machine, Outcome, Over, remaining_rows, remaining_run, rows_from, Rule, Run}
+use Common.{run_by_rule, run_from, run_rows, RunView, snapshot_rows, Some, start_snapshot, subst}
+use Common.{sym}
+use Rattle.qss_events.specs.RemainingRows.{IsEndOf}
 use Rattle.qss_events.proofs.KnownRows.{run_known, over_known}
+use Rattle.qss_machine.specs.declared.machine_parts.RowKind.TheVariants as kind
 
 all_ticks : (m : Machine) → m.last - 0 ≡ m.last
 all_ticks m = omega arith

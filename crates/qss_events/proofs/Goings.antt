@@ -1,11 +1,10 @@
 -- Event steps one after another.
-use Rattle.std.proofs.Common.{◌≡◌, ℕ, ◌+◌, List, [], ◌∷◌, ◌++◌, length, ℤ, sym, ◌∙◌, ap, subst, arith}
+use Rattle.qss_events.proofs.Common
+use Common.{[], ℕ, ℤ, ◌++◌, ◌+◌, ◌∙◌, ◌∷◌, ◌≡◌, ap, AreEventFree, arith, IsEventFreeExecution}
+use Common.{IsStep, last_snapshot, length, List, Machine, Ok, Result, Snapshot, subst, sym}
+use Common.{tick_rows}
 use Rattle.std.proofs.lemmas.List.{length-append}
-use Rattle.std.specs.Prelude.{Ok, Result}
-use Rattle.qss_machine.specs.declared.compiled_machine.Machine.{Machine}
-use Rattle.qss_machine.specs.Ticks.{Snapshot, IsStep}
-use Rattle.qss_machine.specs.Runs.{last_snapshot, tick_rows}
-use Rattle.qss_events.specs.EventFreeRuns.{IsEventFreeExecution, AreEventFree, IsVisit}
+use Rattle.qss_events.specs.EventFreeRuns.{IsVisit}
 use Rattle.qss_events.proofs.Silences.{leads_on, last-append}
 
 module _ (Rule : ℤ → ℤ → ℤ → ℤ → Type 0) (m : Machine) (from : ℕ) (w0 : Snapshot) (silent : List Snapshot) (tick : ℕ) (w : Snapshot) (are : AreEventFree Rule m from w0 silent tick w) where

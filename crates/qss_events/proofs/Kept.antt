@@ -1,15 +1,10 @@
 -- What holds before handlers, and goes on over each row of a branch and each assignment, holds after them.
-use Rattle.std.proofs.Common.{ℕ, ◌+◌, ◌++◌, Bool, true, false, List, [], ◌∷◌, length, take, drop, fold, ℤ, arith}
-use Rattle.std.proofs.lemmas.List.Elements.{All-tail}
-use Rattle.std.specs.Prelude.{is_some, All}
-use Rattle.mu_num.proofs.Tests.{if_cases}
-use Rattle.qss_machine.specs.declared.machine_parts.Action.{Action}
-use Rattle.qss_machine.specs.declared.machine_parts.BranchInfo.{BranchInfo}
-use Rattle.qss_machine.specs.declared.machine_parts.ClauseInfo.{ClauseInfo}
-use Rattle.qss_machine.specs.declared.compiled_machine.Machine.{Machine}
-use Rattle.qss_machine.specs.Handlers.{HandlerState, assigned_value, assign, run_action, fire_row, run_first_due, run_clause, run_clauses}
-use Rattle.qss_machine.specs.MachineLimits.{IsAction, IsBranch, IsClause}
-use Rattle.qss_machine.specs.Machines.{state_count, discrete_count}
+use Rattle.qss_events.proofs.Common
+use Common.{[], ℕ, ℤ, ◌++◌, ◌+◌, ◌∷◌, Action, All, All-tail, arith, assign, assigned_value, Bool}
+use Common.{BranchInfo, ClauseInfo, discrete_count, drop, false, fire_row, fold, HandlerState}
+use Common.{if_cases, is_some, IsAction, IsBranch, IsClause, length, List, Machine, run_action}
+use Common.{run_clauses, run_first_due, state_count, take, true}
+use Rattle.qss_machine.specs.Handlers.{run_clause}
 
 module _ (m : Machine) (tick : ℕ) (before : List ℤ) (Holds : HandlerState → Type 0)
     (fires : (h : HandlerState) (clause branch : ℕ) → Holds h → Holds (record h { rows = h.rows ++ fire_row tick clause branch ∷ [] }))

@@ -1,38 +1,29 @@
 -- The rows of a run are of variables of its machine.
-use Rattle.std.proofs.Common.{◌≡◌, ℕ, zero, suc, ◌+◌, ◌-◌, ◌<◌, Bool, true, false, List, [], ◌∷◌, ◌++◌, length, map, fold, get_or, ℤ, pos, ◌+ℤ◌, refl, sym, ◌∙◌, subst, arith}
-use Rattle.std.proofs.lemmas.Bool.Decides.{nat_tests}
-use Rattle.std.proofs.lemmas.List.{length-map, length-set}
-use Rattle.std.proofs.lemmas.List.Elements.{All-nil, All-cons, All-append, All-head, All-tail}
-use Rattle.std.proofs.lemmas.List.FromFn.{length-map-range_with_len, get_or-map-range_with_len}
+use Rattle.qss_events.proofs.Common
+use Common.{[], ℕ, ℤ, ◌&&◌, ◌++◌, ◌+ℤ◌, ◌+◌, ◌-◌, ◌<◌, ◌∙◌, ◌∷◌, ◌≡◌, Action, All, All-head}
+use Common.{All-tail, arith, assign, assigned_value, Bool, BranchInfo, ClauseInfo, discrete_count}
+use Common.{Err, exceeds, exceeds_row_limits, false, finish_tick, fire_row, firing_flags}
+use Common.{first_exceeding, flat_map, fold, get_or, handlers_at, HandlerState, HasVariable}
+use Common.{if_cases, if◌then◌else◌, int_at, int_eq, is_some, is_within_quantum, IsAction, IsBranch}
+use Common.{IsClause, length, length-map, length-map-range_with_len, level_rows, level_unit, List}
+use Common.{Machine, map, moved_states, nat_lt, nat_tests, next_levels, None, Ok, Option, option_or}
+use Common.{pos, position, range_with_len, refl, Result, Row, RowKind, rows_after, rows_from, Run}
+use Common.{run_action, run_clauses, run_first_due, run_from, run_rows, run_with, slope_at}
+use Common.{SlopeRow, Snapshot, snapshot_rows, snapshot_unless, Some, start_snapshot, state_count}
+use Common.{StateInfo, step, subst, suc, sym, tabulate, tick_rows, true, truths, zero}
+use Rattle.std.proofs.lemmas.List.{length-set}
+use Rattle.std.proofs.lemmas.List.Elements.{All-nil, All-cons, All-append}
+use Rattle.std.proofs.lemmas.List.FromFn.{get_or-map-range_with_len}
 use Rattle.std.proofs.lemmas.List.Quantifiers.{position-Some}
-use Rattle.std.specs.List.{range_with_len, flat_map}
-use Rattle.std.specs.Option.{option_or}
-use Rattle.std.specs.Ordering.{int_eq}
-use Rattle.std.specs.Prelude.{Option, Some, None, Result, Ok, Err, All, IsTrue, is_some, position, nat_le, nat_lt, ◌&&◌, if◌then◌else◌}
-use Rattle.mu_num.proofs.Tests.{if_cases}
-use Rattle.mu_num.specs.Sizes.{exceeds}
+use Rattle.std.specs.Prelude.{IsTrue, nat_le}
 use Rattle.qss_machine.proofs.Near.{or_known}
-use Rattle.qss_machine.specs.declared.machine_parts.Action.{Action}
 use Rattle.qss_machine.specs.declared.machine_parts.Action.TheVariants.{Set, Reinit}
-use Rattle.qss_machine.specs.declared.machine_parts.BranchInfo.{BranchInfo}
-use Rattle.qss_machine.specs.declared.machine_parts.ClauseInfo.{ClauseInfo}
 use Rattle.qss_machine.specs.declared.machine_parts.DiscreteInfo.{DiscreteInfo}
-use Rattle.qss_machine.specs.declared.machine_parts.SlopeRow.{SlopeRow}
-use Rattle.qss_machine.specs.declared.machine_parts.StateInfo.{StateInfo}
-use Rattle.qss_machine.specs.declared.machine_parts.Row.{Row}
-use Rattle.qss_machine.specs.declared.machine_parts.RowKind.{RowKind}
-use Rattle.qss_machine.specs.declared.machine_parts.RowKind.TheVariants as kind
-use Rattle.qss_machine.specs.declared.compiled_machine.Machine.{Machine}
-use Rattle.mu_num.specs.IndexedSums.{int_at, tabulate, first_exceeding}
-use Rattle.qss_machine.specs.MachineLimits.{has_target, IsAction, IsBranch, IsClause}
-use Rattle.qss_machine.specs.Machines.{state_count, discrete_count, level_unit, slope_at}
-use Rattle.qss_machine.specs.Handlers.{HandlerState, firing_flags, truths, assigned_value, assign, run_action, fire_row, run_first_due, run_clauses}
-use Rattle.qss_machine.specs.Ticks.{Snapshot, start_snapshot, moved_states, handlers_at, is_within_quantum, exceeds_row_limits, snapshot_unless, finish_tick, next_levels, step}
-use Rattle.qss_machine.specs.Runs.{Run, run_with, run_from, run_by, state_rows, discrete_rows, snapshot_rows, level_rows, tick_rows, rows_after, run_rows}
-use Rattle.qss_events.specs.EventFreeTicks.{rows_from}
+use Rattle.qss_machine.specs.MachineLimits.{has_target}
+use Rattle.qss_machine.specs.Runs.{run_by, state_rows, discrete_rows}
 use Rattle.qss_events.proofs.EndRows.{state_row, discrete_row}
 use Rattle.qss_events.proofs.LevelRows.{level_row}
-use Rattle.qss_rows.specs.RowTexts.{HasVariable}
+use Rattle.qss_machine.specs.declared.machine_parts.RowKind.TheVariants as kind
 
 abbrev pub count : Machine → ℕ
 count m = state_count m + discrete_count m

@@ -1,11 +1,8 @@
 -- Rows of levels, one state after another.
-use Rattle.std.proofs.Common.{◌≡◌, ℕ, zero, suc, ◌+◌, List, [], ◌∷◌, ◌++◌, ℤ, ◌∙◌, ap, arith}
-use Rattle.std.specs.List.{range_with_len}
-use Rattle.std.specs.Ordering.{int_eq}
-use Rattle.std.specs.Prelude.{if◌then◌else◌}
-use Rattle.qss_machine.specs.declared.machine_parts.Row.{Row}
+use Rattle.qss_events.proofs.Common
+use Common.{[], ℕ, ℤ, ◌++◌, ◌+◌, ◌∙◌, ◌∷◌, ◌≡◌, ap, arith, if◌then◌else◌, int_at, int_eq, List}
+use Common.{range_with_len, Row, suc, zero}
 use Rattle.qss_machine.specs.declared.machine_parts.RowKind.TheVariants as kind
-use Rattle.mu_num.specs.IndexedSums.{int_at}
 
 -- the row of a state that takes a level, where it is another one
 abbrev pub row_of : ℕ → ℕ → ℤ → ℤ → ℤ → List Row

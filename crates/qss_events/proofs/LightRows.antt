@@ -1,14 +1,9 @@
 -- Rows within their limits.
-use Rattle.std.proofs.Common.{◌≡◌, ℕ, ◌<◌, Bool, true, false, not, List, ℤ, length, refl, arith}
-use Rattle.std.proofs.lemmas.Int.{ints}
-use Rattle.std.specs.Prelude.{◌||◌, None, position}
-use Rattle.mu_num.specs.Sizes.{IsWithin}
-use Rattle.mu_num.proofs.SizeTests.{passes-within}
-use Rattle.qss_machine.specs.declared.compiled_machine.Machine.{Machine}
-use Rattle.qss_machine.specs.Slopes.{mode_fits, weight_of}
-use Rattle.qss_machine.specs.Machines.{state_count, row_at, slope_at, weight_at}
-use Rattle.qss_machine.specs.Ticks.{exceeds_row_limits}
-use Rattle.qss_events.specs.Schedules.{no_row}
+use Rattle.qss_events.proofs.Common
+use Common.{ℕ, ℤ, ◌<◌, ◌||◌, ◌≡◌, arith, Bool, exceeds_row_limits, false, ints, IsWithin, length}
+use Common.{List, Machine, mode_fits, no_row, None, not, passes-within, position, refl, row_at}
+use Common.{slope_at, state_count, true, weight_of}
+use Rattle.qss_machine.specs.Machines.{weight_at}
 use Rattle.qss_machine.proofs.WeightLaws.{slope-within_weight}
 use Rattle.qss_events.proofs.Ranges.{none_passes}
 

@@ -1,23 +1,19 @@
 -- Forms are affine along lines.
-use Rattle.std.proofs.Common.{◌≡◌, ℕ, ◌+◌, ◌-◌, ◌*◌, ◌^◌, ◌≤◌, ◌<◌, List, [], ◌∷◌, ◌++◌, length, map, ℤ, pos, ◌+ℤ◌, ◌*ℤ◌, sym, ◌∙◌, ap, arith, inl, inr}
-use Rattle.std.proofs.Math.IntN.{*ℤ_comm, *ℤ-zero, zero-*ℤ, pos-*ℤ-pos}
-use Rattle.std.proofs.lemmas.Int.{ints}
-use Rattle.std.proofs.lemmas.Bool.{cases_lt}
+use Rattle.qss_events.proofs.Common
+use Common.{[], ℕ, ℤ, ◌*ℤ◌, ◌*◌, ◌++◌, ◌+ℤ◌, ◌+◌, ◌-◌, ◌<◌, ◌^◌, ◌∙◌, ◌∷◌, ◌≡◌, ◌≤◌, ap, arith}
+use Common.{cases_lt, inl, inr, int_at, int_at-tabulate, ints, length, length-map-range_with_len}
+use Common.{level_unit, List, Machine, map, pos, slope_at, Snapshot, state_at, state_count}
+use Common.{states_after, sym, tabulate, value_of, zero-*ℤ}
+use Rattle.std.proofs.Math.IntN.{*ℤ_comm, *ℤ-zero, pos-*ℤ-pos}
 use Rattle.std.proofs.lemmas.List.{get_or_past, get_or_append_left, get_or-append_right}
-use Rattle.std.proofs.lemmas.List.FromFn.{length-map-range_with_len}
 use Rattle.mu_num.proofs.Integers.{mul-add, mul_assoc}
 use Rattle.qss_machine.specs.declared.machine_parts.Entry.{Entry}
 use Rattle.qss_machine.specs.declared.machine_parts.Form.{Form}
-use Rattle.qss_machine.specs.declared.compiled_machine.Machine.{Machine}
-use Rattle.mu_num.specs.IndexedSums.{int_at, tabulate, sum_over}
+use Rattle.mu_num.specs.IndexedSums.{sum_over}
 use Rattle.qss_machine.specs.Slopes.{weighted_sum}
-use Rattle.qss_machine.specs.Machines.{state_count, level_unit, slope_at, value_of, speed_of, inputs}
-use Rattle.qss_machine.specs.Ticks.{Snapshot}
+use Rattle.qss_machine.specs.Machines.{speed_of, inputs}
 use Rattle.qss_machine.proofs.SumLaws.{weighted_sum-entries}
-use Rattle.qss_quant.specs.IntegratorLines.{state_at}
-use Rattle.qss_events.specs.EventFreeTicks.{states_after}
 use Rattle.qss_events.specs.Schedules.{slopes_of}
-use Rattle.mu_num.proofs.Tables.{int_at-tabulate}
 
 -- a line at its own tick
 pub line_here : (tick : ℕ) (x slope level : ℤ) → state_at (record { tick = tick; x = x; slope = slope; level = level }) tick ≡ x

@@ -1,22 +1,13 @@
 -- Under a rule with a name the rows of a call are the first of those that were to come.
-use Rattle.std.proofs.Common.{◌≡◌, ℕ, ◌+◌, ◌-◌, ◌≤◌, List, [], ◌∷◌, ◌++◌, length, ℤ, pos, sym, ◌∙◌, ap, arith, append-nil}
-use Rattle.std.specs.Prelude.{Option, Some, None, Ok, Err}
-use Rattle.qss_machine.specs.declared.machine_parts.Row.{Row}
-use Rattle.qss_machine.specs.declared.machine_parts.RowKind.TheVariants as kind
-use Rattle.qss_machine.specs.declared.compiled_machine.Machine.{Machine}
-use Rattle.qss_machine.specs.Ticks.{Snapshot, IsStep, step}
-use Rattle.qss_machine.specs.Runs.{last_snapshot, tick_rows, snapshot_rows}
-use Rattle.qss_quant.specs.declared.quantizer.Rule.{Rule}
-use Rattle.qss_quant.specs.LevelRules.{level_by}
-use Rattle.qss_events.specs.declared.event_outcome.Outcome.{Outcome}
-use Rattle.qss_events.specs.declared.event_outcome.Outcome.TheVariants.{Events, Done, Over}
-use Rattle.qss_events.specs.AllowedLevels.{IsAllowedLevel}
-use Rattle.qss_events.specs.EventFreeTicks.{rows_from}
-use Rattle.qss_events.specs.RunViews.{RunView}
-use Rattle.qss_events.specs.EventFreeRuns.{IsEventFreeExecution}
-use Rattle.qss_events.specs.Events.{IsNext, unless_ended, rows_left}
+use Rattle.qss_events.proofs.Common
+use Common.{[], ℕ, ℤ, ◌++◌, ◌+◌, ◌-◌, ◌∙◌, ◌∷◌, ◌≡◌, ◌≤◌, ap, arith, Done, Err, Events}
+use Common.{IsAllowedLevel, IsEventFreeExecution, IsNext, IsStep, last_snapshot, length, level_by}
+use Common.{List, Machine, None, Ok, Option, Outcome, Over, pos, Row, rows_from, rows_left, Rule}
+use Common.{RunView, Snapshot, snapshot_rows, Some, step, sym, tick_rows, unless_ended}
+use Rattle.std.proofs.Common.{append-nil}
 use Rattle.qss_events.proofs.Silences.{silent_rows, named_step}
 use Rattle.qss_events.proofs.Skipped.{rows_of_visits}
+use Rattle.qss_machine.specs.declared.machine_parts.RowKind.TheVariants as kind
 
 abbrev pub at : Machine → ℕ → Snapshot → List Row → Option Outcome → RunView
 at m tick w rows end = record { machine = m; tick = tick; snapshot = w; rows = rows; end = end }

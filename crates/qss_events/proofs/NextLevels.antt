@@ -1,17 +1,11 @@
 -- The tick at which a line leaves the quantum of its level, and the next level.
-use Rattle.std.proofs.Common.{◌≡◌, ℕ, zero, suc, ◌+◌, ◌<◌, ◌^◌, Bool, true, false, ℤ, pos, negsuc, ◌*ℤ◌, ◌≤ℤ◌, refl, sym, ◌∙◌, ap, subst, arith}
-use Rattle.std.proofs.lemmas.Int.{ints}
-use Rattle.std.specs.Prelude.{Option, MatchBool}
-use Rattle.mu_num.proofs.Tests.{int_lt-true, int_lt-false}
-use Rattle.mu_num.specs.Ticks.{FirstAfter}
-use Rattle.qss_machine.proofs.Near.{quantum_positive}
-use Rattle.qss_machine.specs.declared.compiled_machine.Machine.{Machine}
-use Rattle.qss_machine.specs.Machines.{state_count, level_unit, quantum_of}
-use Rattle.qss_machine.specs.Ticks.{is_within_quantum, IsNextLevel}
-use Rattle.qss_quant.specs.declared.quantizer.Rule.{Rule}
-use Rattle.qss_quant.specs.LevelRules.{IsAnswer}
-use Rattle.qss_quant.specs.IntegratorLines.{Line, state_at, IsLineWithinQuantum, IsAway}
-use Rattle.qss_events.specs.AllowedLevels.{IsAllowedLevel}
+use Rattle.qss_events.proofs.Common
+use Common.{ℕ, ℤ, ◌*ℤ◌, ◌+◌, ◌<◌, ◌^◌, ◌∙◌, ◌≡◌, ◌≤ℤ◌, ap, arith, Bool, false, FirstAfter}
+use Common.{int_lt-false, int_lt-true, ints, is_within_quantum, IsAllowedLevel, IsAnswer, IsAway}
+use Common.{IsLineWithinQuantum, IsNextLevel, level_unit, Line, Machine, MatchBool, Option, pos}
+use Common.{quantum_of, quantum_positive, refl, Rule, state_at, state_count, subst, suc, sym, true}
+use Common.{zero}
+use Rattle.std.proofs.Common.{negsuc}
 use Rattle.qss_events.specs.Schedules.{IsDue}
 
 -- the tick that was found for a line from its tick on

@@ -1,10 +1,8 @@
 -- One step of a simulator, up to its next event step.
-use Rattle.std.proofs.Common.{◌≡◌, ◌≢◌, ℕ, zero, suc, ◌+◌, ◌-◌, ◌≤◌, ◌<◌, ◌∙◌, ap, subst, arith}
-use Rattle.std.specs.Prelude.{Option, Some}
-use Rattle.mu_num.specs.IndexedSums.{int_at}
-use Rattle.mu_num.specs.Limits.{tick_limit}
-use Rattle.qss_events.specs.EventFreeTicks.{states_after, rows_from}
-use Rattle.qss_events.specs.Schedules.{IsScheduleOf, HasNoEventUpTo, GoesToNextVisit, OnlyDueStatesPass}
+use Rattle.qss_events.proofs.Common
+use Common.{ℕ, ◌+◌, ◌-◌, ◌<◌, ◌∙◌, ◌≡◌, ◌≢◌, ◌≤◌, ap, arith, HasNoEventUpTo, int_at, IsScheduleOf}
+use Common.{Option, rows_from, Some, states_after, subst, suc, tick_limit, zero}
+use Rattle.qss_events.specs.Schedules.{GoesToNextVisit, OnlyDueStatesPass}
 use Rattle.qss_events.proofs.Ranges.{near_small}
 use Rattle.qss_events.proofs.Skipped.{skip}
 use Rattle.qss_events.proofs.Silence.{silence, stands_still, still_near}

@@ -1,9 +1,7 @@
 -- Whether a variable exceeds its limit.
-use Rattle.std.proofs.Common.{◌≡◌, ℕ, true, false, List, get_or, ℤ, All, refl}
-use Rattle.std.specs.Prelude.{Option, Some, None, is_some}
-use Rattle.mu_num.specs.Sizes.{IsWithin, exceeds}
-use Rattle.mu_num.proofs.SizeTests.{passes-within}
-use Rattle.mu_num.specs.IndexedSums.{first_exceeding}
+use Rattle.qss_events.proofs.Common
+use Common.{ℕ, ℤ, ◌≡◌, All, exceeds, false, first_exceeding, get_or, is_some, IsWithin, List, None}
+use Common.{Option, passes-within, refl, Some, true}
 use Rattle.qss_events.proofs.Ranges.{none_passes}
 
 -- no number passes

@@ -1,22 +1,14 @@
 -- A tick at which no event occurs.
-use Rattle.std.proofs.Common.{◌≡◌, ℕ, zero, suc, ◌+◌, ◌<◌, Bool, true, false, List, [], ◌∷◌, length, take, drop, ℤ, pos, ◌+ℤ◌, ◌*ℤ◌, refl, sym, ◌∙◌, ap, subst, arith}
-use Rattle.std.proofs.lemmas.List.FromFn.{length-map-range_with_len}
-use Rattle.std.specs.List.{list_any}
-use Rattle.std.specs.Prelude.{Option, None, Ok, if◌then◌else◌, position, is_some}
-use Rattle.mu_num.proofs.Integers.{one-mul}
-use Rattle.qss_machine.specs.declared.machine_parts.BranchInfo.{BranchInfo}
-use Rattle.qss_machine.specs.declared.machine_parts.ClauseInfo.{ClauseInfo}
-use Rattle.qss_machine.specs.declared.compiled_machine.Machine.{Machine}
-use Rattle.mu_num.specs.Sizes.{exceeds}
-use Rattle.mu_num.proofs.SizeTests.{within-passes}
-use Rattle.mu_num.specs.IndexedSums.{int_at, first_exceeding}
-use Rattle.qss_machine.specs.Machines.{state_count, slope_at}
-use Rattle.qss_machine.specs.Handlers.{HandlerState, truths, firing_flags, run_first_due, run_clauses}
-use Rattle.qss_machine.specs.Ticks.{Snapshot, handlers_at, moved_states, is_within_quantum, exceeds_row_limits, next_levels, snapshot_unless, finish_tick, step}
-use Rattle.std.specs.Option.{option_or}
+use Rattle.qss_events.proofs.Common
+use Common.{[], ℕ, ℤ, ◌*ℤ◌, ◌+ℤ◌, ◌+◌, ◌<◌, ◌∙◌, ◌∷◌, ◌≡◌, ap, arith, Bool, BranchInfo, ClauseInfo}
+use Common.{drop, exceeds, exceeds_row_limits, false, finish_tick, firing_flags, first_exceeding}
+use Common.{handlers_at, HandlerState, if◌then◌else◌, int_at, is_some, is_within_quantum}
+use Common.{IsEventFree, length, length-map-range_with_len, List, list_any, Machine, MayFollowTick}
+use Common.{moved_states, next_levels, None, NoneRises, Ok, one-mul, Option, option_or, pos}
+use Common.{position, refl, run_clauses, run_first_due, slope_at, Snapshot, snapshot_after}
+use Common.{snapshot_unless, state_count, states_after, step, subst, suc, sym, tabulate-int_at}
+use Common.{tabulate-same, take, true, truths, within-passes, zero}
 use Rattle.qss_events.proofs.Ranges.{position-none, near_small}
-use Rattle.qss_events.specs.EventFreeTicks.{states_after, snapshot_after, NoneRises, IsEventFree, MayFollowTick}
-use Rattle.mu_num.proofs.Tables.{tabulate-same, tabulate-int_at}
 
 -- no flag is set
 abbrev NoneSet : List Bool → Type 0

@@ -1,22 +1,17 @@
 -- A state near its level exceeds no limit.
-use Rattle.std.proofs.Common.{◌≡◌, ℕ, suc, ◌+◌, ◌*◌, ◌/◌, ◌^◌, ◌≤◌, ◌<◌, Bool, true, false, List, [], ◌∷◌, length, get_or, ℤ, pos, ◌-ℤ◌, ◌*ℤ◌, ◌≤ℤ◌, ◌<ℤ◌, cond, refl, sym, ◌∙◌, ap, arith, nat_lt, lit<}
-use Rattle.std.proofs.lemmas.Int.{ints, clamps, unsigned_abs-mul}
-use Rattle.std.proofs.lemmas.Bool.Decides.{nat_tests}
-use Rattle.std.proofs.lemmas.List.{get_or-map}
+use Rattle.qss_events.proofs.Common
+use Common.{[], ℕ, ℤ, ◌*ℤ◌, ◌*◌, ◌+◌, ◌-ℤ◌, ◌<ℤ◌, ◌<◌, ◌^◌, ◌∙◌, ◌∷◌, ◌≡◌, ◌≤ℤ◌, ◌≤◌, ap, arith}
+use Common.{Bool, cond, false, get_or, get_or-map, int_at, int_lt-true, ints, is_within_quantum}
+use Common.{IsPositiveWithin, IsWithin, length, List, Machine, nat_lt, nat_tests, None, not, pos}
+use Common.{quantum_of, quantum_positive, refl, Some, state_count, StateInfo, suc, sym, true}
+use Common.{unsigned_abs}
+use Rattle.std.proofs.Common.{◌/◌, lit<}
+use Rattle.std.proofs.lemmas.Int.{clamps, unsigned_abs-mul}
 use Rattle.std.proofs.lemmas.Nat.{mul-le}
 use Rattle.std.proofs.Math.Nat.{pow-le-pow_right}
 use Rattle.std.proofs.lemmas.List.Sums.{fails_before_first}
 use Rattle.std.specs.List.{position, position_or_len, prefix_len}
-use Rattle.std.specs.Int.RustNames.{unsigned_abs}
-use Rattle.std.specs.Prelude.{Some, None, not}
-use Rattle.mu_num.proofs.Tests.{int_lt-true}
-use Rattle.mu_num.specs.Sizes.{IsPositiveWithin, IsWithin}
-use Rattle.qss_machine.proofs.Near.{quantum_positive}
-use Rattle.qss_machine.specs.declared.machine_parts.StateInfo.{StateInfo}
-use Rattle.qss_machine.specs.declared.compiled_machine.Machine.{Machine}
-use Rattle.mu_num.specs.IndexedSums.{int_at}
-use Rattle.qss_machine.specs.Machines.{state_count, quanta, quantum_of}
-use Rattle.qss_machine.specs.Ticks.{is_within_quantum}
+use Rattle.qss_machine.specs.Machines.{quanta}
 
 -- where no element passes a test, there is no first one that does
 full_prefix : {X : Type 0} (d : X) (p : X → Bool) (xs : List X) → ((j : ℕ) → j < length xs → p (get_or xs j d) ≡ false) →

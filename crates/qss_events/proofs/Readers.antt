@@ -1,12 +1,8 @@
 -- The rows and the conditions that read a variable, by their numbers.
-use Rattle.std.proofs.Common.{◌≡◌, ℕ, ◌+◌, ◌<◌, [], length, pos, sym, ◌∙◌, ap, arith}
-use Rattle.qss_machine.specs.declared.machine_parts.Condition.{Condition}
-use Rattle.qss_machine.specs.declared.machine_parts.Rel.TheVariants.{Less}
-use Rattle.qss_machine.specs.declared.compiled_machine.Machine.{Machine}
-use Rattle.qss_machine.specs.Handlers.{conditions}
+use Rattle.qss_events.proofs.Common
+use Common.{[], ℕ, ◌+◌, ◌<◌, ◌∙◌, ◌≡◌, ap, AreRisingBelow, arith, Condition, condition_at}
+use Common.{conditions, is_listed, length, Less, Machine, pos, sym}
 use Rattle.qss_machine.specs.Readers.{condition_reads, reading_conditions}
-use Rattle.mu_num.specs.ListedPlaces.{is_listed, AreRisingBelow}
-use Rattle.qss_events.specs.Schedules.{condition_at}
 use Rattle.qss_machine.proofs.Among.{place_among}
 use Rattle.qss_machine.proofs.KeptReaders.{places_rise, places_below}
 

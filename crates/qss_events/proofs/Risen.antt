@@ -1,10 +1,8 @@
 -- Conditions that became true during the handlers.
-use Rattle.std.proofs.Common.{◌≡◌, ℕ, zero, suc, ◌<◌, Bool, true, false, ◌||◌, List, [], ◌∷◌, length, refl, sym, ◌∙◌, ap, inl, inr, arith}
-use Rattle.std.proofs.lemmas.Bool.{cases_Bool, or_parts}
-use Rattle.std.specs.List.{list_any}
-use Rattle.std.specs.Prelude.{not, ◌&&◌}
-use Rattle.qss_machine.specs.Handlers.{firing_flags}
-use Rattle.qss_events.specs.Schedules.{became_true}
+use Rattle.qss_events.proofs.Common
+use Common.{[], ℕ, ◌&&◌, ◌<◌, ◌||◌, ◌∙◌, ◌∷◌, ◌≡◌, ap, arith, became_true, Bool, cases_Bool, false}
+use Common.{firing_flags, inl, inr, length, List, list_any, not, refl, suc, sym, true, zero}
+use Rattle.std.proofs.lemmas.Bool.{or_parts}
 
 due_then : (at_arrival after_handlers : Bool) → (after_handlers && not at_arrival) ≡ false → (after_handlers && not (at_arrival && after_handlers)) ≡ false
 due_then true true e = refl

@@ -1,33 +1,25 @@
 -- A call of a first-order simulator, and a run from its start.
-use Rattle.std.proofs.Common.{Bool, ◌≡◌, ℕ, ◌<◌, ◌+◌, List, [], ◌++◌, length, get_or, pos, refl, sym, ap, ◌∙◌, subst, arith, inl, inr}
-use Rattle.std.specs.Prelude.{Option, All}
-use Rattle.std.proofs.lemmas.List.Elements.{All-head}
-use Rattle.qss_machine.specs.declared.machine_parts.Row.{Row}
-use Rattle.qss_machine.specs.declared.machine_parts.RowKind.TheVariants as kind
-use Rattle.qss_machine.specs.declared.compiled_machine.Machine.{Machine}
-use Rattle.qss_machine.specs.Machines.{state_count, discrete_count}
-use Rattle.qss_machine.specs.Runs.{run_rows}
-use Rattle.qss_quant.specs.declared.quantizer.Rule.{Rule}
-use Rattle.qss_quant.specs.LevelRules.{level_by}
-use Rattle.qss_rows.specs.Filters.{passes}
-use Rattle.qss_rows.specs.RowTexts.{HasVariable, line_of, header}
-use Rattle.qss_events.specs.declared.event_outcome.Outcome.{Outcome}
-use Rattle.qss_events.specs.declared.event_outcome.Outcome.TheVariants.{Events, Over}
-use Rattle.qss_events.specs.Events.{rows_left}
-use Rattle.qss_events.specs.RunViews.{RunView}
+use Rattle.qss_events.proofs.Common
+use Common.{[], ℕ, ◌++◌, ◌+◌, ◌<◌, ◌∙◌, ◌≡◌, All, All-head, ap, arith, Bool, discrete_count}
+use Common.{EndsFrom, Events, first_view, get_or, HasVariable, inl, inr, length, level_by, line_of}
+use Common.{List, Machine, Option, Outcome, Over, passes, pos, refl, remaining_rows, remaining_run}
+use Common.{Row, row_lines, rows_left, Rule, run_by_rule, run_rows, RunView, state_count, subst}
+use Common.{sym, text_in}
+use Rattle.qss_rows.specs.RowTexts.{header}
 use Rattle.qss_rows.specs.declared.simulation_rows.RunResult.{RunResult}
-use Rattle.qss_rows.specs.declared.simulation_rows.RunResult.TheVariants as played
 use Rattle.qss_rows.specs.declared.simulation_rows.RunEnd.{RunEnd}
-use Rattle.qss_rows.specs.declared.simulation_rows.RunEnd.TheVariants as end
-use Rattle.qss_events.specs.RemainingRows.{first_view, row_lines, remaining_rows, remaining_run, outcome_of, EndsFrom}
-use Rattle.qss_events.specs.RunTexts.{run_by_rule, run_text, IsRunResult, IsRunCutShort, IsRunWritten}
-use Rattle.qss_rows.specs.Simulations.{text_in, HasResult, IsCutAtLine, IsSimulated}
+use Rattle.qss_events.specs.RemainingRows.{outcome_of}
+use Rattle.qss_events.specs.RunTexts.{run_text, IsRunResult, IsRunCutShort, IsRunWritten}
+use Rattle.qss_rows.specs.Simulations.{HasResult, IsCutAtLine, IsSimulated}
 use Rattle.qss_rows.proofs.WrittenLines.{writes_none}
 use Rattle.qss_events.proofs.FromStart.{rows_are, run_is}
 use Rattle.qss_rows.proofs.KnownParts.{all_front, all_back}
 use Rattle.qss_rows.proofs.RowLines.{lines_by-append, length-by}
 use Rattle.qss_events.proofs.RunLines.{row_text, stops_before}
 use Rattle.qss_events.proofs.RunEnds.{IsCall, same_end, event_end}
+use Rattle.qss_machine.specs.declared.machine_parts.RowKind.TheVariants as kind
+use Rattle.qss_rows.specs.declared.simulation_rows.RunResult.TheVariants as played
+use Rattle.qss_rows.specs.declared.simulation_rows.RunEnd.TheVariants as end
 
 module _ (rule : Rule) (now new : RunView) (same : new.machine ≡ now.machine) (ahead : rows_left (level_by rule) now ≡ remaining_rows rule new) where
   -- the rows to come are of variables of the machine

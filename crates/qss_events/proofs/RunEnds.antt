@@ -1,20 +1,11 @@
 -- How a run ends, from a later tick on.
-use Rattle.std.proofs.Common.{◌≡◌, ℕ, suc, ◌+◌, ◌-◌, ◌<◌, List, [], ◌∷◌, length, sym, ap, ◌∙◌, subst, arith}
-use Rattle.std.specs.Prelude.{Option, Some, None, Result, Ok, Err}
-use Rattle.qss_machine.specs.declared.compiled_machine.Machine.{Machine}
-use Rattle.qss_machine.specs.Ticks.{Snapshot, step}
-use Rattle.qss_machine.specs.Runs.{Run, run_with, run_from, last_snapshot}
-use Rattle.qss_quant.specs.declared.quantizer.Rule.{Rule}
-use Rattle.qss_quant.specs.LevelRules.{level_by}
-use Rattle.qss_events.specs.declared.event_outcome.Outcome.{Outcome}
-use Rattle.qss_events.specs.declared.event_outcome.Outcome.TheVariants.{Events, Done, Over}
-use Rattle.qss_events.specs.EventFreeRuns.{IsEventFreeExecution}
-use Rattle.qss_events.specs.Events.{IsNext, unless_ended, rows_left}
-use Rattle.qss_events.specs.AllowedLevels.{IsAllowedLevel}
-use Rattle.qss_events.specs.EventFreeTicks.{rows_from}
-use Rattle.qss_events.specs.RunViews.{RunView}
+use Rattle.qss_events.proofs.Common
+use Common.{[], ℕ, ◌+◌, ◌-◌, ◌<◌, ◌∙◌, ◌∷◌, ◌≡◌, ap, arith, Done, EndsFrom, Err, Events}
+use Common.{IsAllowedLevel, IsEventFreeExecution, IsNext, last_snapshot, length, level_by, List}
+use Common.{Machine, None, Ok, Option, Outcome, Over, remaining_run, Result, rows_from, rows_left}
+use Common.{Rule, Run, run_from, run_with, RunView, Snapshot, Some, step, subst, suc, sym}
+use Common.{unless_ended}
 use Rattle.qss_events.proofs.Silences.{named_step}
-use Rattle.qss_events.specs.RemainingRows.{remaining_run, EndsFrom}
 
 -- the last tick of a run's snapshots, and the variable that then overflowed
 abbrev pub end_of : ℕ → Run → ℕ × Option ℕ

@@ -1,13 +1,10 @@
 -- The text of the rows of a run, and where it stops.
-use Rattle.std.proofs.Common.{◌≡◌, ℕ, List, ◌++◌, sym, ap, ◌∙◌, subst}
-use Rattle.std.specs.Prelude.{Option}
+use Rattle.qss_events.proofs.Common
+use Common.{ℕ, ◌++◌, ◌∙◌, ◌≡◌, ap, line_of, List, Machine, Option, passes, Row, row_lines, subst}
+use Common.{sym, text_in}
 use Rattle.std.specs.Io.KnownBytes.{Appends}
-use Rattle.qss_machine.specs.declared.machine_parts.Row.{Row}
-use Rattle.qss_machine.specs.declared.compiled_machine.Machine.{Machine}
-use Rattle.qss_rows.specs.Filters.{passes, lines_passed}
-use Rattle.qss_rows.specs.RowTexts.{line_of}
-use Rattle.qss_events.specs.RemainingRows.{row_lines}
-use Rattle.qss_rows.specs.Simulations.{text_in, StopsAtLine}
+use Rattle.qss_rows.specs.Filters.{lines_passed}
+use Rattle.qss_rows.specs.Simulations.{StopsAtLine}
 use Rattle.qss_rows.specs.Writes.{StopsBefore}
 use Rattle.qss_rows.proofs.RowLines.{text_by, split}
 

@@ -1,25 +1,17 @@
 -- A row that reads no changed level and no changed discrete value has the same slope, and the same
 -- absolute row sum.
-use Rattle.std.proofs.Common.{◌≡◌, ℕ, suc, ◌+◌, ◌-◌, ◌^◌, ◌<◌, ◌≤◌, Bool, true, false, not, ◌&&◌, List, [], ◌∷◌, length, get_or, ℤ, pos, ◌+ℤ◌, ◌*ℤ◌, refl, sym, ◌∙◌, ap, arith, inl, inr, ◌==◌}
-use Rattle.std.proofs.Math.IntN.{zero-*ℤ}
-use Rattle.std.proofs.lemmas.Bool.{or_left, or_right, and_cases, cases_Bool, false_from_ne_true, lt-ltb}
-use Rattle.std.proofs.lemmas.Bool.Decides.{Decides-int_eq, nat_tests}
+use Rattle.qss_events.proofs.Common
+use Common.{[], ℕ, ℤ, ◌&&◌, ◌*ℤ◌, ◌+ℤ◌, ◌+◌, ◌-◌, ◌<◌, ◌==◌, ◌^◌, ◌||◌, ◌∙◌, ◌∷◌, ◌≡◌, ◌≤◌, abs_of}
+use Common.{All, ap, arith, Bool, cases_Bool, coefficient_of, Decides-int_eq, discrete_count, false}
+use Common.{get_or, if◌then◌else◌, inl, inr, int_at, int_eq, length, List, list_any, Machine}
+use Common.{mode_coefficient, nat_lt, nat_tests, nearest_of, not, pos, Product, products_of}
+use Common.{range_with_len, refl, row_at, slope_at, slope_of, SlopeRow, Snapshot, state_count, suc}
+use Common.{sum_below, sum_below-same, sym, true, weight_of, zero-*ℤ}
+use Rattle.std.proofs.lemmas.Bool.{or_left, or_right, and_cases, false_from_ne_true, lt-ltb}
 use Rattle.std.proofs.lemmas.List.Folds.{list_any_at}
 use Rattle.std.proofs.lemmas.List.FromFn.{length-range_with_len, get_or-range_with_len}
-use Rattle.std.specs.List.{list_any, range_with_len}
-use Rattle.std.specs.Ordering.{int_eq}
-use Rattle.std.specs.Prelude.{◌||◌, All, nat_lt, if◌then◌else◌}
 use Rattle.mu_num.proofs.Tests.{if-true, if-false, eqb-yes}
-use Rattle.mu_num.specs.Rounding.{nearest_of}
-use Rattle.mu_num.proofs.Sums.{sum_below-same}
 use Rattle.qss_machine.specs.EventCounts.{has_changed, reads_change}
-use Rattle.qss_machine.specs.declared.machine_parts.Product.{Product}
-use Rattle.qss_machine.specs.declared.machine_parts.SlopeRow.{SlopeRow}
-use Rattle.qss_machine.specs.declared.compiled_machine.Machine.{Machine}
-use Rattle.qss_machine.specs.Machines.{state_count, discrete_count, row_at, slope_at}
-use Rattle.mu_num.specs.IndexedSums.{int_at, sum_below, abs_of}
-use Rattle.qss_machine.specs.Slopes.{coefficient_of, products_of, mode_coefficient, slope_of, weight_of}
-use Rattle.qss_machine.specs.Ticks.{Snapshot}
 use Rattle.qss_machine.specs.Readers.{has_entry, row_reads}
 use Rattle.qss_machine.proofs.Unread.{no_coefficient, unread_mode}
 

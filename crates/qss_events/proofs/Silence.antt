@@ -1,27 +1,17 @@
 -- Before the next due tick no event occurs.
-use Rattle.std.proofs.Common.{◌≡◌, ◌≢◌, ℕ, zero, suc, ◌+◌, ◌-◌, ◌≤◌, ◌<◌, Bool, true, false, [], length, ℤ, pos, ◌+ℤ◌, ◌*ℤ◌, ◌≤ℤ◌, refl, sym, ◌∙◌, ap, subst, arith}
-use Rattle.std.proofs.lemmas.Int.{ints}
-use Rattle.std.proofs.lemmas.List.{get_or-map, length-map}
-use Rattle.std.proofs.lemmas.List.FromFn.{fill_by_all, length-map-range_with_len}
+use Rattle.qss_events.proofs.Common
+use Common.{[], ℕ, ℤ, ◌*ℤ◌, ◌+ℤ◌, ◌+◌, ◌-◌, ◌<◌, ◌∙◌, ◌≡◌, ◌≢◌, ◌≤ℤ◌, ◌≤◌, ap, arith, Bool}
+use Common.{Condition, condition_at, conditions, false, fill_by_all, FirstAfter, flag_at}
+use Common.{get_or-map, HasNoEventUpTo, if◌then◌else◌, int_at, int_at-tabulate, int_lt-false, ints}
+use Common.{is_within_quantum, IsAway, IsEventFree, IsScheduleOf, length, length-map}
+use Common.{length-map-range_with_len, Less, level_unit, Line, Machine, None, NoneRises, Option}
+use Common.{pos, quantum_of, refl, slope_at, Snapshot, snapshot_after, Some, state_at, state_count}
+use Common.{states_after, subst, suc, sym, tick_limit, true, truth, truths, value_of, zero}
 use Rattle.std.specs.Int.RustNames.{int_lt}
-use Rattle.std.specs.Prelude.{Option, Some, None, if◌then◌else◌}
-use Rattle.mu_num.specs.Ticks.{FirstAfter}
 use Rattle.mu_num.proofs.Integers.{add-mul}
-use Rattle.mu_num.proofs.Tests.{int_lt-false}
-use Rattle.qss_machine.specs.declared.machine_parts.Condition.{Condition}
-use Rattle.qss_machine.specs.declared.machine_parts.Rel.TheVariants.{Less}
-use Rattle.qss_machine.specs.declared.compiled_machine.Machine.{Machine}
-use Rattle.mu_num.specs.IndexedSums.{int_at}
-use Rattle.qss_machine.specs.Machines.{state_count, level_unit, slope_at, quantum_of, value_of, compares, truth}
-use Rattle.qss_machine.specs.Handlers.{conditions, truths}
-use Rattle.mu_num.specs.ListedPlaces.{flag_at}
-use Rattle.qss_machine.specs.Ticks.{Snapshot, is_within_quantum}
-use Rattle.qss_quant.specs.IntegratorLines.{Line, state_at, IsAway}
+use Rattle.qss_machine.specs.Machines.{compares}
 use Rattle.qss_cross.specs.Crossing.{DetectorView, value_at, holds_at}
-use Rattle.qss_events.specs.EventFreeTicks.{states_after, snapshot_after, NoneRises, IsEventFree}
-use Rattle.qss_events.specs.Schedules.{condition_at, rises, IsScheduleOf, HasNoEventUpTo, NoEventBeforeDue, SchedulesHold}
-use Rattle.mu_num.proofs.Tables.{int_at-tabulate}
-use Rattle.mu_num.specs.Limits.{tick_limit}
+use Rattle.qss_events.specs.Schedules.{rises, NoEventBeforeDue, SchedulesHold}
 use Rattle.qss_events.proofs.Lines.{value_line}
 use Rattle.qss_events.proofs.Skipped.{settled_twice}
 

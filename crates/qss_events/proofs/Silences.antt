@@ -1,19 +1,12 @@
 -- Ticks without rows, one after another, under whichever rule.
-use Rattle.std.proofs.Common.{◌≡◌, ℕ, zero, suc, ◌+◌, ◌-◌, ◌<◌, ◌≤◌, Bool, true, false, List, [], ◌∷◌, ◌++◌, length, ℤ, refl, sym, ◌∙◌, ap, subst, arith}
-use Rattle.std.proofs.lemmas.Bool.Decides.{nat_tests}
-use Rattle.std.specs.Prelude.{Some, Ok, Result, MatchBool, nat_lt, if◌then◌else◌}
-use Rattle.qss_machine.specs.declared.machine_parts.Row.{Row}
-use Rattle.qss_machine.specs.declared.compiled_machine.Machine.{Machine}
-use Rattle.mu_num.specs.IndexedSums.{int_at}
-use Rattle.qss_machine.specs.Machines.{level_unit}
-use Rattle.qss_machine.specs.Ticks.{Snapshot, handlers_at, is_within_quantum, RuleOf, IsStep, step}
-use Rattle.qss_machine.specs.Runs.{last_snapshot}
+use Rattle.qss_events.proofs.Common
+use Common.{[], ℕ, ℤ, ◌++◌, ◌+◌, ◌-◌, ◌<◌, ◌∙◌, ◌∷◌, ◌≡◌, ◌≤◌, ap, AreEventFree, arith, Bool, false}
+use Common.{handlers_at, if◌then◌else◌, int_at, is_within_quantum, IsAllowedLevel, IsEventFree}
+use Common.{IsEventFreeExecution, IsStep, last_snapshot, length, level_by, level_unit, List}
+use Common.{Machine, MatchBool, MayFollowTick, nat_lt, nat_tests, NoneRises, Ok, refl, Result, Row}
+use Common.{rows_from, Rule, Snapshot, snapshot_after, Some, step, subst, suc, sym, true, zero}
+use Rattle.qss_machine.specs.Ticks.{RuleOf}
 use Rattle.qss_machine.proofs.OneRun.{step_only}
-use Rattle.qss_quant.specs.declared.quantizer.Rule.{Rule}
-use Rattle.qss_quant.specs.LevelRules.{level_by}
-use Rattle.qss_events.specs.AllowedLevels.{IsAllowedLevel}
-use Rattle.qss_events.specs.EventFreeTicks.{snapshot_after, NoneRises, IsEventFree, MayFollowTick, rows_from}
-use Rattle.qss_events.specs.EventFreeRuns.{IsEventFreeExecution, AreEventFree}
 use Rattle.qss_events.proofs.Forced.{allowed}
 use Rattle.qss_events.proofs.Skipped.{settled_twice, quiet_more, world_more, quiet_rows, rows_step}
 

@@ -1,21 +1,15 @@
 -- Event-free ticks, one after another.
-use Rattle.std.proofs.Common.{◌≡◌, ℕ, zero, suc, ◌+◌, Bool, true, false, List, [], ◌∷◌, ◌++◌, length, ℤ, pos, ◌+ℤ◌, ◌*ℤ◌, refl, sym, ◌∙◌, ap, subst, arith, add-one}
+use Rattle.qss_events.proofs.Common
+use Common.{[], ℕ, ℤ, ◌*ℤ◌, ◌++◌, ◌+ℤ◌, ◌+◌, ◌∙◌, ◌∷◌, ◌≡◌, ap, arith, Bool, Decides-int_eq, false}
+use Common.{firing_flags, flat_map, HandlerState, if◌then◌else◌, int_at, int_at-tabulate, int_eq}
+use Common.{ints, is_within_quantum, IsEventFree, length, level_rows, List, list_any, Machine}
+use Common.{MayFollowTick, NoneRises, Ok, one-mul, pos, range_with_len, refl, rows_after, rows_from}
+use Common.{run_from, run_with, slope_at, Snapshot, snapshot_after, state_count, states_after, step}
+use Common.{subst, suc, sym, tabulate-same, tick_rows, true, truths, zero}
+use Rattle.std.proofs.Common.{add-one}
 use Rattle.std.proofs.Math.IntN.{suc_ℤ-*ℤ}
-use Rattle.std.proofs.lemmas.Int.{ints}
-use Rattle.std.proofs.lemmas.Bool.Decides.{Decides-int_eq}
-use Rattle.std.specs.List.{list_any, range_with_len, flat_map}
-use Rattle.std.specs.Ordering.{int_eq}
-use Rattle.std.specs.Prelude.{Ok, if◌then◌else◌}
-use Rattle.mu_num.proofs.Integers.{one-mul}
-use Rattle.qss_machine.specs.declared.compiled_machine.Machine.{Machine}
-use Rattle.mu_num.specs.IndexedSums.{int_at}
-use Rattle.qss_machine.specs.Machines.{state_count, slope_at}
-use Rattle.qss_machine.specs.Handlers.{HandlerState, truths, firing_flags}
-use Rattle.qss_machine.specs.Ticks.{Snapshot, is_within_quantum, step}
-use Rattle.qss_machine.specs.Runs.{run_from, run_with, rows_after, tick_rows, level_rows}
-use Rattle.qss_events.specs.EventFreeTicks.{states_after, snapshot_after, NoneRises, IsEventFree, MayFollowTick, rows_from, SkippingIsSound, RowsOfVisits}
+use Rattle.qss_events.specs.EventFreeTicks.{SkippingIsSound, RowsOfVisits}
 use Rattle.qss_events.proofs.Quiet.{quiet_step, quiet_handling}
-use Rattle.mu_num.proofs.Tables.{tabulate-same, int_at-tabulate}
 
 -- a list of which nothing is taken
 flat_map-none : {X A : Type 0} (f : X → List A) (xs : List X) → ((x : X) → f x ≡ []) → flat_map f xs ≡ []

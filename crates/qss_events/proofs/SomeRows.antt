@@ -1,9 +1,9 @@
 -- Whether there are rows.
-use Rattle.std.proofs.Common.{◌≡◌, ◌≢◌, List, [], ◌∷◌, true, false, length, refl, sym, ◌∙◌, ap, arith}
+use Rattle.qss_events.proofs.Common
+use Common.{[], ◌==◌, ◌∙◌, ◌∷◌, ◌≡◌, ◌≢◌, ap, arith, eqb-false, false, length, List, refl, Row, sym}
+use Common.{true, vec_len}
 use Rattle.std.proofs.Common.{Vec, Global}
-use Rattle.std.specs.Prelude.{vec_len, ◌==◌}
-use Rattle.mu_num.proofs.Tests.{eqb-true, eqb-false}
-use Rattle.qss_machine.specs.declared.machine_parts.Row.{Row}
+use Rattle.mu_num.proofs.Tests.{eqb-true}
 
 pub some_rows : (v : Vec Row Global) → (vec_len v == 0) ≡ false → v.items ≢ []
 some_rows v e none =

@@ -1,17 +1,13 @@
 -- The values at the start are within the limits.
-use Rattle.std.proofs.Common.{◌≡◌, ℕ, ◌+◌, ◌≤◌, ◌<◌, Bool, true, false, List, [], ◌∷◌, ◌++◌, length, get_or, map, take, ℤ, pos, refl, sym, ◌∙◌, ap, subst, rules}
-use Rattle.std.proofs.lemmas.List.{length-map, take_more, take_all, map-append}
+use Rattle.qss_events.proofs.Common
+use Common.{[], ℕ, ℤ, ◌++◌, ◌+◌, ◌<◌, ◌||◌, ◌∙◌, ◌∷◌, ◌≡◌, ◌≤◌, All, ap, Bool, exceeds}
+use Common.{exceeds_row_limits, false, get_or, IsWithin, length, length-map, level_below}
+use Common.{level_unit, List, Machine, map, mode_fits, no_row, None, not, pos, position, refl}
+use Common.{state_count, StateInfo, subst, sym, take, true, weight_of, within-passes}
+use Rattle.std.proofs.Common.{rules}
+use Rattle.std.proofs.lemmas.List.{take_more, take_all, map-append}
 use Rattle.std.specs.Bool.{IsTrue}
-use Rattle.std.specs.Prelude.{None, All, not, position, ◌||◌}
-use Rattle.mu_num.specs.Sizes.{IsWithin, exceeds}
-use Rattle.mu_num.proofs.SizeTests.{within-passes}
-use Rattle.qss_machine.specs.declared.machine_parts.StateInfo.{StateInfo}
-use Rattle.qss_machine.specs.declared.compiled_machine.Machine.{Machine}
-use Rattle.qss_machine.specs.Slopes.{mode_fits, weight_of}
-use Rattle.mu_num.specs.Levels.{level_below}
-use Rattle.qss_machine.specs.Machines.{state_count, level_unit, start_states, start_discretes}
-use Rattle.qss_machine.specs.Ticks.{exceeds_row_limits}
-use Rattle.qss_events.specs.Schedules.{no_row}
+use Rattle.qss_machine.specs.Machines.{start_states, start_discretes}
 use Rattle.qss_events.proofs.Ranges.{position-none}
 use Rattle.mu_num.proofs.Tables.{map_twice}
 use Rattle.qss_machine.proofs.StartValues.{all_map}

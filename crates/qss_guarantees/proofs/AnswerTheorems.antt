@@ -1,13 +1,7 @@
 -- Accepted traces are the legitimate runs, and upgrades parse as the same certificate.
-use Rattle.std.proofs.Common.{◌≡◌, ℕ, inl, inr, List, pos, ap, sym, subst}
-use Rattle.cert_check.specs.CertificateLines.{lines}
-use Rattle.cert_check.specs.CertificateTexts.{IsTextOf}
-use Rattle.cert_check.specs.Written.{lines_text}
-use Rattle.cert_check.proofs.WrittenLines.{reads-back}
-use Rattle.qss_trace.specs.Trace.{IsRunOf}
-use Rattle.qss_trace.specs.declared.trace.Trace.{Trace}
-use Rattle.qss_answers.specs.Answers.{written}
-use Rattle.qss_answers.specs.TraceAnswers.{IsRead, IsChecked, summary}
+use Rattle.qss_guarantees.proofs.Common
+use Common.{ℕ, ◌≡◌, ap, inl, inr, IsChecked, IsRead, IsRunOf, IsTextOf, lines, lines_text, List}
+use Common.{pos, reads-back, subst, summary, sym, Trace, written}
 use Rattle.qss_answers.proofs.TraceEnds.{accepted_of, checked_run}
 use Rattle.qss_guarantees.specs.CertificateLaws.{UpgradesKeep}
 use Rattle.qss_guarantees.specs.TraceLaws.{RunsAreAccepted}

@@ -1,23 +1,16 @@
 -- The certificate of a comparison: bytes determine exactly one certificate, or one rejection.
-use Rattle.std.proofs.Common.{◌≡◌, ℕ, ◌⊎◌, inl, inr, Bool, true, false, List, [], ◌∷◌, ℤ, refl, sym}
-use Rattle.std.proofs.Common.{ap, ap₂, subst, ◌∙◌}
+use Rattle.qss_guarantees.proofs.Common
+use Common.{[], ℕ, ℤ, ◌∙◌, ◌∷◌, ◌≡◌, ◌⊎◌, accepted_text, ap, ap₂, Bool, bounds_text, Certificate}
+use Common.{ComparisonStop, false, inl, inr, int_eq, IsCertification, IsJudged}
+use Common.{IsUnusableCertificate, IsUsableCertificate, judged_texts, List, Machine, refl, Refusal}
+use Common.{refused, start_states, subst, sym, true, written}
 use Rattle.std.proofs.lemmas.Bool.Decides.{Decides-int_eq}
-use Rattle.std.specs.Ordering.{int_eq}
-use Rattle.qss_machine.specs.Machines.{start_states}
-use Rattle.qss_machine.specs.declared.compiled_machine.Machine.{Machine}
-use Rattle.cert_check.specs.declared.certificate.Certificate.{Certificate}
 use Rattle.cert_check.specs.declared.inequality_checker.Verdict.TheVariants.{Accepted}
-use Rattle.qss_answers.specs.BoundTexts.{bounds_text}
-use Rattle.cert_check.proofs.Judged.{judged_texts}
-use Rattle.qss_answers.specs.Answers.{Answer, refused, written}
-use Rattle.qss_answers.specs.CertificateAnswers.{IsAccepted, IsCertification}
-use Rattle.qss_answers.specs.declared.refusal.Refusal.{Refusal}
-use Rattle.qss_answers.specs.declared.refusal.Refusal.TheVariants as refusal
-use Rattle.qss_answers.proofs.BoundsHold.{accepted_text}
+use Rattle.qss_answers.specs.Answers.{Answer}
+use Rattle.qss_answers.specs.CertificateAnswers.{IsAccepted}
 use Rattle.qss_guarantees.proofs.OneCertificateAnswer.{one_each}
-use Rattle.qss_answers.specs.Comparisons.{HasStart, IsUsableCertificate, IsUnusableCertificate}
-use Rattle.qss_guarantees.specs.TraceLaws.{IsJudged}
-use Rattle.qss_answers.specs.declared.comparison_ending.ComparisonStop.{ComparisonStop}
+use Rattle.qss_answers.specs.Comparisons.{HasStart}
+use Rattle.qss_answers.specs.declared.refusal.Refusal.TheVariants as refusal
 use Rattle.qss_answers.specs.declared.comparison_ending.ComparisonStop.TheVariants as stops
 
 -- lists of numbers are the same, or not

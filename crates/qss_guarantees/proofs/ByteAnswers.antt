@@ -1,20 +1,17 @@
 -- The bytes of the files determine at most one answer of each call that takes these bytes.
-use Rattle.std.proofs.Common.{sym, ap, ◌∙◌, List, [], ℕ, inl, inr}
-use Rattle.qss_answers.specs.Comparisons.{RunSource}
-use Rattle.qss_answers.specs.declared.refusal.Refusal.TheVariants as reasons
+use Rattle.qss_guarantees.proofs.Common
+use Common.{[], ℕ, ◌∙◌, ap, given_run, inl, inr, IsUnique, List, Machine, not_outside, rejection}
+use Common.{RunSource, sym}
 use Rattle.qss_cli.specs.declared.request.Task.{Task}
-use Rattle.qss_cli.specs.declared.request.Task.TheVariants as tasks
-use Rattle.qss_machine.specs.declared.compiled_machine.Machine.{Machine}
-use Rattle.qss_top.specs.CommandAnswers.{given_run}
 use Rattle.qss_top.specs.ComparisonOutcomes.{IsCompareAnswer}
-use Rattle.qss_top.specs.MachineAnswers.{rejection}
 use Rattle.qss_top.specs.Tasks.{IsSourceAnswer, IsTaskAnswer}
-use Rattle.qss_guarantees.specs.AnswerLaws.{ByteAnswersAreUnique, IsUnique}
-use Rattle.qss_answers.proofs.Scopes.{not_outside}
+use Rattle.qss_guarantees.specs.AnswerLaws.{ByteAnswersAreUnique}
 use Rattle.qss_guarantees.proofs.Sameness.{one_certify, one_check, one_comparison}
 use Rattle.qss_guarantees.proofs.Sameness.{one_machine_answer, one_print, one_proposing, one_second}
 use Rattle.qss_guarantees.proofs.Sameness.{one_upgrade}
 use Rattle.qss_guarantees.proofs.Scopes.{one_outside}
+use Rattle.qss_answers.specs.declared.refusal.Refusal.TheVariants as reasons
+use Rattle.qss_cli.specs.declared.request.Task.TheVariants as tasks
 
 one_task : (task : Task) (bytes : List ℕ) → IsUnique (IsSourceAnswer task bytes)
 one_task (tasks.Run options) bytes =

@@ -1,15 +1,11 @@
 -- A run of the program has the properties of its command, for the contents that it read.
-use Rattle.std.proofs.Common.{◌≡◌, ◌⊎◌, true, ℕ, List, [], take, length, sym, subst, inl, inr, Some}
-use Rattle.qss_cli.specs.Commands.{Command, files_of}
-use Rattle.qss_guarantees.specs.CallProperties.{HasPropertiesOfReads, CallsHaveProperties}
-use Rattle.qss_guarantees.specs.CallProperties.{SessionsHaveProperties}
+use Rattle.qss_guarantees.proofs.Common
+use Common.{[], ℕ, ◌≡◌, ◌⊎◌, AreReadInOrder, Call, Command, ComputesSpecification, DeterminesAnswer}
+use Common.{HasPropertiesOfReads, inl, inr, is_defined, is_too_long, IsMessageText, List, seen}
+use Common.{Some, Status, subst, sym, true}
+use Rattle.qss_guarantees.specs.CallProperties.{CallsHaveProperties, SessionsHaveProperties}
 use Rattle.qss_guarantees.proofs.Properties.{have_properties}
-use Rattle.qss_top.specs.Calls.{Call, ComputesSpecification}
-use Rattle.qss_top.specs.MachineAnswers.{Answer, IsMessageText}
-use Rattle.qss_top.specs.ReadAnswers.{DeterminesAnswer, is_too_long, AreReadInOrder}
-use Rattle.qss_top.specs.Sessions.{IsAccepted, seen}
-use Rattle.qss_top.specs.Statuses.{is_defined}
-use Rattle.qss_top.specs.declared.status.Status.{Status}
+use Rattle.qss_top.specs.Sessions.{IsAccepted}
 use Rattle.qss_top.specs.declared.status.Status.TheVariants as ends
 
 -- the answer that a call with a specified status gives

@@ -1,31 +1,25 @@
 -- The comparison of two traces has exactly one result, and compared runs are within the bound.
-use Rattle.std.proofs.Common.{◌≡◌, ℕ, ◌⊎◌, inl, inr, List, [], ℤ, refl, sym, ap, ◌∙◌, arith}
-use Rattle.qss_machine.proofs.Near.{quanta_positive}
+use Rattle.qss_guarantees.proofs.Common
+use Common.{[], ℕ, ℤ, ◌∙◌, ◌≡◌, ◌⊎◌, accepted-holds, ap, arith, Certificate, certificate_data}
+use Common.{ComparisonStop, first_order, inl, inr, IsCompared, IsGivenRun, IsJudged, IsRunOf}
+use Common.{IsRunTrace, IsUsableCertificate, List, Machine, quanta_positive, refl, RunSource}
+use Common.{second_order, sym, system_of, Trace, traced}
 use Rattle.qss_machine.specs.Machines.{level_unit}
-use Rattle.qss_machine.specs.declared.compiled_machine.Machine.{Machine}
-use Rattle.cert_check.proofs.Accepted.{accepted-holds}
 use Rattle.cert_check.proofs.Join.{promised}
 use Rattle.cert_check.specs.Bounds.{IsCertifiedRun}
-use Rattle.cert_check.specs.CertificateData.{certificate_data}
-use Rattle.cert_check.specs.Systems.{system_of}
-use Rattle.cert_check.specs.declared.certificate.Certificate.{Certificate}
 use Rattle.qss_trace.specs.CommonTicks.{IsGreatest}
-use Rattle.qss_trace.specs.Trace.{IsRunOf, states_of, levels_of}
+use Rattle.qss_trace.specs.Trace.{states_of, levels_of}
 use Rattle.qss_trace.specs.declared.trace_comparison.Greatest.{Greatest}
 use Rattle.qss_trace.specs.declared.trace_comparison.Greatest.TheVariants.{Found, Range}
-use Rattle.qss_trace.specs.declared.trace.Trace.{Trace}
 use Rattle.qss_trace.proofs.Certified.{certified, bounded}
 use Rattle.qss_trace.proofs.Greatests.{greatests}
 use Rattle.qss_own_traces.proofs.OwnTraces.{first-legitimate, second-legitimate}
-use Rattle.qss_answers.specs.Comparisons.{RunSource, first_order, second_order, traced, IsGivenRun}
-use Rattle.qss_answers.specs.Comparisons.{IsRunTrace, IsUsableCertificate, IsCompared}
 use Rattle.qss_answers.specs.Comparisons.{IsComparisonRefused, comparison_text}
-use Rattle.qss_guarantees.specs.TraceLaws.{IsJudged, ComparedRunsAreWithinBound}
-use Rattle.qss_answers.specs.declared.comparison_ending.ComparisonStop.{ComparisonStop}
-use Rattle.qss_answers.specs.declared.comparison_ending.ComparisonStop.TheVariants as stops
-use Rattle.qss_answers.specs.declared.refusal.Refusal.TheVariants as refusal
+use Rattle.qss_guarantees.specs.TraceLaws.{ComparedRunsAreWithinBound}
 use Rattle.qss_answers.proofs.ComparisonEnds.{given_size}
 use Rattle.qss_answers.proofs.TraceEnds.{run_of}
+use Rattle.qss_answers.specs.declared.comparison_ending.ComparisonStop.TheVariants as stops
+use Rattle.qss_answers.specs.declared.refusal.Refusal.TheVariants as refusal
 
 -- the text that reports where V is greatest
 abbrev text_by : Greatest → List ℕ

@@ -1,14 +1,7 @@
 -- The result without a failure.
-use Rattle.std.proofs.Common.{◌≡◌, ◌≢◌, true, ℕ, List, refl, subst}
-use Rattle.std.specs.declared.option.Option.{Option}
-use Rattle.std.specs.Io.KnownBytes.{Appends}
-use Rattle.mu_io.specs.Files.{Files}
-use Rattle.qss_top.specs.MachineAnswers.{Answer}
-use Rattle.qss_guarantees.specs.ExpectedResults.{ExpectedResult, ExpectedReply, IsExpectedResult}
-use Rattle.qss_guarantees.specs.ExpectedResults.{answered}
-use Rattle.qss_top.specs.Statuses.{is_defined}
-use Rattle.qss_guarantees.specs.Replies.{IsReplyGiven}
-use Rattle.qss_top.specs.declared.status.Status.{Status}
+use Rattle.qss_guarantees.proofs.Common
+use Common.{ℕ, ◌≡◌, ◌≢◌, Answer, answered, Appends, ExpectedReply, ExpectedResult, Files}
+use Common.{is_defined, IsExpectedResult, IsReplyGiven, List, Option, refl, Status, subst, true}
 use Rattle.qss_top.specs.declared.status.Status.TheVariants as ends
 
 -- a status other than 3, 4 and 8 is specified

@@ -1,55 +1,34 @@
 -- An answer that rejects a file as too long is the answer for every continuation of the file.
-use Rattle.std.proofs.Common.{◌≡◌, ◌⊎◌, ◌<◌, ◌≤◌, ◌^◌, Bool, true, false, ℕ, zero, suc, List, []}
-use Rattle.std.proofs.Common.{◌∷◌, ◌++◌, length, refl, sym, ap, ◌∙◌, subst, inl, inr, None, Some}
-use Rattle.std.proofs.Common.{nat_lt, arith}
-use Rattle.std.specs.declared.option.Option.{Option}
-use Rattle.std.specs.Prelude.{MatchBool}
-use Rattle.std.proofs.lemmas.Bool.Decides.{nat_tests}
-use Rattle.cert_check.specs.Written.{certificate_text}
-use Rattle.cert_check.specs.declared.certificate.Certificate.{Certificate}
+use Rattle.qss_guarantees.proofs.Common
+use Common.{[], ℕ, ◌++◌, ◌<◌, ◌^◌, ◌∙◌, ◌∷◌, ◌≡◌, ◌≤◌, ◌⊎◌, Answer, answer_for, answer_of, Answers}
+use Common.{AnswersFromRun, AnswersOfSource, ap, arith, Bool, bounds_text, Certificate}
+use Common.{certificate_text, certify_model, CertifyAnswers, check_model, CheckAnswers, Command}
+use Common.{compare_runs, CompareAnswers, comparison_stop_answer, ComparisonStop, coupled_model}
+use Common.{false, first_order, first_run, FirstRunAnswers, generate_model, GenerationAnswers}
+use Common.{HasNoRunTrace, inl, inr, is_too_long, IsCheckAnswer, IsMachineAnswer, IsOutOfScope}
+use Common.{IsOwn, IsParseRefusal, IsPrintAnswer, IsProposeAnswer, IsRefusalFor, IsRefused}
+use Common.{IsSourceRefusal, IsUnusableCertificate, length, List, long_for, Machine, MatchBool}
+use Common.{model_answer, nat_lt, nat_tests, no_certificate, None, Option, origin_of, PairAnswer}
+use Common.{plain_options, print_model, PrintAnswers, printed_run_answer, Proposal, propose_model}
+use Common.{ProposeAnswers, refl, Refusal, refusal, Refused, rejection, run2_answer, Run2Answers}
+use Common.{run_by_rule, run_model, RunAnswers, RunOptions, RunSource, second_model, second_order}
+use Common.{second_run, second_run_answer, SecondRunAnswers, Side, Some, subst, suc, sym, too_long}
+use Common.{Trace, traced as given_trace, true, upgrade_model, UpgradeAnswers, upgraded, zero}
 use Rattle.cert_check.specs.declared.inequality_checker.Verdict.{Verdict}
+use Rattle.qss_answers.specs.Answers.{judged}
+use Rattle.qss_cli.specs.Commands.{traced}
+use Rattle.qss_order2.specs.SecondRuns.{Past}
+use Rattle.qss_order2.specs.SecondRunTexts.{second_order_run}
+use Rattle.qss_top.specs.MachineAnswers.{refused}
+use Rattle.qss_guarantees.proofs.Existence.{comparison_answers}
+use Rattle.qss_guarantees.proofs.Sameness.{AnswerRelation, by_steps}
 use Rattle.cert_check.specs.declared.inequality_checker.Verdict.TheVariants as verdicts
-use Rattle.cert_propose.specs.declared.certificate_proposal.Proposal.{Proposal}
 use Rattle.cert_propose.specs.declared.certificate_proposal.Proposal.TheVariants as proposals
 use Rattle.qss_answers.specs.Answers as Results
 use Rattle.qss_answers.specs.CertificateAnswers as Certificates
-use Rattle.qss_answers.specs.Answers.{judged}
-use Rattle.qss_answers.specs.BoundTexts.{bounds_text}
-use Rattle.qss_answers.specs.CertificateAnswers.{upgraded}
-use Rattle.qss_answers.specs.Comparisons.{RunSource, traced as given_trace, HasNoRunTrace}
-use Rattle.qss_answers.specs.Comparisons.{first_order, second_order, IsOwn, IsUnusableCertificate}
-use Rattle.qss_answers.specs.ProposalAnswers.{answer_of}
 use Rattle.qss_answers.specs.TraceAnswers as Traces
-use Rattle.qss_answers.specs.declared.comparison_ending.ComparisonStop.{ComparisonStop}
 use Rattle.qss_answers.specs.declared.comparison_ending.ComparisonStop.TheVariants as stops
-use Rattle.qss_answers.specs.declared.refusal.Refusal.{Refusal}
-use Rattle.qss_cli.specs.Commands.{Command, RunOptions, plain_options, run_model, print_model}
-use Rattle.qss_cli.specs.Commands.{certify_model, upgrade_model, generate_model, check_model}
-use Rattle.qss_cli.specs.Commands.{propose_model, second_model, compare_runs, coupled_model}
-use Rattle.qss_cli.specs.Commands.{Side, first_run, second_run, traced}
-use Rattle.qss_compile.specs.Compilation.{IsParseRefusal, IsRefused}
-use Rattle.qss_compile.specs.declared.model_refusal.Refused.{Refused}
-use Rattle.qss_events.specs.RunTexts.{run_by_rule}
-use Rattle.qss_machine.specs.declared.compiled_machine.Machine.{Machine}
-use Rattle.qss_order2.specs.SecondRuns.{Past}
-use Rattle.qss_order2.specs.SecondRunTexts.{second_order_run}
-use Rattle.qss_trace.specs.declared.trace.Trace.{Trace}
-use Rattle.qss_top.specs.CommandAnswers.{Answers, CertifyAnswers, UpgradeAnswers, CheckAnswers}
-use Rattle.qss_top.specs.CommandAnswers.{CompareAnswers, GenerationAnswers, PrintAnswers}
-use Rattle.qss_top.specs.CommandAnswers.{ProposeAnswers, RunAnswers, Run2Answers, IsOutOfScope}
-use Rattle.qss_top.specs.CommandAnswers.{no_certificate, origin_of}
-use Rattle.qss_top.specs.ComparisonOutcomes.{AnswersOfSource, AnswersFromRun, FirstRunAnswers}
-use Rattle.qss_top.specs.ComparisonOutcomes.{SecondRunAnswers, PairAnswer}
-use Rattle.qss_top.specs.MachineAnswers.{Answer, IsRefusalFor, IsSourceRefusal, IsMachineAnswer}
-use Rattle.qss_top.specs.MachineAnswers.{IsPrintAnswer, IsProposeAnswer, IsCheckAnswer, refusal}
-use Rattle.qss_top.specs.MachineAnswers.{printed_run_answer, second_run_answer, run2_answer}
-use Rattle.qss_top.specs.MachineAnswers.{model_answer, answer_for, rejection, too_long, refused}
-use Rattle.qss_top.specs.MachineAnswers.{comparison_stop_answer}
-use Rattle.qss_top.specs.ReadAnswers.{is_too_long}
 use Rattle.qss_top.specs.declared.status.Status.TheVariants as ends
-use Rattle.qss_top.proofs.Sources.{long_for}
-use Rattle.qss_guarantees.proofs.Existence.{comparison_answers}
-use Rattle.qss_guarantees.proofs.Sameness.{AnswerRelation, by_steps}
 
 -- the answer rejects a file as too long
 abbrev pub IsLong : Answer → Type 0

@@ -1,16 +1,20 @@
 -- Arguments and known files have a result.
-use Rattle.std.proofs.Common.{◌≡◌, ◌≤◌, ◌⊎◌, ℕ, suc, List, [], ◌∷◌, ◌++◌, take, length, refl, ap}
-use Rattle.std.proofs.Common.{subst, inl, inr, None, Some, arith, append-nil}
-use Rattle.std.specs.declared.option.Option.{Option}
+use Rattle.qss_guarantees.proofs.Common
+use Common.{[], ℕ, ◌++◌, ◌∷◌, ◌≡◌, ◌≤◌, ◌⊎◌, Answer, answer_for, answered, Answers, AnswersFromRun}
+use Common.{AnswersOfSource, ap, append-nil, arith, Certificate, certify_model, check_model}
+use Common.{Command, command_of, CommandLineExpects, compare_runs, compared, comparison_stop_answer}
+use Common.{ComparisonAnswers, coupled_model, ExpectedResult, file_missing, file_of, Files}
+use Common.{files_of, first_run, FirstRunAnswers, generate_model, given_run, in_file, inl, inr}
+use Common.{IsAnswerFor, IsCertification, IsCertifyAnswer, IsCheckAnswer, IsGenerationAnswer}
+use Common.{IsInScope, IsMachineAnswer, IsNamedRun, IsOutOfScope, IsPrintAnswer, IsProposeAnswer}
+use Common.{IsRunAnswer, IsScopedMachine, IsSecondAnswer, IsSourceRefusal, IsUpgrade}
+use Common.{IsUpgradeAnswer, IsUsableCertificate, length, List, Machine, model_answer, NeedsMore}
+use Common.{no_certificate, no_first_run, no_second_run, None, not_compared, Option, Origin}
+use Common.{origin_of, PairAnswer, plain_options, print_model, printed_run_answer, propose_model}
+use Common.{refl, refusal, rejection, run2_answer, run_model, RunOptions, RunSource, second_model}
+use Common.{second_run, SecondRunAnswers, Side, Some, source, subst, suc, summary_answer, take}
+use Common.{text_answer, Trace, traced as given_trace, upgrade_model, usage}
 use Rattle.std.specs.Prelude.{IfSome}
-use Rattle.mu_io.specs.Files.{Files, file_of}
-use Rattle.qss_machine.specs.declared.compiled_machine.Machine.{Machine}
-use Rattle.cert_check.specs.Scope.{IsInScope}
-use Rattle.cert_check.specs.declared.certificate.Certificate.{Certificate}
-use Rattle.qss_trace.specs.declared.trace.Trace.{Trace}
-use Rattle.qss_answers.specs.Answers as Results
-use Rattle.qss_answers.specs.CertificateAnswers.{IsCertification, IsUpgrade}
-use Rattle.qss_answers.specs.declared.refusal.Refusal.TheVariants as reasons
 use Rattle.qss_guarantees.proofs.OneCertificateAnswer.{one_each}
 use Rattle.qss_guarantees.proofs.Scopes.{scope_of}
 use Rattle.qss_guarantees.proofs.Bases.{judged_basis}
@@ -18,33 +22,16 @@ use Rattle.qss_guarantees.proofs.Compared.{judged_text}
 use Rattle.qss_guarantees.proofs.OneTraceAnswer.{one_each as one_trace}
 use Rattle.qss_guarantees.proofs.OneProposalAnswer.{one_proposed}
 use Rattle.qss_guarantees.proofs.Sides.{judged_side}
-use Rattle.qss_answers.specs.Comparisons.{RunSource, traced as given_trace, IsUsableCertificate}
-use Rattle.qss_generate.specs.Source.{source}
-use Rattle.qss_cli.specs.Commands.{RunOptions, plain_options, Command, run_model, print_model}
-use Rattle.qss_cli.specs.Commands.{certify_model, upgrade_model, generate_model, check_model}
-use Rattle.qss_cli.specs.Commands.{propose_model, second_model, compare_runs, coupled_model}
-use Rattle.qss_cli.specs.Commands.{command_of, files_of, Side, first_run, second_run, traced}
-use Rattle.qss_cli.specs.Commands.{files_of_side}
+use Rattle.qss_cli.specs.Commands.{traced, files_of_side}
 use Rattle.qss_cli.proofs.CommandShares.{HasShare, command_share}
-use Rattle.qss_top.specs.MachineAnswers.{Answer, refusal, usage, printed_run_answer, model_answer}
-use Rattle.qss_top.specs.MachineAnswers.{summary_answer, run2_answer, rejection, answer_for}
-use Rattle.qss_top.specs.MachineAnswers.{IsSourceRefusal, IsMachineAnswer, IsRunAnswer}
-use Rattle.qss_top.specs.MachineAnswers.{IsPrintAnswer, IsGenerationAnswer, IsAnswerFor}
-use Rattle.qss_top.specs.MachineAnswers.{IsCertifyAnswer, IsUpgradeAnswer, IsCheckAnswer}
-use Rattle.qss_top.specs.MachineAnswers.{IsProposeAnswer, IsSecondAnswer, comparison_stop_answer}
-use Rattle.qss_top.specs.MachineAnswers.{text_answer}
-use Rattle.qss_top.specs.CommandAnswers.{Answers, NeedsMore, IsOutOfScope, IsScopedMachine, Origin}
-use Rattle.qss_top.specs.CommandAnswers.{given_run, in_file, origin_of, ComparisonAnswers}
-use Rattle.qss_top.specs.CommandAnswers.{no_certificate, no_first_run, no_second_run}
-use Rattle.qss_top.specs.CommandAnswers.{not_compared, compared, IsNamedRun, AreNamedRuns}
-use Rattle.qss_top.specs.ComparisonOutcomes.{AnswersOfSource, AnswersFromRun, SecondRunAnswers}
-use Rattle.qss_top.specs.ComparisonOutcomes.{FirstRunAnswers, PairAnswer, names_of}
-use Rattle.qss_guarantees.specs.ExpectedResults.{ExpectedResult, answered, file_missing}
-use Rattle.qss_guarantees.specs.ExpectedResults.{CommandLineExpects}
+use Rattle.qss_top.specs.CommandAnswers.{AreNamedRuns}
+use Rattle.qss_top.specs.ComparisonOutcomes.{names_of}
 use Rattle.qss_guarantees.specs.AnswerLaws.{AnswersExist}
-use Rattle.qss_top.specs.declared.status.Status.TheVariants as ends
 use Rattle.qss_guarantees.proofs.Sources.{source_judged, tree_judged}
 use Rattle.qss_guarantees.proofs.Sameness.{AnswerRelation, AreFirst}
+use Rattle.qss_answers.specs.Answers as Results
+use Rattle.qss_answers.specs.declared.refusal.Refusal.TheVariants as reasons
+use Rattle.qss_top.specs.declared.status.Status.TheVariants as ends
 
 -- ---- the answers for a source, a machine or a text
 

@@ -1,34 +1,29 @@
 -- A call on known files has the expected result: it computes its specification for what it reads.
-use Rattle.std.proofs.Common.{◌≡◌, ◌≢◌, ◌⊎◌, ◌<◌, ◌≤◌, Bool, true, false, zero, suc, ℕ, List, []}
-use Rattle.std.proofs.Common.{◌∷◌, ◌++◌, length, take, refl, sym, ap, ◌∙◌, subst, arith, inl, inr}
-use Rattle.std.proofs.Common.{None, Some, append-nil, length-append, length-take}
-use Rattle.std.specs.declared.option.Option.{Option}
-use Rattle.std.specs.Prelude.{All, Contains}
-use Rattle.std.specs.Io.KnownBytes.{Appends}
+use Rattle.qss_guarantees.proofs.Common
+use Common.{[], ℕ, ◌++◌, ◌<◌, ◌∙◌, ◌∷◌, ◌≡◌, ◌≢◌, ◌≤◌, ◌⊎◌, All, Answer, answered, Answers, ap}
+use Common.{append-nil, Appends, AreContents, AreReadInOrder, arith, Bool, Call, Command}
+use Common.{CommandExpects, CommandLineExpects, ComputesSpecification, DeterminesAnswer}
+use Common.{ExpectedReply, ExpectedResult, false, faulted, file_missing, file_of, Files, files_of}
+use Common.{fully_read, inl, inr, is_defined, is_too_long, IsMessageText, IsReplyGiven, length}
+use Common.{length-append, List, None, Option, Reading, reading, refl, refusal, Some, Status, subst}
+use Common.{suc, sym, take, true, usage, zero}
+use Rattle.std.proofs.Common.{length-take}
+use Rattle.std.specs.Prelude.{Contains}
 use Rattle.std.proofs.KnownBytes.{Appends-nil}
 use Rattle.std.proofs.lemmas.List.{append_cancel_right}
 use Rattle.std.proofs.lemmas.List.Elements.{All-head, All-tail}
-use Rattle.mu_io.specs.Files.{Files, file_of}
-use Rattle.mu_io.specs.Readings.{Reading, reading, in_progress, fully_read, faulted, IsOf}
-use Rattle.mu_io.specs.Readings.{IsOfContents}
+use Rattle.mu_io.specs.Readings.{in_progress, IsOf, IsOfContents}
 use Rattle.mu_io.specs.Sinks.{AppendsPrefix}
-use Rattle.qss_cli.specs.Commands.{Command, files_of}
-use Rattle.qss_top.specs.Calls.{Call, ComputesSpecification, IsTrueToReads}
-use Rattle.qss_top.specs.CommandAnswers.{Answers}
+use Rattle.qss_top.specs.Calls.{IsTrueToReads}
 use Rattle.qss_top.specs.Frames.{AddsReadings, CountsLastFault}
-use Rattle.qss_top.specs.MachineAnswers.{Answer, IsMessageText, quiet, refusal, usage}
-use Rattle.qss_top.specs.ReadAnswers.{is_too_long, AreReadInOrder, DeterminesAnswer, FailsAtFile}
-use Rattle.qss_top.specs.Statuses.{is_defined}
+use Rattle.qss_top.specs.MachineAnswers.{quiet}
+use Rattle.qss_top.specs.ReadAnswers.{FailsAtFile}
 use Rattle.qss_top.specs.WrittenTexts.{IsOutOfMemoryPrefix, IsCutText, IsPrefix}
-use Rattle.qss_top.specs.declared.status.Status.{Status}
-use Rattle.qss_top.specs.declared.status.Status.TheVariants as ends
-use Rattle.qss_guarantees.specs.ExpectedResults.{ExpectedReply, ExpectedResult, answered}
-use Rattle.qss_guarantees.specs.ExpectedResults.{file_missing, AreContents, CommandExpects}
-use Rattle.qss_guarantees.specs.ExpectedResults.{CommandLineExpects}
-use Rattle.qss_guarantees.specs.Replies.{HasReply, IsReplyGiven, IsReplyLine, IsLineOf}
-use Rattle.qss_guarantees.specs.Replies.{IsStatusReported, SomeFaultCounted, text_of}
+use Rattle.qss_guarantees.specs.Replies.{HasReply, IsReplyLine, IsLineOf, IsStatusReported}
+use Rattle.qss_guarantees.specs.Replies.{SomeFaultCounted, text_of}
 use Rattle.qss_guarantees.proofs.Continuations.{stable}
 use Rattle.qss_guarantees.proofs.Sameness.{only_reply, reads_beyond}
+use Rattle.qss_top.specs.declared.status.Status.TheVariants as ends
 
 -- ---- lists of files
 

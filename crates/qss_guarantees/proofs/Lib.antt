@@ -1,3 +1,4 @@
+mod Common
 mod Scopes
 mod OneCertificateAnswer
 mod OneTraceAnswer

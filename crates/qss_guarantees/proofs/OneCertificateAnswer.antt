@@ -1,26 +1,16 @@
 -- A machine and bytes determine exactly one answer of `certify` and of `upgrade`.
-use Rattle.std.proofs.Common.{◌≡◌, ℕ, ◌<◌, ◌≤◌, ◌⊎◌, inl, inr, List, length, refl, sym, ap, subst}
-use Rattle.std.proofs.Common.{◌∙◌, arith}
-use Rattle.std.proofs.lemmas.Bool.{cases_lt}
-use Rattle.qss_machine.specs.declared.compiled_machine.Machine.{Machine}
-use Rattle.cert_check.specs.CertificateData.{certificate_data}
-use Rattle.cert_check.specs.Scope.{IsInScope, IsOutsideBy}
-use Rattle.cert_check.specs.Systems.{system_of}
-use Rattle.cert_check.specs.declared.certificate.Certificate.{Certificate}
-use Rattle.cert_check.specs.declared.certificate_scope.Outside as outsides
+use Rattle.qss_guarantees.proofs.Common
+use Common.{ℕ, ◌<◌, ◌∙◌, ◌≡◌, ◌≤◌, ◌⊎◌, ap, arith, cases_lt, Certificate, certificate_data}
+use Common.{certified, inl, inr, IsInScope, IsOutsideBy, IsTextOf, judged_texts, length, List}
+use Common.{Machine, not_outside, refl, Refusal, refused, subst, sym, system_of, TextErr, upgraded}
+use Common.{verdicts}
 use Rattle.cert_check.specs.TextFaults.{IsFaultOf}
-use Rattle.cert_check.proofs.Judged.{judged_texts}
-use Rattle.cert_check.proofs.Verdicts.{verdicts}
-use Rattle.cert_check.specs.CertificateTexts.{IsTextOf}
-use Rattle.cert_check.specs.declared.text_err.TextErr.{TextErr}
-use Rattle.qss_answers.specs.Answers.{Answer, refused}
+use Rattle.qss_answers.specs.Answers.{Answer}
 use Rattle.qss_answers.specs.CertificateAnswers.{limit, IsRefusal, IsRead, IsAnswer, IsCertified}
-use Rattle.qss_answers.specs.CertificateAnswers.{certified, upgraded}
 use Rattle.qss_guarantees.specs.CertificateLaws.{CertificateAnswersAreOne}
-use Rattle.qss_answers.specs.declared.refusal.Refusal.{Refusal}
-use Rattle.qss_answers.specs.declared.refusal.Refusal.TheVariants as refusal
-use Rattle.qss_answers.proofs.Scopes.{not_outside}
 use Rattle.qss_guarantees.proofs.Scopes.{one_outside, scope_of}
+use Rattle.cert_check.specs.declared.certificate_scope.Outside as outsides
+use Rattle.qss_answers.specs.declared.refusal.Refusal.TheVariants as refusal
 
 one_refusal : (m : Machine) (bytes : List ℕ) (a b : Refusal) → IsRefusal m bytes a
     → IsRefusal m bytes b → a ≡ b

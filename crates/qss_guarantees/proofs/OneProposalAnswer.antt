@@ -1,36 +1,26 @@
 -- A machine determines exactly one answer of `propose`.
-use Rattle.std.proofs.Common.{◌≡◌, ℕ, ◌⊎◌, inl, inr, List, ℤ, pos, refl, sym, ap, ap₂, subst}
-use Rattle.std.proofs.Common.{◌∙◌, arith}
-use Rattle.std.specs.Prelude.{Result, Ok, Err}
-use Rattle.qss_machine.specs.declared.compiled_machine.Machine.{Machine}
-use Rattle.qss_machine.specs.Machines.{state_count, start_states, quanta}
+use Rattle.qss_guarantees.proofs.Common
+use Common.{ℕ, ℤ, ◌∙◌, ◌≡◌, ◌⊎◌, answer_of, ap, ap₂, arith, Certificate, certificate_data}
+use Common.{certificate_text, inl, inr, IsInScope, IsOutsideBy, IsProposed, IsTextOf, judged_texts}
+use Common.{lines, lines_text, List, Machine, not_outside, Ok, pos, Proposal, reads-back, refl}
+use Common.{refused, start_states, state_count, subst, sym, system_of, verdicts}
+use Rattle.std.specs.Prelude.{Result, Err}
+use Rattle.qss_machine.specs.Machines.{quanta}
 use Rattle.cert_matrix.specs.Matrix.{vector, zeros}
 use Rattle.cert_check.specs.CertificateLimits.{IsSize}
-use Rattle.cert_check.specs.CertificateData.{certificate_data}
-use Rattle.cert_check.specs.Scope.{IsInScope, IsOutsideBy}
-use Rattle.cert_check.specs.Systems.{system_of}
-use Rattle.cert_check.specs.declared.certificate.Certificate.{Certificate}
-use Rattle.cert_check.specs.declared.certificate_scope.Outside as outsides
 use Rattle.cert_check.specs.CheckVerdicts.{IsVerdict}
-use Rattle.cert_check.proofs.Judged.{judged_texts}
-use Rattle.cert_check.proofs.Verdicts.{verdicts}
-use Rattle.cert_check.specs.CertificateLines.{lines}
-use Rattle.cert_check.specs.CertificateTexts.{IsTextOf}
-use Rattle.cert_check.specs.Written.{lines_text, certificate_text}
-use Rattle.cert_check.proofs.WrittenLines.{reads-back}
-use Rattle.qss_answers.proofs.Scopes.{not_outside}
 use Rattle.qss_guarantees.proofs.Scopes.{one_outside, scope_of}
 use Rattle.cert_propose.specs.Candidate.{Computed, candidate_of}
 use Rattle.cert_propose.specs.ProposalLimits.{AreFit}
 use Rattle.cert_propose.specs.Proposals.{IsCandidate, IsProposal}
-use Rattle.cert_propose.specs.declared.certificate_proposal.Proposal.{Proposal}
-use Rattle.cert_propose.specs.declared.certificate_proposal.Proposal.TheVariants as proposal
 use Rattle.cert_propose.proofs.Candidates.{candidate-fits, number-of}
 use Rattle.cert_propose.proofs.Machines.{starts-fit, quanta-fit, unit-≥}
 use Rattle.cert_propose.proofs.Small.{zeros-fit}
-use Rattle.qss_answers.specs.Answers.{Answer, refused}
-use Rattle.qss_answers.specs.ProposalAnswers.{answered, answer_of, IsProposed}
+use Rattle.qss_answers.specs.Answers.{Answer}
+use Rattle.qss_answers.specs.ProposalAnswers.{answered}
 use Rattle.qss_guarantees.specs.ProposalLaws.{ProposalsAreOne}
+use Rattle.cert_check.specs.declared.certificate_scope.Outside as outsides
+use Rattle.cert_propose.specs.declared.certificate_proposal.Proposal.TheVariants as proposal
 use Rattle.qss_answers.specs.declared.refusal.Refusal.TheVariants as refusal
 
 -- ---- one

@@ -1,29 +1,21 @@
 -- A machine and bytes determine exactly one answer of `check`.
-use Rattle.std.proofs.Common.{◌≡◌, ℕ, ◌<◌, ◌≤◌, ◌⊎◌, inl, inr, List, length, refl, sym, ap}
-use Rattle.std.proofs.Common.{◌∙◌, arith}
-use Rattle.std.proofs.lemmas.Bool.{cases_lt}
-use Rattle.qss_machine.specs.Machines.{state_count}
-use Rattle.qss_machine.specs.declared.compiled_machine.Machine.{Machine}
-use Rattle.cert_check.specs.Scope.{IsInScope, IsOutsideBy}
-use Rattle.cert_check.specs.declared.certificate_scope.Outside as outsides
-use Rattle.qss_answers.proofs.Scopes.{not_outside}
+use Rattle.qss_guarantees.proofs.Common
+use Common.{ℕ, ◌<◌, ◌∙◌, ◌≡◌, ◌≤◌, ◌⊎◌, accepted_fine, ap, arith, cases_lt, inl, inr, IsChecked}
+use Common.{IsInScope, IsOutsideBy, IsRead, length, List, Machine, not_outside, one-trace, refl}
+use Common.{Refusal, refused, state_count, summary, sym, TextErr, Trace, written}
 use Rattle.qss_guarantees.proofs.Scopes.{one_outside, scope_of}
 use Rattle.qss_trace.specs.TraceTexts.{IsTextOf, IsFaultOf}
 use Rattle.qss_trace.specs.TraceVerdicts.{IsVerdict}
-use Rattle.cert_check.specs.declared.text_err.TextErr.{TextErr}
-use Rattle.qss_trace.specs.declared.trace.Trace.{Trace}
 use Rattle.qss_trace.specs.declared.trace_checker.TraceVerdict.{TraceVerdict}
-use Rattle.qss_trace.specs.declared.trace_checker.TraceVerdict.TheVariants as verdict
 use Rattle.qss_trace.proofs.Faultless.{judged}
-use Rattle.qss_trace.proofs.OneTrace.{one-trace}
 use Rattle.qss_trace.proofs.SomeVerdict.{some-verdict}
 use Rattle.qss_trace.proofs.Spelt.{one-fault, fault-or-text}
-use Rattle.qss_answers.proofs.TraceEnds.{one_read, accepted_fine}
-use Rattle.qss_answers.specs.Answers.{Answer, refused, written}
-use Rattle.qss_answers.specs.TraceAnswers.{limit, IsRefusal, IsRead, IsChecked}
-use Rattle.qss_answers.specs.TraceAnswers.{summary}
+use Rattle.qss_answers.proofs.TraceEnds.{one_read}
+use Rattle.qss_answers.specs.Answers.{Answer}
+use Rattle.qss_answers.specs.TraceAnswers.{limit, IsRefusal}
 use Rattle.qss_guarantees.specs.TraceLaws.{TraceAnswersAreOne}
-use Rattle.qss_answers.specs.declared.refusal.Refusal.{Refusal}
+use Rattle.cert_check.specs.declared.certificate_scope.Outside as outsides
+use Rattle.qss_trace.specs.declared.trace_checker.TraceVerdict.TheVariants as verdict
 use Rattle.qss_answers.specs.declared.refusal.Refusal.TheVariants as refusal
 
 -- the rejection that reports a verdict

@@ -1,35 +1,32 @@
 -- The fields of the rows of states, for a machine without clauses.
-use Rattle.std.proofs.Common.{◌≡◌, ◌<◌, ◌+◌, ℕ, zero, suc, Bool, true, List, [], ◌∷◌, ◌++◌, length}
-use Rattle.std.proofs.Common.{map, get_or, ℤ, pos, ◌+ℤ◌, refl, sym, ap, ◌∙◌, subst, arith}
-use Rattle.std.proofs.lemmas.Bool.Decides.{nat_tests}
-use Rattle.std.proofs.lemmas.List.{length-map}
+use Rattle.qss_guarantees.proofs.Common
+use Common.{[], ℕ, ℤ, ◌++◌, ◌+◌, ◌<◌, ◌∙◌, ◌∷◌, ◌≡◌, ◌≢◌, All, ap, arith, Bool, get_or, int_at}
+use Common.{int_eq, length, length-map, levels_from, List, Machine, map, nat_lt, nat_tests, None}
+use Common.{Ok, refl, run_rows, Snapshot, Some, start_snapshot, state_count, states_from, subst}
+use Common.{suc, sym, true, zero}
+use Rattle.std.proofs.Common.{◌+ℤ◌}
 use Rattle.std.proofs.lemmas.List.Elements.{All-nil, All-cons, All-append}
 use Rattle.std.proofs.lemmas.List.FromFn.{length-map-range_with_len, get_or-map-range_with_len}
 use Rattle.std.specs.Fmt.{signed_decimal}
 use Rattle.std.specs.List.{range_with_len, flat_map}
-use Rattle.std.specs.Ordering.{int_eq}
-use Rattle.std.specs.Prelude.{◌≢◌, Option, Some, None, Ok, All, nat_lt, decimal}
+use Rattle.std.specs.Prelude.{Option, decimal}
 use Rattle.mu_num.proofs.Tests.{if_cases}
-use Rattle.mu_num.specs.IndexedSums.{int_at, tabulate, first_exceeding}
+use Rattle.mu_num.specs.IndexedSums.{tabulate, first_exceeding}
 use Rattle.qss_events.proofs.EndRows.{state_row, discrete_row}
 use Rattle.qss_events.proofs.LevelRows.{level_row}
 use Rattle.qss_machine.proofs.Admitted.{run_clauses-none}
 use Rattle.qss_machine.proofs.Near.{step_facts}
 use Rattle.qss_machine.specs.Handlers.{HandlerState}
 use Rattle.qss_machine.specs.Legitimate.{entry_at}
-use Rattle.qss_machine.specs.Machines.{state_count, slope_at}
-use Rattle.qss_machine.specs.RunLaws.{states_from, levels_from}
-use Rattle.qss_machine.specs.Runs.{IsFreeExecution, Run, run_rows, rows_after, snapshot_rows}
-use Rattle.qss_machine.specs.Runs.{state_rows, discrete_rows, level_rows, tick_rows}
-use Rattle.qss_machine.specs.Ticks.{Snapshot, start_snapshot, moved_states, handlers_at}
-use Rattle.qss_machine.specs.Ticks.{IsStepBy, IsFreeLevel}
-use Rattle.qss_machine.specs.declared.compiled_machine.Machine.{Machine}
+use Rattle.qss_machine.specs.Machines.{slope_at}
+use Rattle.qss_machine.specs.Runs.{IsFreeExecution, Run, rows_after, snapshot_rows, state_rows}
+use Rattle.qss_machine.specs.Runs.{discrete_rows, level_rows, tick_rows}
+use Rattle.qss_machine.specs.Ticks.{moved_states, handlers_at, IsStepBy, IsFreeLevel}
 use Rattle.qss_machine.specs.declared.machine_parts.Row.{Row}
 use Rattle.qss_machine.specs.declared.machine_parts.RowKind.{RowKind}
-use Rattle.qss_machine.specs.declared.machine_parts.RowKind.TheVariants as kind
 use Rattle.qss_machine.specs.declared.machine_parts.StateInfo.{StateInfo}
-use Rattle.qss_rows.specs.RowTexts.{fields_of, name_of, word_of, name_field, level_field}
-use Rattle.qss_rows.specs.RowTexts.{state_field, fields_with}
+use Rattle.qss_rows.specs.RowTexts.{fields_of, name_of, word_of, name_field, fields_with}
+use Rattle.qss_machine.specs.declared.machine_parts.RowKind.TheVariants as kind
 
 -- ---- rows that are made one for each number
 

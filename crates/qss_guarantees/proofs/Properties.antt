@@ -1,74 +1,48 @@
 -- Each answer of the specification has the properties of its command.
-use Rattle.std.proofs.Common.{◌≡◌, ◌⊎◌, ℕ, List, [], ◌∷◌, length, refl, sym, ap, ◌∙◌}
-use Rattle.std.proofs.Common.{subst, inl, inr, Bool, true, false, ◌^◌, nat_lt, suc, ◌++◌}
-use Rattle.std.proofs.Common.{append-nil}
-use Rattle.std.specs.Prelude.{◌≢◌, ◌↔◌, MatchBool}
-use Rattle.qss_compile.specs.Compilation.{IsRefused, IsParseRefusal}
-use Rattle.qss_compile.specs.declared.model_refusal.Refused.{Refused}
-use Rattle.cert_check.specs.CertificateData.{certificate_data}
-use Rattle.cert_check.specs.Written.{certificate_text}
-use Rattle.cert_check.specs.Systems.{system_of}
-use Rattle.cert_check.specs.declared.certificate.Certificate.{Certificate}
-use Rattle.cert_check.specs.declared.inequality_checker.Verdict.TheVariants as verdict
-use Rattle.cert_check.proofs.Accepted.{accepted-holds}
+use Rattle.qss_guarantees.proofs.Common
+use Common.{[], ℕ, ◌++◌, ◌^◌, ◌∙◌, ◌∷◌, ◌≡◌, ◌≢◌, ◌⊎◌, accepted-holds, accepted_text, Answer}
+use Common.{answer_for, ap, append-nil, Bool, bounds, bounds_text, Certificate, certificate_data}
+use Common.{certificate_text, certified, certify_model, CertifyAnswers, check_model, CheckAnswers}
+use Common.{ClauseInfo, compare_runs, CompareAnswers, compared, comparison_stop_answer}
+use Common.{ComparisonAnswers, ComparisonStop, coupled_model, false, generate_model}
+use Common.{GenerationAnswers, inl, inr, IsAnswerFor, IsCertification, IsCertifyAnswer}
+use Common.{IsCheckAnswer, IsChecked, IsMachineAnswer, IsOutOfScope, IsParseRefusal, IsProposed}
+use Common.{IsRead as IsTraceRead, IsRefusalFor, IsRefused, IsRunOf, IsRunStatus, IsSourceMachine}
+use Common.{IsSourceRefusal, IsUpgrade, IsUpgradeAnswer, judged_texts, kept_texts, length, List}
+use Common.{Machine, MatchBool, model_answer, nat_lt, no_certificate, no_first_run, no_second_run}
+use Common.{not_compared, origin_of, plain_options, print_model, PrintAnswers, printed_run_answer}
+use Common.{propose_model, ProposeAnswers, quanta_positive, refl, Refusal, refusal, Refused}
+use Common.{run2_answer, Run2Answers, run_model, RunAnswers, RunOptions, second_model}
+use Common.{second_run_answer, Side, source as generated_source, subst, suc, summary}
+use Common.{summary_answer, sym, system_of, text_answer, too_long, Trace, true, upgrade_model}
+use Common.{UpgradeAnswers, upgraded, verdicts}
+use Rattle.std.specs.Prelude.{◌↔◌}
 use Rattle.cert_check.proofs.Exactly.{accepted-ranges, accepts}
-use Rattle.cert_check.proofs.Judged.{judged_texts}
-use Rattle.cert_check.proofs.Verdicts.{verdicts}
 use Rattle.cert_propose.specs.declared.certificate_proposal.Proposal.TheVariants.{Candidate}
-use Rattle.qss_machine.proofs.Near.{quanta_positive}
-use Rattle.qss_machine.specs.declared.compiled_machine.Machine.{Machine}
-use Rattle.qss_machine.specs.declared.machine_parts.ClauseInfo.{ClauseInfo}
-use Rattle.qss_generate.specs.Source.{source as generated_source}
-use Rattle.qss_trace.specs.Trace.{IsRunOf}
-use Rattle.qss_trace.specs.declared.trace.Trace.{Trace}
-use Rattle.qss_answers.specs.Answers as Results
-use Rattle.qss_answers.specs.BoundTexts.{bounds_text}
-use Rattle.qss_answers.specs.CertificateAnswers.{IsRead, IsCertification, IsUpgrade, certified}
-use Rattle.qss_answers.specs.CertificateAnswers.{upgraded}
+use Rattle.qss_answers.specs.CertificateAnswers.{IsRead}
 use Rattle.qss_answers.specs.AcceptedBounds.{IsSoundCertification}
-use Rattle.qss_answers.specs.ProposedBounds.{IsSoundProposal}
-use Rattle.qss_answers.specs.ProposalAnswers.{IsProposed}
-use Rattle.qss_answers.specs.TraceAnswers.{IsRead as IsTraceRead, IsChecked, summary}
-use Rattle.qss_answers.specs.declared.refusal.Refusal.{Refusal}
-use Rattle.qss_answers.specs.declared.refusal.Refusal.TheVariants as reasons
-use Rattle.qss_answers.specs.declared.comparison_ending.ComparisonStop.{ComparisonStop}
-use Rattle.qss_answers.specs.declared.comparison_ending.ComparisonStop.TheVariants as stops
-use Rattle.qss_guarantees.proofs.AnswerTheorems.{accepted}
-use Rattle.qss_answers.proofs.BoundsHold.{accepted_text, bounds}
-use Rattle.qss_guarantees.proofs.AnswerTheorems.{upgrades}
+use Rattle.qss_guarantees.proofs.AnswerTheorems.{accepted, upgrades}
 use Rattle.qss_guarantees.proofs.Compared.{near_runs}
 use Rattle.qss_guarantees.proofs.OneCertificateAnswer.{one_each}
 use Rattle.qss_guarantees.proofs.OneTraceAnswer.{one_each as one_trace}
 use Rattle.qss_guarantees.proofs.Sameness.{one_comparison, one_proposing}
-use Rattle.qss_answers.proofs.BoundsHold.{kept_texts}
-use Rattle.qss_cli.specs.Commands.{RunOptions, plain_options, run_model, print_model}
-use Rattle.qss_cli.specs.Commands.{certify_model, upgrade_model, generate_model, check_model}
-use Rattle.qss_cli.specs.Commands.{propose_model, second_model, compare_runs, coupled_model, Side}
 use Rattle.qss_guarantees.specs.AnswerLaws.{AnswersHaveProperties}
-use Rattle.qss_top.specs.CommandAnswers.{RunAnswers, Run2Answers, PrintAnswers, ProposeAnswers}
-use Rattle.qss_top.specs.CommandAnswers.{GenerationAnswers, CertifyAnswers, UpgradeAnswers}
-use Rattle.qss_top.specs.CommandAnswers.{CheckAnswers, CompareAnswers, IsOutOfScope}
-use Rattle.qss_top.specs.CommandAnswers.{no_certificate, no_first_run, no_second_run}
-use Rattle.qss_top.specs.CommandAnswers.{not_compared, compared, ComparisonAnswers, origin_of}
-use Rattle.qss_top.specs.MachineAnswers.{Answer, IsAnswerFor, IsRefusalFor, IsSourceRefusal}
-use Rattle.qss_top.specs.MachineAnswers.{IsSourceMachine, IsMachineAnswer, printed_run_answer}
-use Rattle.qss_top.specs.MachineAnswers.{run2_answer, answer_for, comparison_stop_answer}
-use Rattle.qss_top.specs.MachineAnswers.{summary_answer, text_answer, model_answer}
-use Rattle.qss_top.specs.MachineAnswers.{IsCertifyAnswer, refusal, refused, too_long}
-use Rattle.qss_top.specs.MachineAnswers.{IsCheckAnswer, IsUpgradeAnswer}
-use Rattle.qss_top.specs.MachineAnswers.{status_of_refusal, second_run_answer}
-use Rattle.qss_guarantees.specs.Guarantees.{Compiles, IsRunStatus, IsRunText, AreComparedRuns}
+use Rattle.qss_top.specs.MachineAnswers.{refused, status_of_refusal}
+use Rattle.qss_guarantees.specs.Guarantees.{Compiles, IsRunText, AreComparedRuns}
 use Rattle.qss_guarantees.specs.Guarantees.{ConditionsHoldInRange}
 use Rattle.qss_guarantees.specs.Theorems.{RunPrintsRowsOfMachine, Run2PrintsSecondOrderRows}
 use Rattle.qss_guarantees.specs.Theorems.{PrintPrintsCanonicalText, GenPrintsSummary}
-use Rattle.qss_guarantees.specs.Theorems.{CertifyIsSound, CertifyIsComplete}
-use Rattle.qss_guarantees.specs.Theorems.{ProposeIsSound, ProposeIsComplete, CheckAcceptsRuns}
-use Rattle.qss_guarantees.specs.Theorems.{CompareIsComplete}
+use Rattle.qss_guarantees.specs.Theorems.{CertifyIsSound, CertifyIsComplete, ProposeIsSound}
+use Rattle.qss_guarantees.specs.Theorems.{ProposeIsComplete, CheckAcceptsRuns, CompareIsComplete}
 use Rattle.qss_guarantees.specs.Theorems.{UpgradeKeepsCertificate, UpgradeIsComplete}
-use Rattle.qss_top.specs.declared.status.Status.TheVariants as ends
 use Rattle.qss_top.proofs.Refusals.{rejection_ends}
 use Rattle.qss_guarantees.proofs.Sources.{one_source_machine, one_source_tree, source_fine}
 use Rattle.qss_guarantees.proofs.Sources.{tree_fine}
+use Rattle.cert_check.specs.declared.inequality_checker.Verdict.TheVariants as verdict
+use Rattle.qss_answers.specs.Answers as Results
+use Rattle.qss_answers.specs.declared.refusal.Refusal.TheVariants as reasons
+use Rattle.qss_answers.specs.declared.comparison_ending.ComparisonStop.TheVariants as stops
+use Rattle.qss_top.specs.declared.status.Status.TheVariants as ends
 
 -- a rejection has neither status 0 nor status 6
 refusal_status : (why : Refusal) → IsRunStatus (status_of_refusal why) → ⊥

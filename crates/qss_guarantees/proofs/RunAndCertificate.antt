@@ -1,37 +1,23 @@
 -- A printed run lies within half of the printed bounds of the solution.
-use Rattle.std.proofs.Common.{◌≡◌, ◌<◌, ◌+◌, Bool, true, ℕ, List, [], ◌∷◌, length, take, refl, sym}
-use Rattle.std.proofs.Common.{ap}
-use Rattle.std.proofs.Common.{◌∙◌, subst, inl, inr, get_or, arith, map}
-use Rattle.std.proofs.lemmas.List.{length-map}
-use Rattle.std.specs.Prelude.{All}
-use Rattle.mu_io.specs.Readings.{Reading, Stage, reading, fully_read, faulted}
+use Rattle.qss_guarantees.proofs.Common
+use Common.{[], ℕ, ◌<◌, ◌∙◌, ◌∷◌, ◌≡◌, All, Answer, ap, AreReadInOrder, arith, Call, certify_model}
+use Common.{Command, faulted, fully_read, get_or, HasPropertiesOfReads, inl, inr, is_defined}
+use Common.{is_too_long, IsRunStatus, IsSourceMachine, length, length-map, levels_from, List}
+use Common.{Machine, printed_run_answer, Reading, reading, refl, run_by_rule, run_model, run_rows}
+use Common.{RunOptions, seen, Snapshot, start_snapshot, start_states, states_from, Status, subst}
+use Common.{sym, take, true}
+use Rattle.mu_io.specs.Readings.{Stage}
 use Rattle.cert_solution.proofs.Halved.{halves}
-use Rattle.qss_cli.specs.Commands.{Command, RunOptions, run_model, certify_model, files_of}
-use Rattle.qss_events.specs.RunTexts.{run_by_rule}
-use Rattle.qss_machine.specs.Machines.{start_states}
-use Rattle.qss_machine.specs.RunLaws.{states_from, levels_from}
-use Rattle.qss_machine.specs.Ticks.{Snapshot, start_snapshot}
-use Rattle.qss_machine.specs.declared.compiled_machine.Machine.{Machine}
-use Rattle.qss_machine.specs.declared.machine_parts.Row.{Row}
-use Rattle.qss_machine.specs.Runs.{run_rows}
 use Rattle.qss_quant.specs.declared.quantizer.Rule.{Rule}
 use Rattle.qss_theorems.proofs.Printed.{run_leads}
-use Rattle.qss_top.specs.Calls.{Call}
-use Rattle.qss_top.specs.MachineAnswers.{Answer, IsSourceMachine, printed_run_answer}
-use Rattle.qss_top.specs.ReadAnswers.{AreReadInOrder, is_too_long}
-use Rattle.qss_top.specs.Sessions.{seen}
-use Rattle.qss_top.specs.Statuses.{is_defined}
-use Rattle.qss_top.specs.declared.status.Status.{Status}
-use Rattle.qss_top.specs.declared.status.Status.TheVariants as ends
 use Rattle.qss_guarantees.specs.AnswerLaws.{HasProperties}
-use Rattle.qss_guarantees.specs.CallProperties.{HasPropertiesOfReads}
-use Rattle.qss_guarantees.specs.Guarantees.{IsRunStatus, IsCertified}
-use Rattle.qss_guarantees.specs.RunAndCertificate.{ExecutesCommand, ReadSameSource}
-use Rattle.qss_guarantees.specs.RunAndCertificate.{PrintsState, PrintsNearSolution}
-use Rattle.qss_guarantees.specs.RunAndCertificate.{states_by_rule, PrintedRunsAreNearSolution}
+use Rattle.qss_guarantees.specs.Guarantees.{IsCertified}
+use Rattle.qss_guarantees.specs.RunAndCertificate.{ExecutesCommand, PrintsState, states_by_rule}
+use Rattle.qss_guarantees.specs.RunAndCertificate.{PrintedRunsAreNearSolution}
 use Rattle.qss_guarantees.proofs.CallProperties.{sessions_have_properties}
-use Rattle.qss_guarantees.proofs.PrintedStates.{HasFieldsFrom, printed_fields}
+use Rattle.qss_guarantees.proofs.PrintedStates.{printed_fields}
 use Rattle.qss_guarantees.proofs.Sources.{one_source_machine}
+use Rattle.qss_top.specs.declared.status.Status.TheVariants as ends
 
 -- ---- what each of the two runs of the program printed
 

@@ -1,54 +1,36 @@
 -- A command has at most one answer, and arguments and files have at most one result.
-use Rattle.std.proofs.Common.{◌≡◌, ◌⊎◌, ◌<◌, ◌+◌, ℕ, suc, arith, length-append, List, [], ◌∷◌, ◌++◌}
-use Rattle.std.proofs.Common.{take, length, refl, sym, ap, ◌∙◌, subst, inl, inr, None, Some}
-use Rattle.std.proofs.Common.{append-nil, append_assoc}
-use Rattle.std.specs.declared.option.Option.{Option}
-use Rattle.mu_io.specs.Files.{Files, file_of}
-use Rattle.cert_check.specs.Scope.{IsInScope, IsOutsideBy}
-use Rattle.cert_check.specs.declared.certificate.Certificate.{Certificate}
-use Rattle.cert_check.specs.declared.certificate_scope.Outside.{Outside}
-use Rattle.qss_trace.specs.declared.trace.Trace.{Trace}
-use Rattle.qss_answers.specs.Answers as Results
-use Rattle.qss_answers.specs.CertificateAnswers.{IsCertification, IsUpgrade}
-use Rattle.qss_answers.specs.declared.refusal.Refusal.TheVariants as reasons
+use Rattle.qss_guarantees.proofs.Common
+use Common.{[], ℕ, ◌++◌, ◌+◌, ◌<◌, ◌∙◌, ◌∷◌, ◌≡◌, ◌⊎◌, Answer, answer_for, answered, Answers}
+use Common.{AnswersFromRun, AnswersOfSource, ap, append-nil, AreContents, arith, Certificate}
+use Common.{certify_model, check_model, Command, command_of, CommandExpects, CommandLineExpects}
+use Common.{compare_runs, compared, comparison_stop_answer, ComparisonAnswers, ComparisonStop}
+use Common.{coupled_model, ExpectedReply, ExpectedResult, file_of, Files, files_of, FirstRunAnswers}
+use Common.{generate_model, given_run, HasNoRunTrace, in_file, inl, inr, IsAnswerFor}
+use Common.{IsCertification, IsCertifyAnswer, IsCheckAnswer, IsCompared, IsGenerationAnswer}
+use Common.{IsInScope, IsJudged, IsMachineAnswer, IsNamedRun, IsOutOfScope, IsOutsideBy}
+use Common.{IsPrintAnswer, IsProposeAnswer, IsRunAnswer, IsScopedMachine, IsSecondAnswer}
+use Common.{IsSourceMachine, IsSourceRefusal, IsSourceTree, IsTreeRefusal, IsUnique}
+use Common.{IsUnusableCertificate, IsUpgrade, IsUpgradeAnswer, IsUsableCertificate, length}
+use Common.{length-append, List, Machine, model_answer, NeedsMore, no_certificate, no_first_run}
+use Common.{no_second_run, None, not_compared, not_outside, Option, Origin, origin_of, Outside}
+use Common.{PairAnswer, plain_options, print_model, propose_model, refl, rejection, run_model}
+use Common.{RunOptions, RunSource, second_model, Some, source, subst, suc, sym, take, text_answer}
+use Common.{Trace, traced as given_trace, upgrade_model}
+use Rattle.std.proofs.Common.{append_assoc}
 use Rattle.qss_guarantees.proofs.OneCertificateAnswer.{one_each}
-use Rattle.qss_answers.proofs.Scopes.{not_outside}
 use Rattle.qss_guarantees.proofs.Bases.{judged_basis}
 use Rattle.qss_guarantees.proofs.Compared.{judged_text}
 use Rattle.qss_guarantees.proofs.OneTraceAnswer.{one_each as one_trace}
 use Rattle.qss_guarantees.proofs.OneProposalAnswer.{one_proposed}
 use Rattle.qss_guarantees.proofs.Scopes.{one_outside}
 use Rattle.qss_guarantees.proofs.Sides.{judged_side}
-use Rattle.qss_answers.specs.Comparisons.{RunSource, traced as given_trace, IsUsableCertificate}
-use Rattle.qss_answers.specs.Comparisons.{IsUnusableCertificate, HasNoRunTrace, IsCompared}
-use Rattle.qss_guarantees.specs.TraceLaws.{IsJudged}
-use Rattle.qss_answers.specs.declared.comparison_ending.ComparisonStop.{ComparisonStop}
-use Rattle.qss_machine.specs.declared.compiled_machine.Machine.{Machine}
-use Rattle.qss_generate.specs.Source.{source}
-use Rattle.qss_cli.specs.Commands.{RunOptions, plain_options, Command, run_model, print_model}
-use Rattle.qss_cli.specs.Commands.{certify_model, upgrade_model, generate_model, check_model}
-use Rattle.qss_cli.specs.Commands.{propose_model, second_model, compare_runs, coupled_model}
-use Rattle.qss_cli.specs.Commands.{command_of, files_of}
-use Rattle.qss_top.specs.MachineAnswers.{Answer, model_answer, IsSourceRefusal, IsTreeRefusal}
-use Rattle.qss_top.specs.MachineAnswers.{IsSourceMachine, IsSourceTree, IsMachineAnswer}
-use Rattle.qss_top.specs.MachineAnswers.{IsRunAnswer, IsPrintAnswer, IsGenerationAnswer}
-use Rattle.qss_top.specs.MachineAnswers.{rejection}
-use Rattle.qss_top.specs.MachineAnswers.{answer_for, IsAnswerFor, IsCertifyAnswer, IsUpgradeAnswer}
-use Rattle.qss_top.specs.MachineAnswers.{IsCheckAnswer, IsProposeAnswer, IsSecondAnswer}
-use Rattle.qss_top.specs.MachineAnswers.{comparison_stop_answer, text_answer}
-use Rattle.qss_top.specs.CommandAnswers.{Answers, NeedsMore, IsOutOfScope, IsScopedMachine, Origin}
-use Rattle.qss_top.specs.CommandAnswers.{given_run, in_file, origin_of, IsGivenBy, IsNamedRun}
-use Rattle.qss_top.specs.CommandAnswers.{ComparisonAnswers, no_certificate, no_first_run}
-use Rattle.qss_top.specs.CommandAnswers.{no_second_run, not_compared, compared}
-use Rattle.qss_top.specs.ComparisonOutcomes.{PairAnswer, AnswersOfSource, AnswersFromRun}
-use Rattle.qss_top.specs.ComparisonOutcomes.{FirstRunAnswers}
-use Rattle.qss_guarantees.specs.ExpectedResults.{ExpectedResult, answered, ExpectedReply}
-use Rattle.qss_guarantees.specs.ExpectedResults.{AreContents}
-use Rattle.qss_guarantees.specs.ExpectedResults.{IsAnswered, LacksFile, CommandExpects}
-use Rattle.qss_guarantees.specs.ExpectedResults.{CommandLineExpects}
-use Rattle.qss_guarantees.specs.AnswerLaws.{AnswersAreUnique, BytesDetermineAnswers, IsUnique}
+use Rattle.qss_top.specs.CommandAnswers.{IsGivenBy}
+use Rattle.qss_guarantees.specs.ExpectedResults.{IsAnswered, LacksFile}
+use Rattle.qss_guarantees.specs.AnswerLaws.{AnswersAreUnique, BytesDetermineAnswers}
 use Rattle.qss_guarantees.proofs.Sources.{one_source_refusal, one_tree_refusal, one_source_machine}
 use Rattle.qss_guarantees.proofs.Sources.{one_source_tree, source_fine, tree_fine}
+use Rattle.qss_answers.specs.Answers as Results
+use Rattle.qss_answers.specs.declared.refusal.Refusal.TheVariants as reasons
 
 -- ---- the answers for a source, a machine or a text
 

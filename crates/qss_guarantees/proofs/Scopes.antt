@@ -1,12 +1,7 @@
 -- A machine is in scope of certificates, or out of scope for exactly one reason.
-use Rattle.std.proofs.Common.{◌≡◌, ◌<◌, ◌≤◌, ◌⊎◌, inl, inr, List, [], ◌∷◌, length, refl, sym, ap}
-use Rattle.std.proofs.Common.{◌∙◌, arith}
-use Rattle.std.proofs.lemmas.Bool.{cases_lt}
-use Rattle.qss_machine.specs.Machines.{state_count}
-use Rattle.qss_machine.specs.declared.machine_parts.ClauseInfo.{ClauseInfo}
-use Rattle.qss_machine.specs.declared.compiled_machine.Machine.{Machine}
-use Rattle.cert_check.specs.Scope.{IsInScope, IsOutsideBy}
-use Rattle.cert_check.specs.declared.certificate_scope.Outside.{Outside}
+use Rattle.qss_guarantees.proofs.Common
+use Common.{[], ◌<◌, ◌∙◌, ◌∷◌, ◌≡◌, ◌≤◌, ◌⊎◌, ap, arith, cases_lt, ClauseInfo, inl, inr, IsInScope}
+use Common.{IsOutsideBy, length, List, Machine, Outside, refl, state_count, sym}
 use Rattle.cert_check.specs.declared.certificate_scope.Outside.TheVariants.{HasClauses, States}
 
 -- a machine is out of scope for at most one reason

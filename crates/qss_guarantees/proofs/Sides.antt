@@ -1,34 +1,25 @@
 -- A run of a comparison: its source determines exactly one trace, or one reason why it has none.
-use Rattle.std.proofs.Common.{◌≡◌, ℕ, zero, suc, ◌+◌, ◌<◌, ◌≤◌, ◌⊎◌, inl, inr, Bool, true}
-use Rattle.std.proofs.Common.{false, ◌≤ℤ◌, refl, sym, ap, ap₂, subst, ◌∙◌, arith, below_more}
-use Rattle.std.proofs.lemmas.Bool.{cases_lt}
+use Rattle.qss_guarantees.proofs.Common
+use Common.{ℕ, ◌+◌, ◌<◌, ◌∙◌, ◌≡◌, ◌≤◌, ◌⊎◌, accepted_fine, ap, ap₂, arith, Bool, cases_lt}
+use Common.{Certificate, ComparisonStop, false, first_order, HasNoRunTrace, inl, inr, int_at}
+use Common.{IsChecked, IsGivenRun, IsInScope, IsJudged, IsOwn, IsRunTrace, Machine, one-trace, refl}
+use Common.{Refusal, RunSource, second_order, state_count, subst, suc, sym, Trace, traced, true}
+use Common.{zero}
+use Rattle.std.proofs.Common.{◌≤ℤ◌, below_more}
 use Rattle.std.proofs.lemmas.Int.{ints}
 use Rattle.std.specs.Prelude.{int_lt}
 use Rattle.mu_num.proofs.Tests.{int_lt-true, int_lt-false}
-use Rattle.qss_machine.specs.Machines.{state_count}
-use Rattle.mu_num.specs.IndexedSums.{int_at}
-use Rattle.qss_machine.specs.declared.compiled_machine.Machine.{Machine}
-use Rattle.cert_check.specs.Scope.{IsInScope}
-use Rattle.cert_check.specs.declared.certificate.Certificate.{Certificate}
-use Rattle.qss_trace.specs.declared.trace.Trace.{Trace}
-use Rattle.qss_trace.proofs.OneTrace.{one-trace}
 use Rattle.qss_own_traces.specs.FirstRuns.{IsFirstTrace, IsFirstRefusal}
 use Rattle.qss_own_traces.specs.SecondRuns.{IsSecondTrace, IsSecondRefusal}
-use Rattle.qss_own_traces.specs.declared.own_trace_draft.TraceOver.TheVariants as overs
 use Rattle.qss_own_traces.proofs.OwnTraces.{some-first, one-first, first-apart, one-first-over}
 use Rattle.qss_own_traces.proofs.OwnTraces.{some-second, one-second, second-apart, one-second-over}
 use Rattle.qss_answers.specs.Answers.{Answer}
-use Rattle.qss_answers.specs.TraceAnswers.{IsChecked}
-use Rattle.qss_answers.specs.Comparisons.{RunSource, first_order, second_order, traced, longest}
-use Rattle.qss_answers.specs.Comparisons.{IsGivenRun, HasQuanta, IsFirstAbove, IsRunTrace, IsOwn}
-use Rattle.qss_answers.specs.Comparisons.{Overflows, IsTraceRefused, HasNoRunTrace}
-use Rattle.qss_guarantees.specs.TraceLaws.{IsJudged}
-use Rattle.qss_answers.specs.declared.comparison_ending.ComparisonStop.{ComparisonStop}
-use Rattle.qss_answers.specs.declared.comparison_ending.ComparisonStop.TheVariants as stops
-use Rattle.qss_answers.specs.declared.refusal.Refusal.{Refusal}
-use Rattle.qss_answers.specs.declared.refusal.Refusal.TheVariants as refusal
+use Rattle.qss_answers.specs.Comparisons.{longest, HasQuanta, IsFirstAbove, Overflows}
+use Rattle.qss_answers.specs.Comparisons.{IsTraceRefused}
 use Rattle.qss_guarantees.proofs.OneTraceAnswer.{one_each, one_refusal}
-use Rattle.qss_answers.proofs.TraceEnds.{accepted_fine}
+use Rattle.qss_own_traces.specs.declared.own_trace_draft.TraceOver.TheVariants as overs
+use Rattle.qss_answers.specs.declared.comparison_ending.ComparisonStop.TheVariants as stops
+use Rattle.qss_answers.specs.declared.refusal.Refusal.TheVariants as refusal
 
 -- ---- quanta
 

@@ -1,23 +1,20 @@
 -- Each source is refused in one way, or gives one machine and one model.
-use Rattle.std.proofs.Common.{◌≡◌, ◌⊎◌, ◌≤◌, ◌^◌, Bool, true, false, ℕ, List, length, refl}
-use Rattle.std.proofs.Common.{sym, ◌∙◌, subst, inl, inr, nat_lt, arith}
-use Rattle.std.specs.Prelude.{MatchBool, nat_le}
-use Rattle.std.proofs.lemmas.Bool.Decides.{nat_tests}
+use Rattle.qss_guarantees.proofs.Common
+use Common.{ℕ, ◌^◌, ◌∙◌, ◌≡◌, ◌≤◌, ◌⊎◌, Answer, arith, Bool, false, inl, inr, IsParseRefusal}
+use Common.{IsRefusalFor, IsRefused, IsSourceMachine, IsSourceRefusal, IsSourceTree, IsTreeRefusal}
+use Common.{length, List, long_for, Machine, MatchBool, nat_lt, nat_tests, refl, refusal, Refused}
+use Common.{subst, sym, too_long, true}
+use Rattle.std.specs.Prelude.{nat_le}
 use Rattle.mu_tree.specs.ModelTree.{ModelTree}
-use Rattle.qss_compile.specs.Compilation.{IsParseRefusal, IsRefused}
-use Rattle.qss_compile.specs.declared.model_refusal.Refused.{Refused}
 use Rattle.qss_compile.proofs.Deciding.{Decides}
 use Rattle.qss_compile.proofs.Existence.{spelled_decides, sources_decided}
 use Rattle.qss_compile.proofs.Singles.{spelled_single, source_single}
 use Rattle.qss_machine.specs.MachineLimits.{HasUnits}
-use Rattle.qss_machine.specs.declared.compiled_machine.Machine.{Machine}
 use Rattle.qss_machine.proofs.Fields.{same_machine}
-use Rattle.qss_top.specs.MachineAnswers.{Answer, refusal, refused, too_long, IsRefusalFor}
-use Rattle.qss_top.specs.MachineAnswers.{IsSourceRefusal, IsTreeRefusal, IsSourceMachine}
-use Rattle.qss_top.specs.MachineAnswers.{IsSourceTree}
+use Rattle.qss_top.specs.MachineAnswers.{refused}
 use Rattle.qss_top.specs.Shares.{IsShared}
+use Rattle.qss_top.proofs.Sources.{short_for}
 use Rattle.qss_top.specs.declared.status.Status.TheVariants as ends
-use Rattle.qss_top.proofs.Sources.{long_for, short_for}
 
 -- ---- refusals
 

@@ -1,21 +1,17 @@
 -- What one statement leaves as it was.
-use Rattle.std.proofs.Common.{◌≡◌, ℕ, ◌+◌, ◌<◌, ◌≤◌, true, List, [], ◌∷◌, length, get_or, take, fold, ℤ, pos, refl, sym, ◌∙◌, ap, arith}
+use Rattle.qss_hand.proofs.Common
+use Common.{[], ℕ, ℤ, ◌+◌, ◌<◌, ◌∙◌, ◌∷◌, ◌≡◌, ◌≤◌, Action, ap, AreValuesOf, arith, fold, get_or}
+use Common.{HandlerState, handling_of, if_cases, is_some, length, length-append, length-set, List}
+use Common.{Machine, None, pos, refl, Reinit, Row, run_action, Set, Some, sym, take, true, Values}
+use Common.{values_after}
 use Rattle.std.proofs.lemmas.List.Elements.{All-set}
-use Rattle.std.proofs.lemmas.List.{length-set, length-append}
 use Rattle.std.proofs.lemmas.List.Folds.{fold_stuck}
 use Rattle.std.proofs.lemmas.List.Sums.{fold_more}
-use Rattle.std.specs.Prelude.{is_some, Option, Some, None}
+use Rattle.std.specs.Prelude.{Option}
 use Rattle.mu_num.specs.Sizes.{IsWithin, exceeds}
 use Rattle.mu_num.proofs.SizeTests.{passes-within}
-use Rattle.mu_num.proofs.Tests.{if_cases}
-use Rattle.qss_machine.specs.declared.machine_parts.Action.{Action}
-use Rattle.qss_machine.specs.declared.machine_parts.Action.TheVariants.{Set, Reinit}
-use Rattle.qss_machine.specs.declared.machine_parts.Row.{Row}
+use Rattle.qss_machine.specs.Handlers.{assigned_value, assign}
 use Rattle.qss_machine.specs.declared.machine_parts.RowKind.TheVariants as kind
-use Rattle.qss_machine.specs.declared.compiled_machine.Machine.{Machine}
-use Rattle.qss_machine.specs.Handlers.{HandlerState, assigned_value, assign, run_action}
-use Rattle.qss_hand.specs.Values.{Values}
-use Rattle.qss_hand.specs.Works.{AreValuesOf, handling_of, values_after}
 
 module _ (m : Machine) (w : Values) where
   fits_assign : (tick : ℕ) (action : Action) (z : ℤ) → AreValuesOf m w → AreValuesOf m (values_after w (assign m tick (handling_of w) action z))

@@ -1,15 +1,15 @@
 -- Values that follow at the assigned places, and places that are assigned.
-use Rattle.std.proofs.Common.{◌≡◌, ◌≢◌, ℕ, ◌+◌, ◌<◌, Bool, true, false, ◌||◌, List, [], ◌∷◌, ◌++◌, length, get_or, drop, set, ℤ, pos, sym, ◌∙◌, ap, inl, inr, ◌⊎◌, arith, ◌==◌}
+use Rattle.qss_hand.proofs.Common
+use Common.{[], ℕ, ℤ, ◌++◌, ◌+◌, ◌<◌, ◌==◌, ◌∙◌, ◌∷◌, ◌≡◌, ap, AreSameBut, arith, Bool, drop}
+use Common.{drop_more, false, get_or, int_at, length, length-set, List, list_any, pos, Row, set}
+use Common.{sym, true, Values}
+use Rattle.std.proofs.Common.{◌≢◌, ◌||◌, inl, inr, ◌⊎◌}
 use Rattle.std.proofs.lemmas.Bool.{cases_eq, or_parts}
-use Rattle.std.proofs.lemmas.List.{length-set, get_or-set_same, get_or-set_other, drop_more}
+use Rattle.std.proofs.lemmas.List.{get_or-set_same, get_or-set_other}
 use Rattle.std.proofs.lemmas.List.Elements.{All-push}
 use Rattle.std.proofs.lemmas.List.Folds.{list_any-append}
-use Rattle.std.specs.List.{list_any}
 use Rattle.mu_num.proofs.Tests.{eqb-yes, eqb-no}
-use Rattle.qss_machine.specs.declared.machine_parts.Row.{Row}
-use Rattle.mu_num.specs.IndexedSums.{int_at}
-use Rattle.qss_hand.specs.Values.{Values}
-use Rattle.qss_hand.specs.Assigned.{AreSameBut, KnowsAssigned}
+use Rattle.qss_hand.specs.Assigned.{KnowsAssigned}
 
 -- one more value follows
 pub same_more : (places : List ℕ) (i : ℕ) (values before : List ℤ) → i < length places → get_or places i 0 < length before → AreSameBut (drop i places) values before →

@@ -1,10 +1,10 @@
 -- The conditions of branches, clause by clause.
-use Rattle.std.proofs.Common.{◌≡◌, ℕ, zero, suc, ◌+◌, ◌-◌, ◌<◌, List, [], ◌∷◌, length, get_or, map, take, pos, ◌∙◌, ap, arith}
-use Rattle.std.proofs.lemmas.List.{get_or-map, get_or_append_left, get_or-append_right, length-map}
-use Rattle.std.proofs.lemmas.List.Sums.{sum_by-cons}
-use Rattle.std.specs.List.{flat_map, sum_by}
-use Rattle.qss_machine.specs.declared.machine_parts.BranchInfo.{BranchInfo}
-use Rattle.qss_machine.specs.declared.machine_parts.ClauseInfo.{ClauseInfo}
+use Rattle.qss_hand.proofs.Common
+use Common.{[], ℕ, ◌+◌, ◌<◌, ◌∙◌, ◌∷◌, ◌≡◌, ap, arith, BranchInfo, ClauseInfo, flat_map, get_or}
+use Common.{length, length-map, List, map, pos, suc, sum_by-cons, take, zero}
+use Rattle.std.proofs.Common.{◌-◌}
+use Rattle.std.proofs.lemmas.List.{get_or-map, get_or_append_left, get_or-append_right}
+use Rattle.std.specs.List.{sum_by}
 use Rattle.qss_machine.specs.declared.machine_parts.Condition.{Condition}
 use Rattle.qss_machine.specs.declared.machine_parts.Rel.TheVariants.{Less}
 

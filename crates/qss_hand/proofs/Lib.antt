@@ -1,3 +1,4 @@
+mod Common
 pub mod Targets
 pub mod Branches
 pub mod AfterStatements

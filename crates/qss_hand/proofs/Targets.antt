@@ -1,9 +1,7 @@
 -- What statements assign.
-use Rattle.std.proofs.Common.{ℕ, ◌+◌, ◌<◌, ◌≤◌, arith}
+use Rattle.qss_hand.proofs.Common.{ℕ, ◌+◌, ◌<◌, ◌≤◌, arith, Form, Reinit, Set}
 use Rattle.std.proofs.lemmas.Bool.Decides.{nat_tests}
 use Rattle.std.specs.Prelude.{IsTrue}
-use Rattle.qss_machine.specs.declared.machine_parts.Action.TheVariants.{Set, Reinit}
-use Rattle.qss_machine.specs.declared.machine_parts.Form.{Form}
 use Rattle.qss_machine.specs.MachineLimits.{has_target}
 
 -- of n states and g discrete variables, one of the latter

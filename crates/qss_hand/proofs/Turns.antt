@@ -1,18 +1,15 @@
 -- Clauses at their turns.
-use Rattle.std.proofs.Common.{◌≡◌, ℕ, zero, suc, ◌+◌, ◌<◌, ◌≤◌, Bool, true, false, List, [], ◌∷◌, ◌++◌, length, get_or, take, drop, map, fold, ℤ, refl, sym, ◌∙◌, ap, arith}
-use Rattle.std.proofs.lemmas.List.{length-append, length-map, drop-drop, drop_more}
-use Rattle.std.proofs.lemmas.List.Sums.{sum_by-cons, sum_by-drop_more}
-use Rattle.std.specs.List.{flat_map, sum_by}
-use Rattle.std.specs.Prelude.{Some, None, is_some, All}
-use Rattle.mu_num.proofs.Tests.{if_cases}
-use Rattle.qss_machine.specs.declared.machine_parts.Action.{Action}
-use Rattle.qss_machine.specs.declared.machine_parts.BranchInfo.{BranchInfo}
-use Rattle.qss_machine.specs.declared.machine_parts.ClauseInfo.{ClauseInfo}
-use Rattle.qss_machine.specs.declared.compiled_machine.Machine.{Machine}
-use Rattle.qss_machine.specs.Handlers.{HandlerState, conditions, run_action, fire_row, run_branch, run_first_due, run_clause, run_clauses}
+use Rattle.qss_hand.proofs.Common
+use Common.{[], ℕ, ℤ, ◌++◌, ◌+◌, ◌<◌, ◌∙◌, ◌∷◌, ◌≡◌, ◌≤◌, Action, All, ap, arith, Bool, BranchInfo}
+use Common.{ClauseInfo, drop, drop_more, false, flat_map, fold, get_or, HandlerState, if_cases}
+use Common.{is_some, IsClause, item_count, length, length-append, length-map, List, Machine, map}
+use Common.{None, refl, row_room, run_action, Some, suc, sum_by-cons, sym, take, true, zero}
+use Rattle.std.proofs.lemmas.List.{drop-drop}
+use Rattle.std.proofs.lemmas.List.Sums.{sum_by-drop_more}
+use Rattle.std.specs.List.{sum_by}
+use Rattle.qss_machine.specs.Handlers.{conditions, fire_row, run_branch, run_first_due, run_clause}
+use Rattle.qss_machine.specs.Handlers.{run_clauses}
 use Rattle.mu_num.specs.ListedPlaces.{flag_at}
-use Rattle.qss_machine.specs.MachineLimits.{IsClause, item_count}
-use Rattle.qss_hand.specs.Works.{row_room}
 use Rattle.qss_hand.specs.Rooms.{clause_room}
 use Rattle.qss_hand.proofs.AfterStatements.{rows_action}
 use Rattle.qss_hand.proofs.Branches.{width_of}

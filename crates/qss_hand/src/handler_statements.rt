@@ -10,8 +10,8 @@ use crate::work::Work;
 use mu_num::{LEVEL_BITS, STATE_BITS, exceeds_power_of_two, near_div, unit};
 use qss_machine::{Action, Form, Machine, Row, RowKind};
 
-/// The error of an assignment whose value exceeds its limit: 2^43 in absolute value for a discrete
-/// variable, 2^88 for a state. `var` is the index of the variable.
+/// The error of a value that exceeds its limit: 2^43 in absolute value for a discrete variable, 2^88
+/// for a state. `var` is the index of the variable.
 #[derive(Clone, Copy, PartialEq, Eq, Debug, Drop)]
 pub struct Over {
     pub var: u32,

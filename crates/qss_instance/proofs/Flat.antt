@@ -3,13 +3,12 @@ use Rattle.std.proofs.Common.{◌≡◌, ℕ, zero, suc, ◌<◌, ◌≤◌, Boo
 use Rattle.std.proofs.Common.{refl, ap, sym, ◌∙◌, subst, pos, neg_ℤ, Some, None, lit≤, arith}
 use Rattle.std.specs.Prelude.{codes, slice_get, Result, Ok, Err, nat_lt, unwrap_or, cond, ◌==◌}
 use Rattle.std.specs.Prelude.{if◌then◌else◌}
-use Rattle.std.specs.Ordering.{is_eq}
+use Rattle.std.specs.Ordering.{is_eq, nat_cmp}
 use Rattle.std.specs.declared.cmp.Ordering.TheVariants.{Less, Equal, Greater}
 use Rattle.std.specs.List.Sorted.{IsStrictlySortedBy}
 use Rattle.std.proofs.lemmas.Bool.{eqb-true}
 use borrow.Author.Tests.{ltb-true}
 use Rattle.mu_num.proofs.Powers.{whole_is_reduced}
-use Rattle.std.specs.Ordering.{nat_cmp}
 use Rattle.std.proofs.Math.Path.{fun_ext}
 use Rattle.mu_num.specs.Fraction.{Fraction, whole, sum, difference, product, lowest}
 use Rattle.mu_num.specs.Fraction.{least_denominator, least_multiplier, IsReduced}

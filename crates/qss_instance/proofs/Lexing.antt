@@ -9,12 +9,12 @@ use Rattle.std.proofs.Math.Seq.{take-add}
 use Rattle.mu_lexer.specs.declared.token.Kind.{Kind}
 use Rattle.mu_lexer.specs.declared.token.Token.{Token}
 use Rattle.mu_lexer.specs.declared.lexer.Phase.{Phase}
-use Rattle.mu_lexer.specs.declared.lexer.Phase.TheVariants as phase
-use Rattle.mu_lexer.specs.declared.lexer.NextItem.TheVariants as standing
 use Rattle.mu_lexer.specs.Automaton.{next, ending, run, kind_from, named, kind_of}
 use Rattle.mu_lexer.specs.Tokens.{begins_blank, begins_comment, IsLongest, Reads, stay, blank}
 use Rattle.mu_lexer.specs.Tokens.{token}
 use Rattle.mu_lexer.proofs.TokenKinds.{spelled_kind, kind_spelled}
+use Rattle.mu_lexer.specs.declared.lexer.Phase.TheVariants as phase
+use Rattle.mu_lexer.specs.declared.lexer.NextItem.TheVariants as standing
 
 -- one more token, if the automaton stops behind it
 abbrev pub with_token : ℕ → ℕ → Option Kind → Option Phase → Option (List Token) → Option

@@ -6,11 +6,7 @@ use Rattle.mu_num.specs.Decimal.{decimal_value, scaled_value, is_in_range, zeros
 use Rattle.mu_lexer.specs.declared.token.Kind.TheVariants.{Number as number, Ident, Word, Mark}
 use Rattle.mu_lexer.specs.declared.token.Kind.{Kind}
 use Rattle.mu_lexer.specs.declared.token.Token.{Token}
-use Rattle.mu_lexer.specs.declared.token.Word.TheVariants as words
-use Rattle.mu_lexer.specs.declared.token.Mark.TheVariants as marks
 use Rattle.mu_lexer.specs.Tokens.{AreTokens}
-use Rattle.mu_tree.specs.declared.tree.Prefix.TheVariants as prefixes
-use Rattle.mu_tree.specs.declared.tree.SettingName.TheVariants as settings
 use Rattle.mu_tree.specs.Expression.{Number, Variable, Whole, Sum, Product, no_terms, term}
 use Rattle.mu_tree.specs.Expression.{no_factors, factor}
 use Rattle.mu_tree.specs.ModelTree.{ModelTree, Derivative}
@@ -23,6 +19,10 @@ use Rattle.qss_instance.proofs.Decay.{machine}
 use Rattle.qss_instance.proofs.Flat.{flat, flat_settings, flat_compiles}
 use Rattle.qss_instance.specs.DecayInstance.{decay_source}
 use Rattle.qss_instance.proofs.Lexing.{tokens_in, read_in}
+use Rattle.mu_lexer.specs.declared.token.Word.TheVariants as words
+use Rattle.mu_lexer.specs.declared.token.Mark.TheVariants as marks
+use Rattle.mu_tree.specs.declared.tree.Prefix.TheVariants as prefixes
+use Rattle.mu_tree.specs.declared.tree.SettingName.TheVariants as settings
 
 -- the lengths of the tokens, with 0 for each blank
 abbrev items : List ℕ

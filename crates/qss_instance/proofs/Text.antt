@@ -5,10 +5,10 @@ use Rattle.std.specs.Prelude.{codes}
 use Rattle.csv.specs.Machine.{Read, next_record}
 use Rattle.csv.specs.Reading.{Reached, AreRecords, default_config, strip_bom}
 use Rattle.csv.specs.declared.parser.State.{State}
-use Rattle.csv.specs.declared.parser.State.TheVariants as st
 use Rattle.cert_check.specs.CertificateTexts.{IsCutInto, AreInForm, IsTextOf}
 use Rattle.qss_instance.specs.DecayInstance.{decay_certificate}
 use Rattle.qss_instance.proofs.Decay.{machine, certificate}
+use Rattle.csv.specs.declared.parser.State.TheVariants as st
 
 -- a record, and the records behind it
 abbrev with_rest : List (List ℕ) → Option (List (List (List ℕ))) → Option (List (List (List ℕ)))

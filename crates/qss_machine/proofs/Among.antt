@@ -1,16 +1,10 @@
 -- The numbers in a list of indices.
-use Rattle.std.proofs.Common.{◌≡◌, ℕ, zero, suc, ◌+◌, ◌<◌, Bool, true, false, ◌&&◌, List, [], ◌∷◌, ◌++◌, length, get_or, take, pos, refl, sym, ◌∙◌, ap, arith, append-nil, ◌==◌}
+use Rattle.qss_machine.proofs.Common
+use Common.{[], ℕ, ◌&&◌, ◌++◌, ◌+◌, ◌<◌, ◌==◌, ◌||◌, ◌∙◌, ◌∷◌, ◌≡◌, ap, append-nil, arith, Bool}
+use Common.{eqb-no, eqb-yes, false, flat_map, flat_map-append, get_or, if◌then◌else◌, is_listed}
+use Common.{length, List, list_any, list_any-append, Machine, places_from, pos, reading_rows, refl}
+use Common.{row_at, row_reads, state_count, suc, sym, take, take_more, true, zero}
 use Rattle.std.proofs.lemmas.Bool.{or_from, and_right}
-use Rattle.std.proofs.lemmas.Grind.{flat_map-append}
-use Rattle.std.proofs.lemmas.List.{take_more}
-use Rattle.std.proofs.lemmas.List.Folds.{list_any-append}
-use Rattle.std.specs.List.{list_any}
-use Rattle.std.specs.Prelude.{◌||◌, flat_map, if◌then◌else◌}
-use Rattle.mu_num.proofs.Tests.{eqb-yes, eqb-no}
-use Rattle.qss_machine.specs.declared.compiled_machine.Machine.{Machine}
-use Rattle.qss_machine.specs.Machines.{state_count, row_at}
-use Rattle.qss_machine.specs.Readers.{row_reads, places_from, reading_rows}
-use Rattle.mu_num.specs.ListedPlaces.{is_listed}
 
 among_if : (b : Bool) (i : ℕ) (rest : List ℕ) (place : ℕ) → is_listed (if b then i ∷ rest else rest) place ≡ ((b && (i == place)) || is_listed rest place)
 among_if true i rest place = refl

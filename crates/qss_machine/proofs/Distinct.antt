@@ -1,17 +1,10 @@
 -- A variable has at most one entry of rising ones.
-use Rattle.std.proofs.Common.{◌≡◌, ℕ, zero, suc, ◌<◌, Bool, true, false, List, [], ◌∷◌, length, get_or, map, ℤ, pos, ◌+ℤ◌, refl, sym, ◌∙◌, ap, arith, add-one, ◌≢◌, inl, inr, ◌==◌, ◌⊎◌}
-use Rattle.std.proofs.Math.IntN.{+ℤ_idl, +ℤ_idr}
-use Rattle.std.proofs.lemmas.Int.{ints}
-use Rattle.std.proofs.lemmas.Bool.{cases_eq}
-use Rattle.std.proofs.lemmas.List.{get_or-map, length-map}
-use Rattle.std.proofs.lemmas.List.Elements.{All-head, All-tail}
-use Rattle.std.specs.Prelude.{All, slice_index, if◌then◌else◌}
-use Rattle.std.specs.List.Sorted.{IsStrictlyIncreasing}
-use Rattle.mu_num.proofs.Tests.{if-true, if-false, eqb-yes, eqb-no}
-use Rattle.qss_machine.specs.declared.machine_parts.Entry.{Entry}
-use Rattle.mu_num.specs.Sizes.{IsWithin}
-use Rattle.mu_num.specs.IndexedSums.{abs_of, sum_over}
-use Rattle.qss_machine.specs.Slopes.{coefficient_of}
+use Rattle.qss_machine.proofs.Common
+use Common.{+ℤ_idl, +ℤ_idr, [], ℕ, ℤ, ◌+ℤ◌, ◌<◌, ◌==◌, ◌∙◌, ◌∷◌, ◌≡◌, ◌≢◌, ◌⊎◌, abs_of, add-one}
+use Common.{All, All-head, All-tail, ap, arith, Bool, cases_eq, coefficient_of, Entry, eqb-no}
+use Common.{eqb-yes, false, get_or, get_or-map, if-false, if-true, if◌then◌else◌, inl, inr, ints}
+use Common.{IsStrictlyIncreasing, IsWithin, length, length-map, List, map, pos, refl, slice_index}
+use Common.{suc, sum_over, sym, true, zero}
 use Rattle.mu_num.proofs.RisingNumbers.{rising_rest}
 
 -- the first is below each later one

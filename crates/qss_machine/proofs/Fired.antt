@@ -1,27 +1,21 @@
 -- Branches fire only where they are due.
-use Rattle.std.proofs.Common.{◌≡◌, ℕ, zero, suc, ◌+◌, ◌<◌, Bool, true, false, ◌&&◌, ◌||◌, List, [], ◌∷◌, ◌++◌, length, get_or, take, drop, fold, ℤ, pos, refl, sym, ◌∙◌, ap, arith, inl, inr, ◌⊎◌, ◌==◌, add-zero, zero-add, suc-add, add_assoc}
-use Rattle.std.proofs.lemmas.List.Folds.{list_any-append}
-use Rattle.std.proofs.lemmas.List.Sums.{sum_by-cons}
-use Rattle.std.proofs.lemmas.Bool.Decides.{nat_tests}
-use Rattle.std.proofs.lemmas.List.{length-map}
-use Rattle.std.specs.Prelude.{None, Ok, is_some}
-use Rattle.mu_num.proofs.Tests.{if_cases, eqb-true}
-use Rattle.qss_machine.specs.declared.machine_parts.Action.{Action}
-use Rattle.qss_machine.specs.declared.machine_parts.Action.TheVariants.{Set, Reinit}
-use Rattle.qss_machine.specs.declared.machine_parts.BranchInfo.{BranchInfo}
-use Rattle.qss_machine.specs.declared.machine_parts.ClauseInfo.{ClauseInfo}
-use Rattle.qss_machine.specs.declared.machine_parts.Row.{Row}
-use Rattle.qss_machine.specs.declared.machine_parts.RowKind.TheVariants as kind
-use Rattle.qss_machine.specs.declared.compiled_machine.Machine.{Machine}
-use Rattle.mu_num.specs.Sizes.{exceeds}
-use Rattle.mu_num.specs.IndexedSums.{first_exceeding}
-use Rattle.qss_machine.specs.Handlers.{HandlerState, conditions, truths, firing_flags, assigned_value, assign, run_action, run_branch, fire_row, run_first_due, run_clause, run_clauses}
-use Rattle.qss_machine.specs.Ticks.{Snapshot, start_snapshot, moved_states, handlers_at, IsStepBy, IsFreeLevel}
-use Rattle.qss_machine.specs.Runs.{IsFreeExecution, last_snapshot}
-use Rattle.qss_machine.specs.Machines.{truth, start_states, start_discretes}
+use Rattle.qss_machine.proofs.Common
+use Common.{[], ℕ, ℤ, ◌&&◌, ◌++◌, ◌+◌, ◌<◌, ◌==◌, ◌||◌, ◌∙◌, ◌∷◌, ◌≡◌, ◌⊎◌, Action, add-zero, ap}
+use Common.{arith, assign, assigned_value, Bool, BranchInfo, ClauseInfo, conditions, drop, eqb-true}
+use Common.{exceeds, false, firing_flags, first_exceeding, fold, get_or, handlers_at, HandlerState}
+use Common.{if_cases, inl, inr, is_some, IsFreeExecution, IsFreeLevel, IsStepBy, last_snapshot}
+use Common.{length, length-map, List, list_any-append, Machine, moved_states, nat_tests, None, Ok}
+use Common.{pos, refl, Reinit, Row, run_action, run_clauses, run_first_due, Set, Snapshot}
+use Common.{start_discretes, start_snapshot, start_states, suc, sum_by-cons, sym, take, true}
+use Common.{truths, zero, zero-add}
+use Rattle.std.proofs.Common.{suc-add, add_assoc}
+use Rattle.qss_machine.specs.Handlers.{run_branch, fire_row, run_clause}
+use Rattle.qss_machine.specs.Machines.{truth}
 use Rattle.qss_machine.proofs.Near.{step_facts}
-use Rattle.qss_machine.specs.Firing.{due_at, is_firing_row, has_fired, first_place, IsFirstDue, HasTruths, BranchesFireWhenDue}
+use Rattle.qss_machine.specs.Firing.{due_at, is_firing_row, has_fired, first_place, IsFirstDue}
+use Rattle.qss_machine.specs.Firing.{HasTruths, BranchesFireWhenDue}
 use Rattle.mu_num.specs.ListedPlaces.{flag_at}
+use Rattle.qss_machine.specs.declared.machine_parts.RowKind.TheVariants as kind
 
 -- ---- flags
 

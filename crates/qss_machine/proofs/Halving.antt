@@ -1,15 +1,13 @@
 -- What halving finds among entries by rising variable.
-use Rattle.std.proofs.Common.{◌≡◌, ℕ, ◌+◌, ◌-◌, ◌<◌, ◌≤◌, List, length, get_or, map, Result, Ok, Err, pos, sym, subst, arith, inl, inr}
-use Rattle.std.proofs.lemmas.Bool.{cases_lt}
-use Rattle.std.proofs.lemmas.Bool.Decides.{nat_tests}
+use Rattle.qss_machine.proofs.Common
+use Common.{ℕ, ◌+◌, ◌-◌, ◌<◌, ◌≡◌, ◌≤◌, arith, cases_lt, coefficient_of, Entry, Err, get_or}
+use Common.{get_or-map, inl, inr, IsStrictlyIncreasing, length, length-map, List, map, nat_tests}
+use Common.{Ok, pos, Result, slice_index, subst, sym}
 use Rattle.std.proofs.lemmas.Cmp.{ranked}
-use Rattle.std.proofs.lemmas.List.{get_or-map, length-map}
 use Rattle.std.proofs.lemmas.List.Sorted.{IsNonDecreasingBy-from_default}
-use Rattle.std.specs.Prelude.{MatchResult, slice_index}
+use Rattle.std.specs.Prelude.{MatchResult}
 use Rattle.std.specs.Ordering.{nat_cmp, ordering_index}
-use Rattle.std.specs.List.Sorted.{IsStrictlyIncreasing, IsSearchInRange, IsBinarySearchResult, IsNonDecreasingBy}
-use Rattle.qss_machine.specs.declared.machine_parts.Entry.{Entry}
-use Rattle.qss_machine.specs.Slopes.{coefficient_of}
+use Rattle.std.specs.List.Sorted.{IsSearchInRange, IsBinarySearchResult, IsNonDecreasingBy}
 use Rattle.qss_machine.proofs.Distinct.{none_at, coefficient_at}
 use Rattle.qss_machine.proofs.ProductStates.{rising_to}
 

@@ -1,18 +1,15 @@
 -- The rows and the conditions that read each variable.
-use Rattle.std.proofs.Common.{◌≡◌, ℕ, zero, suc, ◌+◌, ◌<◌, ◌≤◌, Bool, true, false, List, [], ◌∷◌, ◌++◌, length, get_or, flat_map, ℤ, refl, sym, ◌∙◌, ap, subst, arith, inl, inr}
-use Rattle.std.proofs.lemmas.Bool.{cases_lt}
-use Rattle.std.proofs.lemmas.List.Elements.{All-nil, All-cons, All-head, All-tail}
-use Rattle.std.proofs.lemmas.List.FromFn.{length-map-range_with_len, get_or-map-range_with_len}
-use Rattle.std.specs.Prelude.{All, if◌then◌else◌}
-use Rattle.std.specs.List.Sorted.{IsStrictlyIncreasing}
+use Rattle.qss_machine.proofs.Common
+use Common.{[], ℕ, ℤ, ◌++◌, ◌+◌, ◌<◌, ◌∙◌, ◌∷◌, ◌≡◌, ◌≤◌, All, All-cons, All-head, All-nil}
+use Common.{All-tail, ap, arith, Bool, cases_lt, condition_reads, conditions, discrete_count, false}
+use Common.{flat_map, get_or, get_or-map-range_with_len, if◌then◌else◌, inl, inr, is_listed}
+use Common.{IsStrictlyIncreasing, length, length-map-range_with_len, List, Machine, places_from}
+use Common.{reading_coefficients, reading_conditions, reading_rows, refl, row_reads, state_count}
+use Common.{subst, sym, true, uses_of}
 use Rattle.mu_num.proofs.RisingNumbers.{rising_cons}
 use Rattle.mu_num.proofs.Writes.{among_at}
-use Rattle.mu_num.specs.ListedPlaces.{is_listed, AreRisingBelow}
+use Rattle.mu_num.specs.ListedPlaces.{AreRisingBelow}
 use Rattle.qss_machine.proofs.Among.{before_first}
-use Rattle.qss_machine.specs.declared.compiled_machine.Machine.{Machine}
-use Rattle.qss_machine.specs.Handlers.{conditions}
-use Rattle.qss_machine.specs.Machines.{state_count, discrete_count}
-use Rattle.qss_machine.specs.Readers.{row_reads, condition_reads, places_from, reading_rows, reading_conditions, reading_coefficients, uses_of}
 
 if_below : (n : ℕ) (b : Bool) (first : ℕ) (rest : List ℕ) → first < n → All (λ k. k < n) rest → All (λ k. k < n) (if b then first ∷ rest else rest)
 if_below n true first rest h all = All-cons (λ k. k < n) first rest h all

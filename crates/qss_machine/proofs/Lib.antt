@@ -1,3 +1,4 @@
+mod Common
 mod WorkedRows
 pub mod Near
 pub mod Admitted

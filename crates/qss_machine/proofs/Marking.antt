@@ -1,19 +1,16 @@
 -- How lists of places grow.
-use Rattle.std.proofs.Common.{◌≡◌, ℕ, suc, ◌+◌, ◌<◌, Bool, true, false, List, [], ◌∷◌, ◌++◌, length, get_or, set, refl, sym, ◌∙◌, ap, subst, arith, append-nil, ◌==◌}
-use Rattle.std.specs.Prelude.{◌||◌, All, if◌then◌else◌}
-use Rattle.std.proofs.lemmas.List.{get_or-set_other, length-set}
+use Rattle.qss_machine.proofs.Common
+use Common.{[], ℕ, ◌++◌, ◌+◌, ◌<◌, ◌==◌, ◌||◌, ◌∙◌, ◌∷◌, ◌≡◌, All, All-cons, All-nil, ap}
+use Common.{append-nil, arith, Bool, BranchInfo, Collects, Condition, condition_reads, eqb-true}
+use Common.{false, fill_by_all, get_or, get_or-map, Global, if◌then◌else◌, length, length-append}
+use Common.{length-map, List, map, map-append, MarksBy, places_from, refl, set, subst, suc, sym}
+use Common.{tabulate, take, take_more, true, Vec, zero-add}
+use Rattle.std.proofs.lemmas.List.{get_or-set_other, length-set, map-set, length-take-le}
+use Rattle.std.proofs.lemmas.List.{append_assoc}
 use Rattle.std.proofs.lemmas.Grind.{get_or-set_at}
 use Rattle.std.proofs.Math.Bool.{or_assoc}
-use Rattle.mu_num.proofs.Tests.{eqb-true, eqb-false}
-use Rattle.std.proofs.Common.{Vec, Global, map, take, zero-add}
-use Rattle.std.proofs.lemmas.List.{get_or-map, length-map, map-set, length-append, length-take-le, take_more, append_assoc, map-append}
-use Rattle.std.proofs.lemmas.List.FromFn.{fill_by_all}
-use Rattle.std.proofs.lemmas.List.Elements.{All-nil, All-cons}
-use Rattle.qss_machine.specs.declared.machine_parts.BranchInfo.{BranchInfo}
-use Rattle.qss_machine.specs.declared.machine_parts.Condition.{Condition}
-use Rattle.mu_num.specs.IndexedSums.{tabulate}
-use Rattle.qss_machine.specs.Readers.{places_from, condition_reads}
-use Rattle.qss_machine.specs.Marks.{AppendsOnce, IsMarked, MarksBy, Collects}
+use Rattle.mu_num.proofs.Tests.{eqb-false}
+use Rattle.qss_machine.specs.Marks.{AppendsOnce, IsMarked}
 use Rattle.qss_machine.proofs.Places.{places-append}
 
 or-true : (a : Bool) → a || true ≡ true

@@ -1,15 +1,11 @@
 -- The test of a row's mode coefficients, place by place.
-use Rattle.std.proofs.Common.{◌≡◌, ℕ, ◌^◌, ◌≤◌, ◌<◌, Bool, true, false, [], length, ℤ, pos, refl, ◌∙◌, ap, arith, not}
-use Rattle.std.proofs.lemmas.List.FromFn.{length-map-range_with_len, get_or-map-range_with_len}
+use Rattle.qss_machine.proofs.Common
+use Common.{[], ℕ, ℤ, ◌<◌, ◌^◌, ◌∙◌, ◌≡◌, ◌≤◌, ap, arith, Bool, exceeds, false}
+use Common.{get_or-map-range_with_len, IsWithin, length, length-map-range_with_len, Machine}
+use Common.{nat_tests, not, pos, refl, state_count, tabulate, true, unsigned_abs}
 use Rattle.std.proofs.lemmas.List.Recursion.{and_from_places, and_fails_at}
-use Rattle.std.proofs.lemmas.Bool.Decides.{nat_tests}
 use Rattle.std.specs.List.{list_all}
-use Rattle.std.specs.Int.RustNames.{unsigned_abs}
-use Rattle.mu_num.specs.Sizes.{IsWithin, exceeds}
-use Rattle.mu_num.specs.IndexedSums.{tabulate}
-use Rattle.qss_machine.specs.declared.compiled_machine.Machine.{Machine}
 use Rattle.qss_machine.specs.Legitimate.{start_coefficient}
-use Rattle.qss_machine.specs.Machines.{state_count}
 
 pub fits_false : (n i : ℕ) (f : ℕ → ℤ) → i < n → exceeds 44 (f i) ≡ true → list_all (λ z. not (exceeds 44 z)) (tabulate n f) ≡ false
 fits_false n i f h e =

@@ -1,26 +1,21 @@
 -- States stay near their levels.
-use Rattle.std.proofs.Common.{◌≡◌, ℕ, zero, suc, ◌+◌, ◌*◌, ◌^◌, ◌≤◌, ◌<◌, true, List, [], ◌∷◌, ℤ, pos, negsuc, ◌+ℤ◌, ◌-ℤ◌, ◌*ℤ◌, ◌≤ℤ◌, ◌<ℤ◌, inl, inr, refl, sym, subst, arith}
-use Rattle.std.proofs.Math.Nat.{mul-le-mul_left, mul-le-mul_right}
-use Rattle.std.proofs.Math.Pow.{pow_pos, pow_mono}
-use Rattle.std.proofs.lemmas.Int.{ints, clamps, unsigned_abs-mul}
-use Rattle.std.proofs.lemmas.List.{get_or-map, length-map}
-use Rattle.std.specs.Int.RustNames.{unsigned_abs}
-use Rattle.std.specs.Prelude.{Option, Some, None, Ok}
-use Rattle.std.specs.Option.{option_or}
+use Rattle.qss_machine.proofs.Common
+use Common.{[], ℕ, ℤ, ◌*ℤ◌, ◌*◌, ◌+ℤ◌, ◌+◌, ◌-ℤ◌, ◌<ℤ◌, ◌<◌, ◌^◌, ◌∷◌, ◌≡◌, ◌≤ℤ◌, ◌≤◌, arith}
+use Common.{clamps, first_exceeding, get_or-map, handlers_at, inl, inr, int_at, ints}
+use Common.{is_within_quantum, IsFreeExecution, IsFreeLevel, IsStepBy, IsWithinOneLevel}
+use Common.{IsWithinQuantum, last_snapshot, length-map, level_below, level_unit, List, Machine}
+use Common.{moved_states, mul-le-mul_left, mul-le-mul_right, negsuc, None, Ok, Option, option_or}
+use Common.{pos, pow_mono, quanta, quantum_of, refl, slope_at, Snapshot, snapshot_unless, Some}
+use Common.{start_snapshot, start_states, state_count, StateInfo, subst, suc, sym, true, truths}
+use Common.{unsigned_abs, unsigned_abs-mul, zero}
+use Rattle.std.proofs.Math.Pow.{pow_pos}
 use Rattle.mu_num.specs.Rounding.{floor_of}
 use Rattle.mu_num.specs.Sizes.{IsPositiveWithin}
 use Rattle.mu_num.proofs.Integers.{mul-sub}
 use Rattle.mu_num.proofs.Tests.{int_lt-true}
 use Rattle.mu_num.proofs.Quotients.{floor_meets}
-use Rattle.qss_machine.specs.declared.machine_parts.StateInfo.{StateInfo}
-use Rattle.qss_machine.specs.declared.compiled_machine.Machine.{Machine}
-use Rattle.mu_num.specs.IndexedSums.{int_at, first_exceeding}
-use Rattle.mu_num.specs.Levels.{level_below, IsWithinOneLevel}
-use Rattle.qss_machine.specs.Machines.{state_count, level_unit, quanta, quantum_of, slope_at, start_states}
-use Rattle.qss_machine.specs.Handlers.{truths}
-use Rattle.qss_machine.specs.Ticks.{Snapshot, start_snapshot, handlers_at, moved_states, AreLevelsBy, is_within_quantum, snapshot_unless, IsStepBy, IsFreeLevel}
-use Rattle.qss_machine.specs.Runs.{IsFreeExecution, last_snapshot}
-use Rattle.qss_machine.specs.RunLaws.{IsWithinQuantum, StaysWithinDrift, RunsStayWithinDrift}
+use Rattle.qss_machine.specs.Ticks.{AreLevelsBy}
+use Rattle.qss_machine.specs.RunLaws.{StaysWithinDrift, RunsStayWithinDrift}
 
 -- ---- what a step gives
 

@@ -1,15 +1,11 @@
 -- The places of the elements that pass a test, and the conditions of clauses one after another.
-use Rattle.std.proofs.Common.{◌≡◌, ℕ, suc, ◌+◌, ◌≤◌, ◌<◌, Bool, true, false, List, [], ◌∷◌, ◌++◌, map, length, get_or, take, sym, ◌∙◌, ap, arith, add-zero}
-use Rattle.std.proofs.lemmas.Grind.{flat_map-append}
-use Rattle.std.proofs.lemmas.List.{length-append, length-map, append-nil, take_more}
+use Rattle.qss_machine.proofs.Common
+use Common.{[], ℕ, ◌++◌, ◌+◌, ◌<◌, ◌∙◌, ◌∷◌, ◌≡◌, ◌≤◌, add-zero, ap, append-nil, arith, Bool}
+use Common.{BranchInfo, ClauseInfo, Condition, false, flat_map, flat_map-append, get_or}
+use Common.{if◌then◌else◌, length, length-append, length-map, List, map, places_from, suc, sum_by}
+use Common.{sum_by-cons, sym, take, take_more, true}
 use Rattle.std.proofs.lemmas.List.Folds.{length-flat_map-take}
-use Rattle.std.proofs.lemmas.List.Sums.{sum_by-cons}
-use Rattle.std.specs.Prelude.{flat_map, sum_by, if◌then◌else◌}
-use Rattle.qss_machine.specs.declared.machine_parts.BranchInfo.{BranchInfo}
-use Rattle.qss_machine.specs.declared.machine_parts.ClauseInfo.{ClauseInfo}
-use Rattle.qss_machine.specs.declared.machine_parts.Condition.{Condition}
 use Rattle.qss_machine.specs.MachineLimits.{item_count}
-use Rattle.qss_machine.specs.Readers.{places_from}
 
 if_cons : (b : Bool) (i : ℕ) (all first rest : List ℕ) → all ≡ first ++ rest → (if b then i ∷ all else all) ≡ (if b then i ∷ first else first) ++ rest
 if_cons true i all first rest e = ap (λ xs. i ∷ xs) e

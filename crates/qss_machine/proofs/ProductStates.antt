@@ -1,24 +1,14 @@
 -- The states of which products are, in the order of their states.
-use Rattle.std.proofs.Common.{◌≡◌, ℕ, zero, suc, ◌+◌, ◌-◌, ◌*◌, ◌^◌, ◌<◌, ◌≤◌, ◌≢◌, false, List, [], ◌∷◌, length, get_or, map, ℤ, pos, ◌+ℤ◌, ◌*ℤ◌, refl, ◌∙◌, ap, subst, arith, add-zero, inl, inr, ◌==◌}
-use Rattle.std.proofs.Math.IntN.{+ℤ_idl, +ℤ_idr}
-use Rattle.std.proofs.Math.Nat.{mul-le-mul_right}
-use Rattle.std.proofs.lemmas.Bool.{cases_lt}
-use Rattle.std.proofs.lemmas.Bool.Decides.{nat_tests}
-use Rattle.std.proofs.lemmas.List.{get_or-map, get_or_default, length-map}
-use Rattle.std.specs.Prelude.{slice_index}
-use Rattle.std.specs.List.Sorted.{IsStrictlyIncreasing}
-use Rattle.mu_num.specs.Rounding.{nearest_of}
-use Rattle.mu_num.specs.Sizes.{IsWithin, exceeds}
-use Rattle.mu_num.proofs.Quotients.{nearest-zero}
-use Rattle.mu_num.proofs.Tests.{if-false, eqb-no}
-use Rattle.qss_machine.specs.declared.machine_parts.Product.{Product}
-use Rattle.qss_machine.specs.declared.machine_parts.SlopeRow.{SlopeRow}
-use Rattle.qss_machine.specs.MachineLimits.{AreProducts, IsRow}
-use Rattle.mu_num.specs.IndexedSums.{int_at, sum_below}
-use Rattle.qss_machine.specs.Slopes.{coefficient_of, products_of, mode_coefficient}
+use Rattle.qss_machine.proofs.Common
+use Common.{+ℤ_idl, +ℤ_idr, [], ℕ, ℤ, ◌*ℤ◌, ◌*◌, ◌+ℤ◌, ◌+◌, ◌-◌, ◌<◌, ◌==◌, ◌^◌, ◌∙◌, ◌∷◌, ◌≡◌, ◌≢◌}
+use Common.{◌≤◌, add-zero, ap, AreProducts, arith, cases_lt, coefficient_of, eqb-no, exceeds, false}
+use Common.{get_or, get_or-map, if-false, inl, inr, int_at, IsRow, IsStrictlyIncreasing, IsWithin}
+use Common.{length, length-map, List, map, mode_coefficient, mul-le-mul_right, nat_tests}
+use Common.{nearest-zero, nearest_of, pos, Product, products_of, refl, slice_index, SlopeRow, subst}
+use Common.{suc, sum_below, sum_below-same, sum_below-split, sum_below-zero, zero}
+use Rattle.std.proofs.lemmas.List.{get_or_default}
 use Rattle.qss_machine.proofs.Distinct.{coefficient_small}
 use Rattle.qss_machine.proofs.Powers.{power_positive}
-use Rattle.mu_num.proofs.Sums.{sum_below-same, sum_below-zero, sum_below-split}
 
 -- no product is of this state
 abbrev pub IsFree : List Product → ℕ → Type 0

@@ -1,25 +1,17 @@
 -- The states and the levels of runs keep their limits.
-use Rattle.std.proofs.Common.{◌≡◌, ℕ, zero, suc, ◌+◌, Bool, true, false, cond, List, [], ◌∷◌, map, set, fold, ℤ, pos, refl, sym, ◌∙◌, arith}
+use Rattle.qss_machine.proofs.Common
+use Common.{[], ℕ, ℤ, ◌+◌, ◌∙◌, ◌∷◌, ◌≡◌, Action, All, arith, assign, assigned_value, Bool}
+use Common.{BranchInfo, ClauseInfo, exceeds, false, firing_flags, first_exceeding, fold}
+use Common.{handlers_at, HandlerState, HasSmallLevels, if_cases, int_at, is_some, IsStateInfo}
+use Common.{IsStepBy, IsWithin, last_snapshot, level_below, level_unit, List, Machine, map}
+use Common.{moved_states, None, Ok, Option, pos, refl, Reinit, run_action, run_clauses}
+use Common.{run_first_due, Set, set, Snapshot, Some, start_snapshot, StateInfo, suc, sym, true}
+use Common.{truths, zero}
+use Rattle.std.proofs.Common.{cond}
 use Rattle.std.proofs.lemmas.Iterator.Adapters.{position_from-zero}
 use Rattle.std.specs.List.{position_from}
-use Rattle.std.specs.Prelude.{Option, Some, None, Ok, is_some, All}
 use Rattle.mu_num.proofs.SizeTests.{passes-within}
-use Rattle.mu_num.proofs.Tests.{if_cases}
-use Rattle.qss_machine.specs.declared.machine_parts.StateInfo.{StateInfo}
-use Rattle.qss_machine.specs.declared.machine_parts.Action.{Action}
-use Rattle.qss_machine.specs.declared.machine_parts.Action.TheVariants.{Set, Reinit}
-use Rattle.qss_machine.specs.declared.machine_parts.BranchInfo.{BranchInfo}
-use Rattle.qss_machine.specs.declared.machine_parts.ClauseInfo.{ClauseInfo}
-use Rattle.qss_machine.specs.declared.compiled_machine.Machine.{Machine}
-use Rattle.mu_num.specs.Sizes.{IsWithin, exceeds}
-use Rattle.mu_num.specs.IndexedSums.{int_at, first_exceeding}
-use Rattle.qss_machine.specs.MachineLimits.{IsStateInfo}
-use Rattle.mu_num.specs.Levels.{level_below}
-use Rattle.qss_machine.specs.Machines.{level_unit}
-use Rattle.qss_machine.specs.Handlers.{HandlerState, firing_flags, truths, assigned_value, assign, run_action, run_first_due, run_clauses}
-use Rattle.qss_machine.specs.Ticks.{Snapshot, start_snapshot, moved_states, handlers_at, IsStepBy}
-use Rattle.qss_machine.specs.Runs.{IsExecutionBy, last_snapshot}
-use Rattle.qss_machine.specs.RunLaws.{HasSmallLevels}
+use Rattle.qss_machine.specs.Runs.{IsExecutionBy}
 use Rattle.qss_machine.proofs.Near.{step_facts}
 
 -- ---- lists in which no number passes a limit

@@ -1,16 +1,15 @@
 -- Runs under a function that returns levels less than one away are runs under the free rule.
-use Rattle.std.proofs.Common.{◌≡◌, ℕ, ◌+◌, Bool, true, false, List, [], ◌∷◌, length, inl, inr, refl, sym, subst, ℤ, arith}
-use Rattle.std.specs.Prelude.{Option, Some, None, Result, Ok, Err, MatchBool}
-use Rattle.qss_machine.specs.declared.compiled_machine.Machine.{Machine}
-use Rattle.mu_num.specs.Sizes.{IsWithin}
-use Rattle.mu_num.specs.IndexedSums.{int_at}
-use Rattle.qss_machine.specs.Machines.{level_unit}
-use Rattle.mu_num.specs.Levels.{IsWithinOneLevel}
-use Rattle.qss_machine.specs.Ticks.{Snapshot, start_snapshot, IsNextLevel, IsStepBy, IsStep, RuleOf, is_within_quantum, handlers_at, IsFreeLevel, IsQuantizing}
-use Rattle.qss_machine.specs.Runs.{IsExecution, IsFreeExecution, last_snapshot, Run, RunEndsBy, IsRun}
+use Rattle.qss_machine.proofs.Common
+use Common.{[], ℕ, ℤ, ◌+◌, ◌∷◌, ◌≡◌, arith, Bool, Err, false, handlers_at, HasSmallLevels, inl, inr}
+use Common.{int_at, is_within_quantum, IsExecution, IsFreeExecution, IsFreeLevel, IsNextLevel}
+use Common.{IsStep, IsStepBy, IsWithin, IsWithinOneLevel, last_snapshot, length, level_unit, List}
+use Common.{Machine, MatchBool, None, Ok, Option, refl, Result, RuleOf, Run, RunEndsBy, Snapshot}
+use Common.{Some, start_snapshot, subst, sym, true}
+use Rattle.qss_machine.specs.Ticks.{IsQuantizing}
+use Rattle.qss_machine.specs.Runs.{IsRun}
 use Rattle.qss_machine.proofs.Near.{unit_low, unit_high}
 use Rattle.qss_machine.proofs.Ranges.{states_small, start_small, step_small, leads_small}
-use Rattle.qss_machine.specs.RunLaws.{HasSmallLevels, RulesAreFree}
+use Rattle.qss_machine.specs.RunLaws.{RulesAreFree}
 
 module _ (level : ℤ → ℤ → ℤ → ℤ) (quantizing : IsQuantizing level) where
   next_free : (unit state old new : ℤ) (near : Bool) → IsWithinOneLevel unit state old (level unit state old) →

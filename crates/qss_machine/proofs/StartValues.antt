@@ -1,12 +1,7 @@
 -- The start values of a machine are within their limits.
-use Rattle.std.proofs.Common.{[], ◌<◌, List, ℕ, map, length, get_or, pos, sym, subst}
-use Rattle.std.proofs.lemmas.List.{get_or-map, length-map}
-use Rattle.std.specs.Prelude.{All}
-use Rattle.mu_num.specs.Sizes.{IsWithin}
-use Rattle.qss_machine.specs.declared.machine_parts.DiscreteInfo.{DiscreteInfo}
-use Rattle.qss_machine.specs.declared.machine_parts.StateInfo.{StateInfo}
-use Rattle.qss_machine.specs.declared.compiled_machine.Machine.{Machine}
-use Rattle.qss_machine.specs.Machines.{start_states, start_discretes}
+use Rattle.qss_machine.proofs.Common
+use Common.{[], ℕ, ◌<◌, All, DiscreteInfo, get_or, get_or-map, IsWithin, length, length-map, List}
+use Common.{Machine, map, pos, start_discretes, start_states, StateInfo, subst, sym}
 
 -- what holds of each element's image
 pub all_map : {X Y : Type 0} (P : Y → Type 0) (f : X → Y) (xs : List X) (d : X) → ((k : ℕ) → k < length xs → P (f (get_or xs k d))) → All P (map f xs)

@@ -1,17 +1,13 @@
 -- The products of one state are adjacent.
-use Rattle.std.proofs.Common.{◌≡◌, ℕ, zero, suc, ◌+◌, ◌-◌, ◌<◌, ◌≤◌, ◌≢◌, List, length, get_or, take, drop, ℤ, pos, ◌+ℤ◌, ◌*ℤ◌, refl, sym, ◌∙◌, ap, subst, arith, add-one, ◌==◌}
-use Rattle.std.proofs.Math.IntN.{+ℤ_idr}
-use Rattle.std.proofs.lemmas.List.{take_all, length-drop, get_or-drop}
+use Rattle.qss_machine.proofs.Common
+use Common.{+ℤ_idr, ℕ, ℤ, ◌*ℤ◌, ◌+ℤ◌, ◌+◌, ◌-◌, ◌<◌, ◌==◌, ◌∙◌, ◌≡◌, ◌≢◌, ◌≤◌, add-one, ap}
+use Common.{AreProducts, arith, drop, eqb-no, get_or, if-false, if◌then◌else◌, int_at, length, List}
+use Common.{nat_lt, pos, Product, products_of, refl, subst, suc, sum_over_more, sym, take, take_all}
+use Common.{zero}
+use Rattle.std.proofs.lemmas.List.{length-drop, get_or-drop}
 use Rattle.std.proofs.lemmas.List.Sorted.{IsPartitionedBy-ltb}
-use Rattle.std.specs.Prelude.{if◌then◌else◌, nat_lt}
 use Rattle.std.specs.List.Sorted.{IsPartitionedBy}
-use Rattle.mu_num.proofs.Tests.{if-false, eqb-no}
-use Rattle.qss_machine.specs.declared.machine_parts.Product.{Product}
-use Rattle.qss_machine.specs.MachineLimits.{AreProducts}
-use Rattle.mu_num.specs.IndexedSums.{int_at}
-use Rattle.qss_machine.specs.Slopes.{products_of}
 use Rattle.qss_machine.proofs.ProductStates.{rising_states}
-use Rattle.mu_num.proofs.Sums.{sum_over_more}
 
 -- what is left of a list from a place on
 pub rest_is : {X : Type 0} (xs : List X) (from : ℕ) → take (length xs - from) (drop from xs) ≡ drop from xs

@@ -1,25 +1,15 @@
 -- A row that reads none of the moved states gives the same at levels that differ only there.
-use Rattle.std.proofs.Common.{◌≡◌, ℕ, ◌+◌, ◌^◌, true, false, not, List, [], ◌∷◌, length, ℤ, pos, ◌+ℤ◌, ◌*ℤ◌, refl, sym, ◌∙◌, ap, subst, inl, inr, ◌==◌}
-use Rattle.std.proofs.Math.IntN.{zero-*ℤ, +ℤ_idl}
+use Rattle.qss_machine.proofs.Common
+use Common.{+ℤ_idl, [], ℕ, ℤ, ◌*ℤ◌, ◌+ℤ◌, ◌+◌, ◌==◌, ◌^◌, ◌||◌, ◌∙◌, ◌∷◌, ◌≡◌, abs_of, ap}
+use Common.{coefficient_of, constant_part, Entry, eqb-true, exceeds, false, has_entry, if-false}
+use Common.{inl, inr, int_at, is_listed, length, List, list_any, Machine, mode_coefficient}
+use Common.{mode_fits, nearest-zero, nearest_of, not, pos, Product, products_of, refl, row_reads}
+use Common.{slope_of, SlopeRow, state_count, subst, sum_below, sum_below-same, sym, true, weight_of}
+use Common.{zero-*ℤ}
 use Rattle.std.proofs.lemmas.Bool.{or_parts, or_cases, cases_Bool}
-use Rattle.std.specs.List.{list_any}
-use Rattle.std.specs.Prelude.{◌||◌}
-use Rattle.mu_num.proofs.Quotients.{nearest-zero}
-use Rattle.mu_num.proofs.Tests.{if-false, eqb-true}
-use Rattle.mu_num.specs.Rounding.{nearest_of}
-use Rattle.mu_num.specs.Sizes.{exceeds}
 use Rattle.qss_machine.proofs.Powers.{power_positive}
-use Rattle.mu_num.proofs.Sums.{sum_below-same}
-use Rattle.qss_machine.specs.declared.machine_parts.Entry.{Entry}
-use Rattle.qss_machine.specs.declared.machine_parts.Product.{Product}
-use Rattle.qss_machine.specs.declared.machine_parts.SlopeRow.{SlopeRow}
-use Rattle.qss_machine.specs.declared.compiled_machine.Machine.{Machine}
-use Rattle.qss_machine.specs.Machines.{state_count}
-use Rattle.mu_num.specs.IndexedSums.{int_at, sum_below, abs_of}
-use Rattle.qss_machine.specs.Slopes.{coefficient_of, products_of, mode_coefficient, mode_fits, constant_part, slope_of, weight_of}
 use Rattle.qss_machine.specs.Ticks.{exceeds_row_limits}
-use Rattle.qss_machine.specs.Readers.{has_entry, row_reads}
-use Rattle.mu_num.specs.ListedPlaces.{is_listed, DiffersOnlyAt}
+use Rattle.mu_num.specs.ListedPlaces.{DiffersOnlyAt}
 
 -- entries without a variable have the coefficient 0 of it
 pub no_coefficient : (entries : List Entry) (var : ℕ) → has_entry var entries ≡ false → coefficient_of entries var ≡ pos 0

@@ -1,19 +1,14 @@
 -- The absolute row sum is the sum of the entries' part, the products' part and the size of the constant.
-use Rattle.std.proofs.Common.{◌≡◌, ℕ, zero, suc, ◌<◌, ◌≤ℤ◌, ◌+◌, List, [], ◌∷◌, ◌++◌, length, map, ℤ, pos, ◌+ℤ◌, ◌-ℤ◌, ◌*ℤ◌, refl, sym, ◌∙◌, ap, arith, length-append}
+use Rattle.qss_machine.proofs.Common
+use Common.{[], ℕ, ℤ, ◌*ℤ◌, ◌++◌, ◌+ℤ◌, ◌+◌, ◌-ℤ◌, ◌<◌, ◌==◌, ◌∙◌, ◌∷◌, ◌≡◌, ◌≤ℤ◌, abs_of, add-mul}
+use Common.{ap, arith, coefficient_of, Entry, get_or-append-add, get_or_append_left, if◌then◌else◌}
+use Common.{int_at, ints, IsStrictlyIncreasing, length, length-append, length-map, List, map}
+use Common.{mode_coefficient, pos, refl, slope_of, SlopeRow, suc, sum_below, sum_below-add}
+use Common.{sum_below-same, sum_below-split, sum_over, sym, unsigned_abs, unsigned_abs-mul}
+use Common.{weight_of, zero}
 use Rattle.std.proofs.Math.IntN.{pos-*ℤ-pos}
 use Rattle.std.proofs.Math.ListN.{get_or-map}
-use Rattle.std.proofs.lemmas.Int.{ints, unsigned_abs-mul}
-use Rattle.std.proofs.lemmas.List.{get_or_append_left, get_or-append-add, length-map}
-use Rattle.std.specs.Int.RustNames.{unsigned_abs}
-use Rattle.std.specs.Prelude.{if◌then◌else◌, ◌==◌}
-use Rattle.std.specs.List.Sorted.{IsStrictlyIncreasing}
-use Rattle.mu_num.proofs.Integers.{add-mul}
-use Rattle.qss_machine.specs.declared.machine_parts.Entry.{Entry}
-use Rattle.qss_machine.specs.declared.machine_parts.SlopeRow.{SlopeRow}
-use Rattle.mu_num.specs.IndexedSums.{int_at, abs_of, sum_over, sum_below}
-use Rattle.qss_machine.specs.Slopes.{coefficient_of, mode_coefficient, slope_of, weight_of}
 use Rattle.qss_machine.proofs.SumLaws.{weighted_sum-entries}
-use Rattle.mu_num.proofs.Sums.{sum_below-add, sum_below-same, sum_below-split}
 use Rattle.qss_machine.proofs.Distinct.{plain, coefficient_size}
 
 pub size-mul : (a b : ℤ) → abs_of a *ℤ abs_of b ≡ abs_of (a *ℤ b)

@@ -1,30 +1,21 @@
 -- Runs of small machines, computed from the definitions.
-use Rattle.std.proofs.Common.{◌≡◌, ℕ, ◌+◌, ◌^◌, List, [], ◌∷◌, refl, ℤ, pos, negsuc, neg_ℤ, ◌<◌, ◌≤◌, ◌≢◌, lit<, lit≤, arith}
-use Rattle.std.proofs.lemmas.List.Elements.{All-from_recursion, All-nil}
+use Rattle.qss_machine.proofs.Common
+use Common.{[], ℕ, ℤ, ◌+◌, ◌<◌, ◌^◌, ◌∷◌, ◌≡◌, ◌≢◌, ◌≤◌, Action, All-nil, arith, BranchInfo}
+use Common.{ClauseInfo, DiscreteInfo, Entry, IsRow, IsStateInfo, IsWithin, List, mode_fits, negsuc}
+use Common.{pos, Product, refl, Reinit, Row, run_by, Set, SlopeRow, StateInfo, uses_of, weight_of}
+use Rattle.std.proofs.Common.{neg_ℤ, lit<, lit≤}
+use Rattle.std.proofs.lemmas.List.Elements.{All-from_recursion}
 use Rattle.std.specs.Prelude.{IsTrue}
-use Rattle.mu_num.specs.Sizes.{IsWithin}
-use Rattle.qss_machine.specs.Slopes.{mode_fits, weight_of}
-use Rattle.qss_machine.specs.declared.machine_parts.StateInfo.{StateInfo}
-use Rattle.qss_machine.specs.declared.machine_parts.DiscreteInfo.{DiscreteInfo}
-use Rattle.qss_machine.specs.declared.machine_parts.Entry.{Entry}
-use Rattle.qss_machine.specs.declared.machine_parts.Product.{Product}
-use Rattle.qss_machine.specs.declared.machine_parts.SlopeRow.{SlopeRow}
 use Rattle.qss_machine.specs.declared.machine_parts.Form.{Form}
 use Rattle.qss_machine.specs.declared.machine_parts.Rel.{Rel}
 use Rattle.qss_machine.specs.declared.machine_parts.Rel.TheVariants.{Less, GreaterEq}
-use Rattle.qss_machine.specs.declared.machine_parts.Action.{Action}
-use Rattle.qss_machine.specs.declared.machine_parts.Action.TheVariants.{Set, Reinit}
-use Rattle.qss_machine.specs.declared.machine_parts.BranchInfo.{BranchInfo}
-use Rattle.qss_machine.specs.declared.machine_parts.ClauseInfo.{ClauseInfo}
-use Rattle.qss_machine.specs.declared.machine_parts.Row.{Row}
 use Rattle.qss_machine.specs.declared.machine_parts.RowKind.{RowKind}
-use Rattle.qss_machine.specs.declared.machine_parts.RowKind.TheVariants as kind
-use Rattle.qss_machine.specs.MachineLimits.{IsStateInfo, IsRow, IsClause}
+use Rattle.qss_machine.specs.MachineLimits.{IsClause}
 use Rattle.mu_num.specs.Levels.{floor_level, near_level, inward_level}
-use Rattle.qss_machine.specs.Runs.{run_by, run_rows}
+use Rattle.qss_machine.specs.Runs.{run_rows}
 use Rattle.qss_machine.proofs.Fields.{Parts, IsSound, machine_of}
 use Rattle.qss_machine.specs.EventCounts.{visits, touches}
-use Rattle.qss_machine.specs.Readers.{uses_of}
+use Rattle.qss_machine.specs.declared.machine_parts.RowKind.TheVariants as kind
 
 -- the rows of the machine's run
 abbrev rows_by : (ℤ → ℤ → ℤ → ℤ) → (parts : Parts) → IsSound parts → List Row

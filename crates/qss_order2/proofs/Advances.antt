@@ -1,12 +1,9 @@
 -- Event steps, one after another.
-use Rattle.std.proofs.Common.{◌≡◌, ℕ, zero, suc, ◌+◌, ◌≤◌, List, [], ◌∷◌, ◌++◌, length, ℤ, refl}
-use Rattle.std.proofs.Common.{sym, ◌∙◌, ap, subst, arith, length-append}
-use Rattle.std.specs.Prelude.{Some, None, Result, Ok, Err}
-use Rattle.qss_machine.specs.declared.compiled_machine.Machine.{Machine}
-use Rattle.qss_order2.specs.SecondSteps.{SecondSnapshot, first_exceeding_limit, IsSecondStep}
-use Rattle.qss_order2.specs.SecondRuns.{last_second_snapshot, tick_rows2}
-use Rattle.qss_order2.specs.Calls.{AreSilent2}
-use Rattle.qss_order2.specs.Events.{SecondRunView, LeadsSilently2, IsVisit2, Overflows}
+use Rattle.qss_order2.proofs.Common
+use Common.{[], ℕ, ℤ, ◌++◌, ◌+◌, ◌∙◌, ◌∷◌, ◌≡◌, ◌≤◌, ap, AreSilent2, arith, Err}
+use Common.{first_exceeding_limit, IsSecondStep, IsVisit2, last_second_snapshot, LeadsSilently2}
+use Common.{length, length-append, List, Machine, None, Ok, Overflows, refl, Result, SecondRunView}
+use Common.{SecondSnapshot, Some, subst, suc, sym, tick_rows2, zero}
 
 pub leads_on : (Rule : ℤ → ℤ → ℤ → Type 0) (m : Machine) (tick : ℕ) (w : SecondSnapshot)
     (a b : List SecondSnapshot) → LeadsSilently2 Rule m tick w a →

@@ -1,31 +1,18 @@
 -- A motion at the next look.
-use Rattle.std.proofs.Common.{◌≡◌, ℕ, ◌+◌, ◌-◌, ◌<◌, ◌≤◌, Bool, true, false, List, length, ℤ, pos}
-use Rattle.std.proofs.Common.{◌+ℤ◌, ◌*ℤ◌, sym, ◌∙◌, ap, subst, arith, inl, inr}
-use Rattle.std.proofs.lemmas.Bool.{cases_Bool}
-use Rattle.std.proofs.lemmas.List.FromFn.{length-map-range_with_len}
-use Rattle.std.specs.Prelude.{Option, None, MatchBool, if◌then◌else◌}
-use Rattle.mu_num.proofs.Tests.{if-true, if-false}
-use Rattle.mu_num.specs.Rounding.{floor_of}
-use Rattle.mu_num.specs.Sizes.{IsWithin}
-use Rattle.mu_num.specs.ListedPlaces.{is_listed}
-use Rattle.qss_machine.specs.declared.compiled_machine.Machine.{Machine}
-use Rattle.mu_num.specs.IndexedSums.{int_at, tabulate}
-use Rattle.qss_machine.specs.Machines.{state_count, level_unit}
-use Rattle.qss_order2.specs.declared.order2_motion.Motion.{Motion}
-use Rattle.qss_order2.specs.declared.order2_motion.Place.{Place}
-use Rattle.qss_order2.specs.Places.{place_in, state_on, level_on, levels_on}
-use Rattle.qss_order2.specs.Places.{IsSmallPlace, CanRead}
-use Rattle.qss_order2.specs.SecondRunLaws.{bend_at, second_snapshot_after}
-use Rattle.qss_order2.specs.SecondSteps.{SecondSnapshot, rise_at}
-use Rattle.qss_order2.specs.Stores.{motion_at, snapshot_of, HasLists}
-use Rattle.qss_order2.specs.Stores.{IsSized, HasRises, Moves, AreOnTheWay, AreQuiet, HasArrived}
-use Rattle.qss_order2.specs.Stores.{HasSettled, levels_after}
+use Rattle.qss_order2.proofs.Common
+use Common.{ℕ, ℤ, ◌*ℤ◌, ◌+ℤ◌, ◌+◌, ◌-◌, ◌<◌, ◌∙◌, ◌≡◌, ◌≤◌, ap, AreOnTheWay, AreQuiet, arith}
+use Common.{bend_at, Bool, CanRead, cases_Bool, false, floor_of, HasArrived, HasLists, HasSettled}
+use Common.{if-false, if-true, if◌then◌else◌, inl, inr, int_at, int_at-tabulate, is_listed, IsSized}
+use Common.{IsSmallPlace, IsWithin, length, length-map-range_with_len, level_on, level_unit}
+use Common.{levels_after, levels_on, List, Machine, MatchBool, Motion, motion_at, Moves, None}
+use Common.{Option, Place, place_in, pos, rise_at, second_snapshot_after, SecondSnapshot}
+use Common.{snapshot_of, state_count, state_on, subst, sym, tabulate, true}
+use Rattle.qss_order2.specs.Stores.{HasRises}
 use Rattle.qss_order2.proofs.Motions.{here_level, here_state, here_line, line_later, states_later}
 use Rattle.qss_order2.proofs.Motions.{levels_later, rises_later, bend_v, levels_are, states_are}
 use Rattle.qss_order2.proofs.Motions.{rises_are, many_states, many_levels, many_rises}
 use Rattle.qss_order2.proofs.Quiet.{rise_stays, same_bend}
 use Rattle.qss_order2.proofs.Tables.{same_list}
-use Rattle.mu_num.proofs.Tables.{int_at-tabulate}
 
 -- what holds where a test fails
 pub by_false : (b : Bool) (P Q : Type 0) → b ≡ false → MatchBool b P Q → Q

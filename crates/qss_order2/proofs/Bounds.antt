@@ -1,27 +1,14 @@
 -- Sizes in a motion from a snapshot that passed its limit check.
-use Rattle.std.proofs.Common.{◌≡◌, ℕ, zero, suc, ◌+◌, ◌*◌, ◌<◌, ◌≤◌, ◌^◌, List, length, get_or, ℤ}
-use Rattle.std.proofs.Common.{pos, ◌-ℤ◌, ◌*ℤ◌, ◌≤ℤ◌, ◌<ℤ◌, sym, ◌∙◌, ap, subst, arith}
-use Rattle.std.proofs.Math.Nat.{mul-le-mul_right}
-use Rattle.std.proofs.lemmas.Int.{ints, unsigned_abs-mul}
-use Rattle.std.proofs.lemmas.List.{get_or_default}
-use Rattle.std.proofs.lemmas.Nat.{mul-le}
+use Rattle.qss_order2.proofs.Common
+use Common.{ℕ, ℤ, ◌*ℤ◌, ◌*◌, ◌+◌, ◌-ℤ◌, ◌<ℤ◌, ◌<◌, ◌^◌, ◌∙◌, ◌≡◌, ◌≤ℤ◌, ◌≤◌, abs_of, All, ap, arith}
+use Common.{bend_at, first_exceeding, first_exceeding_limit, get_or, get_or_default, int_at}
+use Common.{int_at-tabulate, ints, IsWithin, length, List, Machine, MotionAt, Moves, mul-le}
+use Common.{mul-le-mul_right, None, none_past, option_or, option_or-None, pos, reach_of, rise_at}
+use Common.{rise_change_weight, rise_weight, start_coefficient, state_count, subst, suc, sum_below}
+use Common.{sym, tabulate, unit_fits, unsigned_abs-mul, zero}
 use Rattle.std.specs.Int.RustNames.{unsigned_abs}
-use Rattle.std.specs.Option.{option_or}
-use Rattle.std.specs.Prelude.{All, None}
-use Rattle.mu_num.specs.Sizes.{IsWithin}
-use Rattle.qss_machine.specs.declared.compiled_machine.Machine.{Machine}
-use Rattle.mu_num.specs.IndexedSums.{int_at, tabulate, abs_of, sum_below, first_exceeding}
-use Rattle.qss_machine.specs.Machines.{state_count}
-use Rattle.qss_machine.specs.Legitimate.{start_coefficient}
-use Rattle.qss_machine.proofs.Ranges.{none_past}
-use Rattle.qss_order2.specs.SecondSteps.{rise_at, rise_weight, rise_change_weight, reach_of}
-use Rattle.qss_order2.specs.SecondSteps.{first_exceeding_limit}
-use Rattle.qss_order2.specs.SecondRunLaws.{bend_at}
-use Rattle.qss_order2.specs.Stores.{MotionAt, Moves}
-use Rattle.qss_machine.proofs.Near.{unit_fits, option_or-None}
 use Rattle.qss_order2.proofs.Sizes.{reach_small}
 use Rattle.qss_order2.proofs.Tables.{all_of}
-use Rattle.mu_num.proofs.Tables.{int_at-tabulate}
 
 -- a value that was read
 pub at_index : (xs : List ℤ) (j n : ℕ) (z : ℤ) → length xs ≡ n → j < n → z ≡ get_or xs j z →

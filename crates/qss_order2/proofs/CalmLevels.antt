@@ -1,24 +1,13 @@
 -- Levels at most a calm one in size are past no limit.
-use Rattle.std.proofs.Common.{◌≡◌, ℕ, zero, suc, ◌<◌, ◌≤◌, List, length, ℤ, pos, ◌*ℤ◌, ◌≤ℤ◌}
-use Rattle.std.proofs.Common.{unsigned_abs, refl, sym, subst, arith}
-use Rattle.std.proofs.Math.Nat.{mul-le-mul_left}
-use Rattle.std.proofs.lemmas.Int.{ints, unsigned_abs-mul}
-use Rattle.std.specs.Option.{option_or}
-use Rattle.std.specs.Prelude.{Option, Some, None, replicate}
-use Rattle.mu_num.proofs.SizeTests.{within-passes}
-use Rattle.mu_num.specs.Sizes.{IsWithin, exceeds}
-use Rattle.qss_machine.specs.declared.compiled_machine.Machine.{Machine}
-use Rattle.qss_machine.specs.Legitimate.{start_coefficient}
-use Rattle.qss_machine.specs.Machines.{state_count}
-use Rattle.mu_num.specs.IndexedSums.{int_at, tabulate, abs_of}
-use Rattle.qss_machine.proofs.Ranges.{none_past}
-use Rattle.qss_order2.specs.SecondRunLimits.{past_levels}
-use Rattle.qss_order2.specs.SecondSteps.{rise_weight}
-use Rattle.qss_machine.proofs.Near.{option_or-None}
+use Rattle.qss_order2.proofs.Common
+use Common.{ℕ, ℤ, ◌*ℤ◌, ◌<◌, ◌≡◌, ◌≤ℤ◌, ◌≤◌, abs_of, arith, exceeds, int_at, int_at-tabulate, ints}
+use Common.{IsWithin, length, List, Machine, mul-le-mul_left, None, none_past, Option, option_or}
+use Common.{option_or-None, past_levels, pos, refl, replicate, rise_weight, Some, start_coefficient}
+use Common.{state_count, subst, suc, sym, tabulate, unsigned_abs, unsigned_abs-mul, within-passes}
+use Common.{zero}
 use Rattle.qss_order2.proofs.Sizes.{sum_from_zero}
 use Rattle.qss_order2.proofs.SizeSums.{size_from_zero}
 use Rattle.qss_order2.proofs.Tables.{none_is, none_of_table}
-use Rattle.mu_num.proofs.Tables.{int_at-tabulate}
 use Rattle.mu_num.proofs.Sums.{sum_below-le}
 
 at_copies : (n i : ℕ) (z : ℤ) → i < n → int_at (replicate n z) i ≡ z

@@ -1,10 +1,7 @@
 -- A line that is small at both ends is small between them.
-use Rattle.std.proofs.Common.{◌≡◌, ℕ, ◌+◌, ◌*◌, ◌-◌, ◌≤◌, ℤ, pos, ◌+ℤ◌, ◌*ℤ◌, ◌≤ℤ◌}
-use Rattle.std.proofs.Common.{arith}
-use Rattle.std.proofs.Math.Nat.{mul-le-mul_right}
-use Rattle.std.proofs.lemmas.Int.{ints}
-use Rattle.std.specs.Prelude.{Some, negsuc}
-use Rattle.mu_num.specs.IndexedSums.{abs_of}
+use Rattle.qss_order2.proofs.Common
+use Common.{ℕ, ℤ, ◌*ℤ◌, ◌*◌, ◌+ℤ◌, ◌+◌, ◌-◌, ◌≡◌, ◌≤ℤ◌, ◌≤◌, abs_of, arith, ints, mul-le-mul_right}
+use Common.{negsuc, pos, Some}
 
 pub same_bound : (a b : ℤ) → Some a ≡ Some b → a ≡ b
 same_bound a b e = cc

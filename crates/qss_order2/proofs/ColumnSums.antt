@@ -1,33 +1,22 @@
 -- Columns, and multiples of them that are added to sums of rows, modulo 2^128.
-use Rattle.std.proofs.Common.{◌≡◌, ◌≢◌, ℕ, zero, suc, ◌+◌, ◌-◌, ◌<◌, ◌≤◌, true, false, eqb, List}
-use Rattle.std.proofs.Common.{[], ◌∷◌, ◌++◌, length, get_or, set, take, ℤ, pos, ◌+ℤ◌, ◌-ℤ◌}
-use Rattle.std.proofs.Common.{◌*ℤ◌, refl, sym, ◌∙◌, ap, subst, arith, inl, inr}
-use Rattle.std.proofs.Math.IntN.{zero-*ℤ}
-use Rattle.std.proofs.lemmas.Bool.{cases_Bool, cases_eq, cases_lt, or_cases, or_parts, eqb-true}
-use Rattle.std.proofs.lemmas.Bool.{eqb-false}
-use Rattle.std.proofs.lemmas.Int.{ints, int_wrap_fits, int_wrap-add_left, int_wrap-add_right}
+use Rattle.qss_order2.proofs.Common
+use Common.{[], ℕ, ℤ, ◌*ℤ◌, ◌++◌, ◌+ℤ◌, ◌+◌, ◌-ℤ◌, ◌-◌, ◌<◌, ◌==◌, ◌∙◌, ◌∷◌, ◌≡◌, ◌≢◌, ◌≤◌, add-mul}
+use Common.{All, All-append, All-from_recursion, among_more, ap, AreColumnsBelow, arith, cases_Bool}
+use Common.{cases_eq, cases_lt, coefficient_of, column_at, Entry, eqb, eqb-no, eqb-yes, false}
+use Common.{get_or, get_or-set_other, get_or-set_same, if-false, if-true, if◌then◌else◌, inl, inr}
+use Common.{int_at, int_wrap, ints, is_listed, IsColumn, IsWithin, length, length-append, List}
+use Common.{Machine, mul-sub, or_cases, pos, refl, row_at, rows_in, set, start_coefficient}
+use Common.{start_discretes, state_count, subst, suc, sum_below, sum_below-same, sum_below-zero}
+use Common.{sum_over_more, sym, take, take_all, true, zero, zero-*ℤ}
+use Rattle.std.proofs.lemmas.Bool.{or_parts, eqb-true, eqb-false}
+use Rattle.std.proofs.lemmas.Int.{int_wrap_fits, int_wrap-add_left, int_wrap-add_right}
 use Rattle.std.proofs.lemmas.Int.{int_wrap-mul_right}
-use Rattle.std.proofs.lemmas.List.{length-append, get_or_append_left, get_or-append_right}
-use Rattle.std.proofs.lemmas.List.{get_or-set_same, get_or-set_other, take_all}
-use Rattle.std.proofs.lemmas.List.Elements.{All-append, All-from_recursion}
-use Rattle.std.specs.Int.{int_wrap, w128}
-use Rattle.std.specs.Prelude.{All, ◌==◌, if◌then◌else◌}
-use Rattle.mu_num.proofs.Integers.{mul-sub, add-mul}
-use Rattle.mu_num.proofs.Tests.{if-true, if-false, eqb-yes, eqb-no}
-use Rattle.mu_num.specs.Sizes.{IsWithin}
-use Rattle.mu_num.specs.ListedPlaces.{is_listed}
+use Rattle.std.proofs.lemmas.List.{get_or_append_left, get_or-append_right}
+use Rattle.std.specs.Int.{w128}
 use Rattle.qss_machine.proofs.Among.{among_rows}
 use Rattle.qss_machine.proofs.Unread.{unread_mode}
-use Rattle.mu_num.proofs.Writes.{among_more}
-use Rattle.qss_machine.specs.declared.machine_parts.Entry.{Entry}
-use Rattle.qss_machine.specs.declared.compiled_machine.Machine.{Machine}
-use Rattle.mu_num.specs.IndexedSums.{int_at, sum_below}
-use Rattle.qss_machine.specs.Legitimate.{start_coefficient}
-use Rattle.qss_machine.specs.Machines.{state_count, row_at, start_discretes}
 use Rattle.qss_machine.specs.Readers.{reading_rows}
-use Rattle.qss_machine.specs.Slopes.{coefficient_of}
-use Rattle.mu_num.proofs.Sums.{sum_below-same, sum_below-zero, sum_over_more, sum_changed}
-use Rattle.qss_order2.specs.Fixed.{IsColumn, AreColumnsBelow, column_at, rows_in}
+use Rattle.mu_num.proofs.Sums.{sum_changed}
 use Rattle.qss_order2.proofs.FixedFacts.{wide}
 use Rattle.qss_order2.proofs.FixedRows.{coefficient_push, zero_or}
 

@@ -1,10 +1,8 @@
 -- Differences of numbers that fit in 128 bits.
-use Rattle.std.proofs.Common.{◌≡◌, ℕ, ◌+◌, ◌^◌, ◌≤◌, ◌<◌, ℤ, ◌-ℤ◌, arith}
-use Rattle.std.proofs.lemmas.Int.{ints, to_z-of_z}
-use Rattle.std.specs.Int.RustNames.{unsigned_abs, FitsSigned}
-use Rattle.qss_machine.proofs.Loops.{fits_below}
-use mir.Syntax.{w128}
-use mir.Val.{to_z, of_z}
+use Rattle.qss_order2.proofs.Common
+use Common.{ℕ, ℤ, ◌+◌, ◌-ℤ◌, ◌<◌, ◌^◌, ◌≡◌, ◌≤◌, arith, fits_below, FitsSigned, ints, of_z, to_z}
+use Common.{to_z-of_z, w128}
+use Rattle.std.specs.Int.RustNames.{unsigned_abs}
 
 -- two numbers, by bounds of their sizes
 module _ (a b : ℤ) (m n : ℕ) (fits_a : FitsSigned w128 a) (fits_b : FitsSigned w128 b)

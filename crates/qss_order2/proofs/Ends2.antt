@@ -1,19 +1,12 @@
 -- Under the nearest rule a run ends as its simulator reports.
-use Rattle.std.proofs.Common.{◌≡◌, inl, inr, ℕ, zero, suc, ◌+◌, ◌-◌, ◌≤◌, ◌<◌, true, List, [], ◌∷◌}
-use Rattle.std.proofs.Common.{length, sym, ◌∙◌, ap, subst, arith}
-use Rattle.std.specs.Prelude.{Option, Some, None, Result, Ok, Err}
-use Rattle.qss_machine.specs.declared.compiled_machine.Machine.{Machine}
-use Rattle.qss_order2.specs.declared.outcome2.Outcome2.{Outcome2}
-use Rattle.qss_order2.specs.declared.outcome2.Outcome2.TheVariants.{Events, Done, Over}
-use Rattle.qss_order2.specs.SecondSteps.{SecondSnapshot, first_exceeding_limit, nearest_change}
-use Rattle.qss_order2.specs.SecondSteps.{IsSecondStep, second_step, second_start}
-use Rattle.qss_order2.specs.SecondRuns.{last_second_snapshot, Past, snapshots_with, snapshots_from}
-use Rattle.qss_order2.specs.SecondRuns.{snapshots_unless}
-use Rattle.qss_order2.specs.SlopeRules.{IsRuled2}
-use Rattle.qss_order2.specs.Events.{SecondRunView, IsStarted, LeadsSilently2, IsNext2, Overflows}
+use Rattle.qss_order2.proofs.Common
+use Common.{[], ℕ, ◌+◌, ◌-◌, ◌<◌, ◌∙◌, ◌∷◌, ◌≡◌, ◌≤◌, ap, arith, Done, EndsAs, Err, Events}
+use Common.{first_exceeding_limit, inl, inr, IsAble, IsNext2, IsRuled2, IsSecondStep, IsStarted}
+use Common.{last_second_snapshot, LeadsSilently2, length, List, Machine, nearest_change, None, Ok}
+use Common.{Option, Outcome2, Over, overflow_ahead, Overflows, Past, Result, second_order_run}
+use Common.{second_start, second_step, SecondRunView, SecondSnapshot, snapshots_from}
+use Common.{snapshots_unless, snapshots_with, Some, subst, suc, sym, true, zero}
 use Rattle.qss_order2.proofs.NamedRows.{named_step, named_start}
-use Rattle.qss_order2.specs.RemainingSecondRows.{overflow_ahead, EndsAs, IsAble}
-use Rattle.qss_order2.specs.SecondRunTexts.{second_order_run}
 
 -- the overflow in the `count` ticks after a snapshot
 abbrev over_in : Machine → ℕ → ℕ → SecondSnapshot → Option Past

@@ -1,14 +1,8 @@
 -- After an event a simulator stands within its limits.
-use Rattle.std.proofs.Common.{◌≡◌, ℕ, ◌+◌, ◌≤◌, ℤ, refl, ◌∙◌, ap, arith}
-use Rattle.std.specs.Prelude.{Option, Some, None}
-use Rattle.qss_machine.specs.declared.compiled_machine.Machine.{Machine}
-use Rattle.qss_order2.specs.declared.outcome2.Outcome2.{Outcome2}
-use Rattle.qss_order2.specs.declared.outcome2.Outcome2.TheVariants.{Events, Done, Over}
-use Rattle.qss_order2.specs.declared.order2_start.Store.{Store}
-use Rattle.qss_order2.specs.Calls.{view_of, tick_of, end_of}
-use Rattle.qss_order2.specs.Events.{IsNext2}
-use Rattle.qss_order2.specs.Stores.{motion_at, Stands}
-use Rattle.qss_order2.specs.SecondSteps.{first_exceeding_limit}
+use Rattle.qss_order2.proofs.Common
+use Common.{ℕ, ℤ, ◌+◌, ◌∙◌, ◌≡◌, ◌≤◌, ap, arith, Done, end_of, Events, first_exceeding_limit}
+use Common.{IsNext2, Machine, motion_at, None, Option, Outcome2, Over, refl, Some, Stands, Store}
+use Common.{tick_of, view_of}
 
 none_over : (o : Option ℕ) (tick : ℕ) → 0 + 1 ≤ tick → ((var : ℕ) → o ≡ Some var → tick ≡ 0) →
     o ≡ None

@@ -1,21 +1,11 @@
 -- What is read of a machine whose discrete values stay those of the start.
-use Rattle.std.proofs.Common.{◌≡◌, ℕ, ◌<◌, List, [], length, get_or, ℤ, sym, ◌∙◌, ap, subst, arith}
-use Rattle.std.proofs.lemmas.Int.{ints}
-use Rattle.std.proofs.lemmas.List.{get_or_default}
-use Rattle.std.proofs.lemmas.List.FromFn.{length-map-range_with_len}
-use Rattle.std.specs.Int.RustNames.{FitsSigned}
-use Rattle.std.specs.Prelude.{vec_len}
-use Rattle.mu_num.specs.Sizes.{IsWithin}
-use Rattle.qss_machine.specs.declared.machine_parts.Entry.{Entry}
-use Rattle.qss_machine.specs.Legitimate.{start_constant_part}
-use Rattle.qss_machine.specs.Machines.{state_count}
-use Rattle.mu_num.specs.IndexedSums.{int_at}
-use Rattle.qss_order2.specs.declared.fixed_machine.FixedMachine.{FixedMachine}
-use Rattle.qss_order2.specs.Fixed.{AreModes, column_at}
+use Rattle.qss_order2.proofs.Common
+use Common.{[], ℕ, ℤ, ◌<◌, ◌∙◌, ◌≡◌, ap, AreModes, arith, column_at, Entry, FitsSigned}
+use Common.{FixedMachine, get_or, get_or_default, int_at, int_at-tabulate, ints, IsWithin, length}
+use Common.{length-map-range_with_len, List, start_constant_part, state_count, subst, sym, vec_len}
+use Common.{w128}
 use Rattle.qss_order2.proofs.Bounds.{at_index}
 use Rattle.qss_order2.proofs.Sizes.{drive_small}
-use Rattle.mu_num.proofs.Tables.{int_at-tabulate}
-use mir.Syntax.{w128}
 
 pub wide : (z : ℤ) → IsWithin 126 z → FitsSigned w128 z
 wide z small = omega (arith, ints, small)

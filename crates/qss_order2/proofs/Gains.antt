@@ -1,28 +1,14 @@
 -- New levels shift the slopes of the rows that read them.
-use Rattle.std.proofs.Common.{◌≡◌, ℕ, ◌+◌, ◌-◌, ◌^◌, ◌<◌, ◌≤◌, Bool, false, List}
-use Rattle.std.proofs.Common.{ℤ, pos, ◌+ℤ◌, ◌-ℤ◌, ◌*ℤ◌, sym, ◌∙◌, ap, arith}
-use Rattle.std.proofs.Common.{inl, inr}
-use Rattle.std.proofs.Math.IntN.{zero-*ℤ}
-use Rattle.std.proofs.lemmas.Bool.{cases_Bool}
-use Rattle.std.proofs.lemmas.Int.{ints}
-use Rattle.std.specs.Prelude.{unsigned_abs}
-use Rattle.mu_num.specs.Sizes.{IsWithin}
-use Rattle.qss_machine.specs.declared.compiled_machine.Machine.{Machine}
-use Rattle.mu_num.specs.IndexedSums.{int_at}
-use Rattle.qss_machine.specs.Legitimate.{start_coefficient}
-use Rattle.qss_machine.specs.Machines.{state_count}
-use Rattle.qss_machine.proofs.Loops.{product_bound}
-use Rattle.mu_num.proofs.Sums.{sum_below-same, sum_below-zero}
-use Rattle.qss_order2.specs.declared.order2_motion.Place.{Place}
-use Rattle.qss_order2.specs.declared.order2_motion.Motion.{Motion}
-use Rattle.qss_order2.specs.Places.{place_in, level_on, levels_on, rise_on, level_shift}
-use Rattle.qss_order2.specs.SecondRunLaws.{second_snapshot_after}
-use Rattle.qss_order2.specs.SecondSteps.{rise_at}
-use Rattle.qss_order2.specs.Stores.{motion_at, snapshot_of, Moves, FollowsLevels, IsQuiet}
+use Rattle.qss_order2.proofs.Common
+use Common.{ℕ, ℤ, ◌*ℤ◌, ◌+ℤ◌, ◌+◌, ◌-ℤ◌, ◌-◌, ◌<◌, ◌^◌, ◌∙◌, ◌≡◌, ◌≤◌, ap, arith, Bool, cases_Bool}
+use Common.{false, inl, inr, int_at, int_at-tabulate, ints, IsQuiet, IsWithin, level_on}
+use Common.{level_shift, levels_on, List, Machine, Motion, motion_at, Moves, Place, place_in, pos}
+use Common.{product_bound, rise_at, rise_on, second_snapshot_after, snapshot_of, start_coefficient}
+use Common.{state_count, sum_below-same, sum_below-zero, sym, unsigned_abs, zero-*ℤ}
+use Rattle.qss_order2.specs.Stores.{FollowsLevels}
 use Rattle.qss_order2.proofs.Calm.{rise_later}
 use Rattle.qss_order2.proofs.ColumnSums.{gain, gain_is}
 use Rattle.qss_order2.proofs.Motions.{at_levels, levels_are, levels_later, rises_later}
-use Rattle.mu_num.proofs.Tables.{int_at-tabulate}
 
 -- the slopes of all states follow the levels along their lines
 pub follows_levels : (m : Machine) (q : Motion) (tick : ℕ) → Moves m (motion_at m q tick) →

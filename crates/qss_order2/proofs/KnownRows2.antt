@@ -1,36 +1,21 @@
 -- The rows of a second-order run are of variables of its machine.
-use Rattle.std.proofs.Common.{◌≡◌, ℕ, zero, suc, ◌+◌, ◌<◌, List, [], ◌∷◌, length, map, get_or, ℤ}
-use Rattle.std.proofs.Common.{pos, ◌*ℤ◌, refl, sym, ◌∙◌, subst, arith}
-use Rattle.std.proofs.lemmas.List.{length-map}
-use Rattle.std.proofs.lemmas.List.Elements.{All-nil, All-cons, All-append}
-use Rattle.std.proofs.lemmas.List.FromFn.{length-map-range_with_len, get_or-map-range_with_len}
+use Rattle.qss_order2.proofs.Common
+use Common.{[], ℕ, ℤ, ◌*ℤ◌, ◌+◌, ◌<◌, ◌∙◌, ◌∷◌, ◌≡◌, All, All-append, arith, discrete_count}
+use Common.{discrete_rows2, DiscreteInfo, end_rows, Err, exceeds, fine_states, first_exceeding}
+use Common.{first_exceeding_limit, flat_map, floor_of, get_or, get_or-map-range_with_len}
+use Common.{HasVariable2, if_cases, if◌then◌else◌, int_at, is_limit_check, is_requantization, Kind2}
+use Common.{leaves_quantum, length, length-map, length-map-range_with_len, level_row, level_unit}
+use Common.{List, Machine, map, moved_level, moved_state, nearest_change, next_changes, next_levels}
+use Common.{next_snapshot, None, Ok, Option, option_or, overflow_row, Past, pos, range_with_len}
+use Common.{refl, Result, rise_change_weight, rise_weight, Row2, rows2_after, run2_rows}
+use Common.{second_order_run, second_scale, second_snapshot_unless, second_start, second_step}
+use Common.{SecondSnapshot, slope_row, snapshots_from, snapshots_unless, snapshots_with, Some}
+use Common.{start_discretes, start_rows, start_states, state_count, subst, suc, sym, tabulate}
+use Common.{tick_rows2, zero}
+use Rattle.std.proofs.lemmas.List.Elements.{All-nil, All-cons}
 use Rattle.std.proofs.lemmas.List.Quantifiers.{position-Some}
-use Rattle.std.specs.List.{range_with_len, flat_map}
-use Rattle.std.specs.Option.{option_or}
-use Rattle.std.specs.Prelude.{Option, Some, None, Result, Ok, Err, All, if◌then◌else◌}
-use Rattle.mu_num.proofs.Tests.{if_cases}
-use Rattle.mu_num.specs.Sizes.{exceeds}
 use Rattle.qss_machine.proofs.Near.{or_known}
-use Rattle.qss_machine.specs.declared.machine_parts.DiscreteInfo.{DiscreteInfo}
-use Rattle.qss_machine.specs.declared.compiled_machine.Machine.{Machine}
-use Rattle.mu_num.specs.IndexedSums.{int_at, tabulate, first_exceeding}
-use Rattle.qss_machine.specs.Machines.{state_count, discrete_count, start_discretes, level_unit}
-use Rattle.qss_machine.specs.Machines.{start_states}
-use Rattle.qss_order2.specs.declared.order2_rows.Row2.{Row2}
-use Rattle.qss_order2.specs.declared.order2_rows.Kind2.{Kind2}
 use Rattle.qss_order2.specs.declared.order2_rows.Kind2.TheVariants as kind
-use Rattle.qss_order2.specs.SecondRowLines.{HasVariable2}
-use Rattle.qss_order2.specs.SecondRuns.{Past, snapshots_with, snapshots_from, snapshots_unless}
-use Rattle.qss_order2.specs.SecondRuns.{run2_rows, level_row, slope_row, discrete_rows2, start_rows}
-use Rattle.qss_order2.specs.SecondRuns.{tick_rows2, end_rows, overflow_row, rows2_after}
-use Rattle.qss_order2.specs.SecondSteps.{SecondSnapshot, leaves_quantum, first_exceeding_limit}
-use Rattle.qss_order2.specs.SecondSteps.{nearest_change, second_step, second_start, rise_weight}
-use Rattle.qss_order2.specs.SecondSteps.{rise_change_weight, second_snapshot_unless, next_changes}
-use Rattle.qss_order2.specs.SecondSteps.{next_levels, next_snapshot, is_limit_check}
-use Rattle.qss_order2.specs.SecondSteps.{is_requantization, fine_states, second_scale, moved_state}
-use Rattle.qss_order2.specs.SecondSteps.{moved_level}
-use Rattle.mu_num.specs.Rounding.{floor_of}
-use Rattle.qss_order2.specs.SecondRunTexts.{second_order_run}
 
 abbrev pub count : Machine → ℕ
 count m = state_count m + discrete_count m

@@ -1,25 +1,16 @@
 -- A look that was settled is a visit.
-use Rattle.std.proofs.Common.{◌≡◌, ℕ, suc, ◌+◌, ◌<◌, ◌≤◌, List, []}
-use Rattle.std.proofs.Common.{ℤ, refl, ◌∙◌, ap, subst, arith}
-use Rattle.std.specs.Prelude.{Option, None}
-use Rattle.mu_num.specs.ListedPlaces.{is_listed}
-use Rattle.qss_machine.specs.declared.compiled_machine.Machine.{Machine}
-use Rattle.qss_machine.specs.Machines.{state_count}
-use Rattle.qss_order2.specs.declared.order2_motion.Motion.{Motion}
-use Rattle.qss_order2.specs.declared.order2_rows.Kind2.TheVariants as kind
-use Rattle.qss_order2.specs.Events.{IsVisit2}
-use Rattle.qss_order2.specs.Places.{place_in, levels_on}
-use Rattle.qss_order2.specs.SecondRuns.{last_second_snapshot, tick_rows2}
-use Rattle.qss_order2.specs.SecondRunLaws.{HasEach, second_snapshot_after}
-use Rattle.qss_order2.specs.SecondSteps.{SecondSnapshot, second_snapshot_unless}
-use Rattle.qss_order2.specs.SecondSteps.{first_exceeding_limit, AreChanges}
-use Rattle.qss_order2.specs.Stores.{MotionAt, motion_at, snapshot_of, HasLists, Moves, AreQuiet}
-use Rattle.qss_order2.specs.Stores.{IsNextLook, IsMovedOn, IsSettled, HasArrived, HasSettled}
-use Rattle.qss_order2.specs.Stores.{levels_after, rows_of_left}
+use Rattle.qss_order2.proofs.Common
+use Common.{[], ℕ, ℤ, ◌+◌, ◌<◌, ◌∙◌, ◌≡◌, ◌≤◌, ap, AreChanges, AreQuiet, arith}
+use Common.{first_exceeding_limit, HasArrived, HasEach, HasLists, HasSettled, is_listed, IsMovedOn}
+use Common.{IsNextLook, IsSettled, IsVisit2, last_second_snapshot, levels_after, levels_on, List}
+use Common.{Machine, Motion, motion_at, MotionAt, Moves, None, Option, place_in, refl, rows_of_left}
+use Common.{second_snapshot_after, second_snapshot_unless, SecondSnapshot, snapshot_of, state_count}
+use Common.{subst, suc, tick_rows2}
 use Rattle.qss_order2.proofs.Arrivals.{levels_there, states2, levels2, has_rises2, sized2}
 use Rattle.qss_order2.proofs.Looks.{moved_on}
 use Rattle.qss_order2.proofs.Silent.{calm_worlds}
 use Rattle.qss_order2.proofs.Visits.{looked, looked_rows, looked_near, looked_within}
+use Rattle.qss_order2.specs.declared.order2_rows.Kind2.TheVariants as kind
 
 module _ (Rule : ℤ → ℤ → ℤ → Type 0) (m : Machine) (tick ticks : ℕ) (q1 q2 q3 : Motion) (due : ℕ →
     Option ℕ) (left touched : List ℕ) (over : Option ℕ) (moves : Moves m (motion_at m q1 tick))

@@ -1,25 +1,15 @@
 -- From a snapshot to the next event step.
-use Rattle.std.proofs.Common.{◌≡◌, ℕ, zero, suc, ◌+◌, ◌%◌, ◌≤◌, ◌<◌, nat_lt, Bool, true, false}
-use Rattle.std.proofs.Common.{List, ℤ, pos, ◌+ℤ◌, ◌*ℤ◌, refl, sym, ◌∙◌, ap, subst, arith, inl, inr}
-use Rattle.std.proofs.Common.{◌⊎◌}
-use Rattle.std.proofs.lemmas.Bool.{or_left, or_right}
-use Rattle.std.proofs.lemmas.Bool.Decides.{nat_tests}
-use Rattle.std.specs.List.{list_any, range_with_len}
-use Rattle.std.specs.Prelude.{Option, Some, None, ◌||◌, ◌==◌, if◌then◌else◌}
-use Rattle.mu_num.proofs.Tests.{eqb-true, eqb-false, eqb-yes}
-use Rattle.mu_num.specs.Rounding.{floor_of}
-use Rattle.qss_machine.specs.declared.compiled_machine.Machine.{Machine}
-use Rattle.mu_num.specs.IndexedSums.{int_at}
-use Rattle.qss_machine.specs.Machines.{state_count, level_unit}
-use Rattle.qss_order2.specs.SecondSteps.{SecondSnapshot, leaves_quantum, moved_state, moved_level}
-use Rattle.qss_order2.specs.SecondSteps.{next_states, next_levels, is_requantization}
-use Rattle.qss_order2.specs.SecondSteps.{is_limit_check, limit_check_period}
-use Rattle.qss_order2.specs.SecondRunLaws.{second_snapshot_after}
-use Rattle.qss_order2.specs.Stores.{levels_after, is_due, IsDue2, IsNextLook, IsMovedOn}
+use Rattle.qss_order2.proofs.Common
+use Common.{ℕ, ℤ, ◌%◌, ◌*ℤ◌, ◌+ℤ◌, ◌+◌, ◌<◌, ◌==◌, ◌||◌, ◌∙◌, ◌≡◌, ◌≤◌, ◌⊎◌, ap, arith, Bool}
+use Common.{eqb-false, eqb-true, eqb-yes, false, floor_of, if◌then◌else◌, inl, inr, int_at}
+use Common.{int_at-tabulate, is_due, is_limit_check, is_requantization, IsDue2, IsMovedOn}
+use Common.{IsNextLook, leaves_quantum, level_unit, levels_after, limit_check_period, List}
+use Common.{list_any, Machine, moved_level, moved_state, nat_lt, nat_tests, next_levels}
+use Common.{next_states, None, Option, or_left, or_right, pos, range_with_len, refl}
+use Common.{second_snapshot_after, SecondSnapshot, Some, state_count, subst, suc, sym, true, zero}
 use Rattle.qss_order2.proofs.Calm.{state_later, level_later}
 use Rattle.qss_order2.proofs.DueTicks.{dues_calm, due_leaves, undue_stays}
 use Rattle.qss_order2.proofs.Tables.{same_table}
-use Rattle.mu_num.proofs.Tables.{int_at-tabulate}
 
 -- a test that one of some numbers passes
 any_of : (p : ℕ → Bool) (first count j : ℕ) → first ≤ j → j < first + count → p j ≡ true →

@@ -1,33 +1,17 @@
 -- Places, and the motion of all states that they give at a tick.
-use Rattle.std.proofs.Common.{◌≡◌, ℕ, ◌+◌, ◌-◌, ◌<◌, ◌≤◌, true, false, List, length, ℤ, pos, ◌+ℤ◌}
-use Rattle.std.proofs.Common.{◌*ℤ◌, ◌≤ℤ◌, sym, ◌∙◌, ap, subst, arith, inl, inr}
-use Rattle.std.proofs.Math.IntN.{zero-*ℤ}
-use Rattle.std.proofs.lemmas.Bool.{cases_Bool}
-use Rattle.std.proofs.lemmas.Int.{ints}
-use Rattle.std.proofs.lemmas.List.FromFn.{length-map-range_with_len}
-use Rattle.std.specs.Prelude.{Option, Some}
-use Rattle.mu_num.proofs.CurveLaws.{curve_zero}
-use Rattle.mu_num.proofs.Integers.{add-mul}
-use Rattle.mu_num.specs.Curves.{curve_at}
-use Rattle.mu_num.specs.Sizes.{IsWithin}
-use Rattle.mu_num.specs.ListedPlaces.{is_listed}
-use Rattle.mu_num.specs.Writes.{IsWritten}
-use Rattle.qss_machine.specs.declared.compiled_machine.Machine.{Machine}
-use Rattle.mu_num.specs.IndexedSums.{int_at, tabulate, abs_of}
-use Rattle.qss_machine.specs.Machines.{state_count}
-use Rattle.qss_order2.specs.declared.order2_motion.Motion.{Motion}
-use Rattle.qss_order2.specs.declared.order2_motion.Place.{Place}
-use Rattle.qss_order2.specs.Places.{no_place, place_in, state_on, level_on, place_at, rise_on}
-use Rattle.qss_order2.specs.Places.{states_on, levels_on, rises_on, IsSmallPlace, CanMove, CanRead}
-use Rattle.qss_order2.specs.SecondRunLaws.{bend_at, second_snapshot_after}
-use Rattle.qss_order2.specs.SecondSteps.{rise_at}
-use Rattle.qss_order2.specs.Stores.{MotionAt, motion_at, snapshot_of, HasLists, IsSized}
-use Rattle.qss_order2.specs.Stores.{Moves, AreOnTheWay, AreCalmUntil, AreChangesCalm, place_there}
+use Rattle.qss_order2.proofs.Common
+use Common.{ℕ, ℤ, ◌*ℤ◌, ◌+ℤ◌, ◌+◌, ◌-◌, ◌<◌, ◌∙◌, ◌≡◌, ◌≤ℤ◌, ◌≤◌, abs_of, add-mul, ap, AreOnTheWay}
+use Common.{arith, bend_at, CanMove, CanRead, cases_Bool, curve_at, curve_zero, false, HasLists}
+use Common.{inl, inr, int_at, int_at-tabulate, ints, is_listed, IsSized, IsSmallPlace, IsWithin}
+use Common.{IsWritten, length, length-map-range_with_len, level_on, levels_on, List, Machine}
+use Common.{Motion, motion_at, MotionAt, Moves, no_place, Option, Place, place_at, place_in}
+use Common.{place_there, pos, rise_at, rise_on, rises_on, second_snapshot_after, snapshot_of, Some}
+use Common.{state_count, state_on, states_on, subst, sym, tabulate, true, zero-*ℤ}
+use Rattle.qss_order2.specs.Stores.{AreCalmUntil, AreChangesCalm}
 use Rattle.qss_order2.proofs.Bounds.{state_small, level_within, rise_small, rise_is, bend_small}
 use Rattle.qss_order2.proofs.Bounds.{bend_is, change_small}
 use Rattle.qss_order2.proofs.Shifts.{curve_on}
 use Rattle.qss_order2.proofs.Tables.{same_table}
-use Rattle.mu_num.proofs.Tables.{int_at-tabulate}
 
 -- ---- a place at its own tick
 

@@ -1,23 +1,13 @@
 -- Under the nearest rule the rows of a call are the first of those that were to come.
-use Rattle.std.proofs.Common.{◌≡◌, ℕ, zero, suc, ◌+◌, ◌-◌, ◌≤◌, ◌<◌, Bool, true, false, List, []}
-use Rattle.std.proofs.Common.{◌∷◌, ◌++◌, length, ℤ, refl, sym, ◌∙◌, ap, subst, arith, append-nil}
-use Rattle.std.specs.Prelude.{Option, Some, None, Result, Ok, Err, MatchBool}
-use Rattle.qss_machine.specs.declared.compiled_machine.Machine.{Machine}
-use Rattle.mu_num.specs.IndexedSums.{int_at}
-use Rattle.qss_machine.specs.Machines.{level_unit}
-use Rattle.qss_order2.specs.declared.order2_rows.Row2.{Row2}
-use Rattle.qss_order2.specs.declared.outcome2.Outcome2.{Outcome2}
-use Rattle.qss_order2.specs.declared.outcome2.Outcome2.TheVariants.{Events, Done, Over}
-use Rattle.qss_order2.specs.SecondSteps.{SecondSnapshot, rise_at, leaves_quantum, next_levels}
-use Rattle.qss_order2.specs.SecondSteps.{first_exceeding_limit, nearest_change, SlopeRuleOf}
-use Rattle.qss_order2.specs.SecondSteps.{IsSecondStep, AreChanges, IsStart2, second_start}
-use Rattle.qss_order2.specs.SecondSteps.{second_step}
-use Rattle.qss_order2.specs.SecondRuns.{last_second_snapshot, snapshots_with, snapshots_from}
-use Rattle.qss_order2.specs.SecondRuns.{snapshots_unless, run2_by, run2_rows, start_rows}
-use Rattle.qss_order2.specs.SecondRuns.{tick_rows2, end_rows, overflow_row, rows2_after}
-use Rattle.qss_order2.specs.SlopeRules.{IsRuled2}
-use Rattle.qss_order2.specs.Events.{SecondRunView, IsStarted, LeadsSilently2, IsNext2, Overflows}
-use Rattle.qss_order2.specs.Events.{rows2_left}
+use Rattle.qss_order2.proofs.Common
+use Common.{[], ℕ, ℤ, ◌++◌, ◌+◌, ◌-◌, ◌<◌, ◌∙◌, ◌∷◌, ◌≡◌, ◌≤◌, ap, append-nil, AreChanges, arith}
+use Common.{Bool, Done, end_rows, Err, Events, false, first_exceeding_limit, int_at, IsNext2}
+use Common.{IsRuled2, IsSecondStep, IsStart2, IsStarted, last_second_snapshot, LeadsSilently2}
+use Common.{leaves_quantum, length, level_unit, List, Machine, MatchBool, nearest_change}
+use Common.{next_levels, None, Ok, Option, Outcome2, Over, overflow_row, Overflows, refl, Result}
+use Common.{rise_at, Row2, rows2_after, rows2_left, run2_by, run2_rows, second_start, second_step}
+use Common.{SecondRunView, SecondSnapshot, SlopeRuleOf, snapshots_from, snapshots_unless}
+use Common.{snapshots_with, Some, start_rows, subst, suc, sym, tick_rows2, true, zero}
 use Rattle.qss_order2.proofs.Uniqueness.{step2_only, start2_only}
 
 named_change : (m : Machine) (asked : ℕ → Bool) (levels old new : List ℤ) →

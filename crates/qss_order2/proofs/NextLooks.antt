@@ -1,14 +1,9 @@
 -- The least due tick.
-use Rattle.std.proofs.Common.{◌≡◌, ℕ, ◌+◌, ◌-◌, ◌<◌, ◌≤◌, Bool, true, false, List, length, refl}
-use Rattle.std.proofs.Common.{sym, ◌∙◌, ap, subst, arith, inl, inr}
-use Rattle.std.proofs.lemmas.Bool.{cases_lt}
+use Rattle.qss_order2.proofs.Common
+use Common.{ℕ, ◌+◌, ◌-◌, ◌<◌, ◌==◌, ◌∙◌, ◌≡◌, ◌≤◌, ap, arith, Bool, cases_lt, due_at, eqb-false}
+use Common.{eqb-no, eqb-true, eqb-yes, false, HasDues, inl, inr, is_due, IsDue2, length, List}
+use Common.{Machine, None, Option, refl, SecondSnapshot, Some, state_count, subst, sym, true, until}
 use Rattle.std.proofs.lemmas.List.{get_or_past}
-use Rattle.std.specs.Prelude.{Option, Some, None, ◌==◌}
-use Rattle.mu_num.proofs.Tests.{eqb-true, eqb-false, eqb-yes, eqb-no}
-use Rattle.qss_machine.specs.declared.compiled_machine.Machine.{Machine}
-use Rattle.qss_machine.specs.Machines.{state_count}
-use Rattle.qss_order2.specs.Stores.{due_at, is_due, until, IsDue2, HasDues}
-use Rattle.qss_order2.specs.SecondSteps.{SecondSnapshot}
 
 -- two ticks are equal if and only if they are equal after t is subtracted from both
 same_test : (a b t : ℕ) → t < a → t < b → (a == b) ≡ (a - t == b - t)

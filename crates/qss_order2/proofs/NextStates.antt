@@ -1,21 +1,14 @@
 -- The next state that a row names.
-use Rattle.std.proofs.Common.{◌≡◌, ℕ, ◌+◌, ◌-◌, ◌<◌, ◌≤◌, true, false, List, length, get_or, map}
-use Rattle.std.proofs.Common.{[], pos, ◌∙◌, subst, arith, inl, inr}
-use Rattle.std.proofs.lemmas.Bool.{cases_lt}
-use Rattle.std.proofs.lemmas.Bool.Decides.{nat_tests}
-use Rattle.std.proofs.lemmas.List.{get_or-map, get_or_default, length-map}
+use Rattle.qss_order2.proofs.Common
+use Common.{[], ℕ, ◌+◌, ◌-◌, ◌<◌, ◌∙◌, ◌≡◌, ◌≤◌, All, arith, cases_lt, Entry, false, get_or}
+use Common.{get_or-map, get_or_default, inl, inr, IsNonDecreasingBy, IsPartitionPoint}
+use Common.{IsStrictlyIncreasing, length, length-map, List, Machine, map, mode_coefficient, nat_lt}
+use Common.{nat_tests, pos, Product, row_at, SlopeRow, start_coefficient, start_discretes}
+use Common.{state_count, subst, true}
 use Rattle.std.proofs.lemmas.List.Sorted.{IsPartitionedBy-ltb}
-use Rattle.std.specs.List.Sorted.{IsStrictlyIncreasing, IsNonDecreasingBy, IsPartitionedBy}
-use Rattle.std.specs.List.Sorted.{IsPartitionPoint}
-use Rattle.std.specs.Prelude.{All, nat_lt, slice_index}
-use Rattle.qss_machine.specs.declared.machine_parts.Entry.{Entry}
-use Rattle.qss_machine.specs.declared.machine_parts.Product.{Product}
-use Rattle.qss_machine.specs.declared.machine_parts.SlopeRow.{SlopeRow}
-use Rattle.qss_machine.specs.declared.compiled_machine.Machine.{Machine}
-use Rattle.qss_machine.specs.Legitimate.{start_coefficient}
+use Rattle.std.specs.List.Sorted.{IsPartitionedBy}
+use Rattle.std.specs.Prelude.{slice_index}
 use Rattle.qss_machine.specs.MachineLimits.{AreProducts}
-use Rattle.qss_machine.specs.Machines.{state_count, start_discretes, row_at}
-use Rattle.qss_machine.specs.Slopes.{mode_coefficient}
 use Rattle.qss_machine.proofs.Distinct.{none_at}
 use Rattle.qss_machine.proofs.ProductStates.{rising_to, rising_states, own_mode}
 

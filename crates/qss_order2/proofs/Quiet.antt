@@ -1,22 +1,11 @@
 -- What stays of a row that reads none of the requantized states.
-use Rattle.std.proofs.Common.{◌≡◌, ℕ, ◌<◌, Bool, false, List, ℤ, pos, ◌+ℤ◌}
-use Rattle.std.proofs.Common.{◌*ℤ◌, sym, ◌∙◌, ap, arith, inl, inr}
-use Rattle.std.proofs.Math.IntN.{zero-*ℤ}
-use Rattle.std.proofs.lemmas.Bool.{cases_Bool}
-use Rattle.std.proofs.lemmas.Int.{ints}
-use Rattle.std.specs.Prelude.{if◌then◌else◌}
-use Rattle.mu_num.proofs.Tests.{if-false}
-use Rattle.mu_num.specs.Rounding.{floor_of}
-use Rattle.qss_machine.specs.declared.compiled_machine.Machine.{Machine}
-use Rattle.qss_machine.specs.Legitimate.{start_coefficient}
-use Rattle.qss_machine.specs.Machines.{state_count, level_unit}
-use Rattle.mu_num.specs.IndexedSums.{int_at, abs_of}
-use Rattle.mu_num.proofs.Sums.{sum_below-same}
-use Rattle.qss_order2.specs.SecondRunLaws.{bend_at, second_snapshot_after}
-use Rattle.qss_order2.specs.Stores.{levels_after, IsQuiet}
-use Rattle.qss_order2.specs.SecondSteps.{SecondSnapshot, rise_at, rise_change_weight}
+use Rattle.qss_order2.proofs.Common
+use Common.{ℕ, ℤ, ◌*ℤ◌, ◌+ℤ◌, ◌<◌, ◌∙◌, ◌≡◌, abs_of, ap, arith, bend_at, Bool, cases_Bool, false}
+use Common.{floor_of, if-false, if◌then◌else◌, inl, inr, int_at, int_at-tabulate, ints, IsQuiet}
+use Common.{level_unit, levels_after, List, Machine, pos, rise_at, rise_change_weight}
+use Common.{second_snapshot_after, SecondSnapshot, start_coefficient, state_count, sum_below-same}
+use Common.{sym, zero-*ℤ}
 use Rattle.qss_order2.proofs.Calm.{rise_later}
-use Rattle.mu_num.proofs.Tables.{int_at-tabulate}
 
 module _ (m : Machine) (left : ℕ → Bool) (j : ℕ) (quiet : IsQuiet m left j) where
   module _ (xs ys : List ℤ) (same : (i : ℕ) → i < state_count m → left i ≡ false →

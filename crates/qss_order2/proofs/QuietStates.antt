@@ -1,18 +1,9 @@
 -- The states that are affected if some leave.
-use Rattle.std.proofs.Common.{◌≡◌, ◌≢◌, ℕ, ◌+◌, ◌<◌, Bool, true, false, eqb, ◌||◌, List}
-use Rattle.std.proofs.Common.{length, get_or, take, pos, refl, sym, ◌∙◌, ap, subst, arith, inl, inr}
-use Rattle.std.proofs.Common.{◌⊎◌}
-use Rattle.std.proofs.lemmas.Bool.{cases_Bool}
-use Rattle.std.proofs.lemmas.List.{length-map, get_or-map}
-use Rattle.std.specs.Prelude.{All}
-use Rattle.mu_num.specs.ListedPlaces.{is_listed}
-use Rattle.mu_num.proofs.Writes.{among_more, index_of}
-use Rattle.qss_machine.specs.declared.machine_parts.Entry.{Entry}
-use Rattle.qss_machine.specs.declared.compiled_machine.Machine.{Machine}
-use Rattle.qss_machine.specs.Legitimate.{start_coefficient}
-use Rattle.qss_machine.specs.Machines.{state_count}
-use Rattle.qss_order2.specs.Fixed.{AreColumnsBelow, column_at, rows_in}
-use Rattle.qss_order2.specs.Stores.{AreQuiet}
+use Rattle.qss_order2.proofs.Common
+use Common.{ℕ, ◌+◌, ◌<◌, ◌||◌, ◌∙◌, ◌≡◌, ◌≢◌, ◌⊎◌, All, among_more, ap, AreColumnsBelow, AreQuiet}
+use Common.{arith, Bool, cases_Bool, column_at, Entry, eqb, false, get_or, get_or-map, index_of}
+use Common.{inl, inr, is_listed, length, length-map, List, Machine, pos, refl, rows_in}
+use Common.{start_coefficient, state_count, subst, sym, take, true}
 use Rattle.qss_order2.proofs.ColumnSums.{entry_0, unlisted}
 
 or_same : (a b c : Bool) → ((a || b) || c) ≡ (a || (b || c))

@@ -1,24 +1,13 @@
 -- Rows, one state after another.
-use Rattle.std.proofs.Common.{◌≡◌, ℕ, ◌+◌, ◌<◌, Bool, true, List, [], ◌∷◌, ◌++◌, length}
-use Rattle.std.proofs.Common.{get_or, map, ℤ, pos, refl, sym, ◌∙◌, ap, arith, append_assoc}
-use Rattle.std.proofs.Common.{append-nil}
-use Rattle.std.proofs.lemmas.Grind.{flat_map-append}
-use Rattle.std.proofs.lemmas.List.FromFn.{map-range_with_len_more}
-use Rattle.std.specs.List.{flat_map, range_with_len}
-use Rattle.std.specs.Prelude.{if◌then◌else◌}
-use Rattle.mu_num.proofs.Tests.{if-true, if-false}
+use Rattle.qss_order2.proofs.Common
+use Common.{[], ℕ, ℤ, ◌++◌, ◌+◌, ◌<◌, ◌∙◌, ◌∷◌, ◌≡◌, ap, append-nil, append_assoc, AreRisingBelow}
+use Common.{arith, Bool, flat_map, flat_map-append, get_or, if-false, if-true, if◌then◌else◌}
+use Common.{index_of, int_at, is_listed, Kind2, length, level_row, List, map}
+use Common.{map-range_with_len_more, Place, place_in, place_rows, pos, range_with_len, refl, Row2}
+use Common.{rows_of_left, SecondSnapshot, slope_row, sym, tabulate, true}
 use Rattle.mu_num.proofs.RisingNumbers.{rows_among}
-use Rattle.mu_num.proofs.Writes.{among_head, among_rest, index_of}
-use Rattle.mu_num.specs.ListedPlaces.{is_listed, AreRisingBelow}
-use Rattle.mu_num.specs.IndexedSums.{int_at, tabulate}
-use Rattle.qss_order2.specs.declared.order2_rows.Row2.{Row2}
-use Rattle.qss_order2.specs.declared.order2_motion.Place.{Place}
-use Rattle.qss_order2.specs.declared.order2_rows.Kind2.{Kind2}
+use Rattle.mu_num.proofs.Writes.{among_head, among_rest}
 use Rattle.qss_order2.specs.declared.order2_rows.Kind2.TheVariants.{Slope}
-use Rattle.qss_order2.specs.Places.{place_in}
-use Rattle.qss_order2.specs.SecondSteps.{SecondSnapshot}
-use Rattle.qss_order2.specs.SecondRuns.{level_row, slope_row}
-use Rattle.qss_order2.specs.Stores.{rows_of_left, place_rows}
 
 map-same : (xs : List ℕ) → map (λ (x : ℕ). x) xs ≡ xs
 map-same [] = refl

@@ -1,14 +1,11 @@
 -- The text of second-order rows, and where it stops.
-use Rattle.std.proofs.Common.{◌≡◌, true, ℕ, List, ◌++◌, sym, ap, ◌∙◌, subst}
-use Rattle.std.specs.Prelude.{Option}
+use Rattle.qss_order2.proofs.Common
+use Common.{ℕ, ◌++◌, ◌∙◌, ◌≡◌, ap, flat_map-append, line2_of, List, Machine, Option, Row2}
+use Common.{row2_lines, subst, sym, text_in, true}
 use Rattle.std.specs.Io.KnownBytes.{Appends}
-use Rattle.std.proofs.lemmas.List.Concat.{flat_map-append}
-use Rattle.qss_machine.specs.declared.compiled_machine.Machine.{Machine}
-use Rattle.qss_order2.specs.declared.order2_rows.Row2.{Row2}
-use Rattle.qss_order2.specs.SecondRowLines.{line2_of, lines2_of}
-use Rattle.qss_order2.specs.RemainingSecondRows.{row2_lines}
+use Rattle.qss_order2.specs.SecondRowLines.{lines2_of}
 use Rattle.qss_order2.specs.SecondRunTexts.{StopsBefore2}
-use Rattle.qss_rows.specs.Simulations.{text_in, StopsAtLine}
+use Rattle.qss_rows.specs.Simulations.{StopsAtLine}
 use Rattle.qss_rows.proofs.RowLines.{split, text_all}
 
 pub lines2-append : (m : Machine) (xs ys : List Row2) → lines2_of m (xs ++ ys) ≡ lines2_of m xs ++

@@ -1,30 +1,15 @@
 -- What follows from new levels, of the states of a list.
-use Rattle.std.proofs.Common.{◌≡◌, ℕ, ◌+◌, ◌^◌, ◌<◌, ◌≤◌, Bool, true, false, List, length, get_or}
-use Rattle.std.proofs.Common.{ℤ, pos, ◌*ℤ◌, ◌≤ℤ◌, refl, sym, ◌∙◌, ap, subst, arith, inl, inr}
-use Rattle.std.proofs.lemmas.Bool.{cases_lt}
-use Rattle.std.proofs.lemmas.Int.{ints}
-use Rattle.std.proofs.lemmas.List.{get_or_default}
-use Rattle.std.specs.Int.{int_wrap, w128}
-use Rattle.std.specs.Prelude.{All, Option, Some, None, is_some, MatchBool}
-use Rattle.mu_num.proofs.SizeTests.{within-passes}
-use Rattle.mu_num.specs.Sizes.{IsWithin, exceeds}
-use Rattle.mu_num.specs.ListedPlaces.{is_listed}
-use Rattle.mu_num.specs.Writes.{IsWritten}
-use Rattle.mu_num.proofs.Writes.{among_at, index_of}
-use Rattle.qss_machine.specs.declared.compiled_machine.Machine.{Machine}
-use Rattle.mu_num.specs.IndexedSums.{int_at, tabulate, abs_of}
-use Rattle.qss_machine.specs.Legitimate.{start_coefficient}
-use Rattle.qss_machine.specs.Machines.{state_count, level_unit}
-use Rattle.qss_machine.proofs.Ranges.{none_past}
-use Rattle.qss_order2.specs.declared.order2_motion.Motion.{Motion}
-use Rattle.qss_order2.specs.declared.order2_motion.Place.{Place}
-use Rattle.qss_order2.specs.Places.{place_in, levels_on, CanRead}
-use Rattle.qss_order2.specs.SecondRunLimits.{past_levels, IsCalmLevel}
-use Rattle.qss_order2.specs.SecondSteps.{rise_at, rise_weight, rise_change_weight, AreChanges}
-use Rattle.qss_order2.specs.SlopeRules.{IsAnswer, IsRuled2}
-use Rattle.qss_order2.specs.SecondRunLaws.{bend_at}
-use Rattle.qss_order2.specs.Stores.{AreQuiet, HasChanged, HasSettled}
-use Rattle.qss_machine.proofs.Near.{option_or-None, unit_fits}
+use Rattle.qss_order2.proofs.Common
+use Common.{ℕ, ℤ, ◌*ℤ◌, ◌+◌, ◌<◌, ◌^◌, ◌∙◌, ◌≡◌, ◌≤ℤ◌, ◌≤◌, abs_of, All, among_at, ap, AreChanges}
+use Common.{AreQuiet, arith, bend_at, Bool, CanRead, cases_lt, exceeds, false, get_or}
+use Common.{get_or_default, HasChanged, HasSettled, index_of, inl, inr, int_at, int_at-tabulate}
+use Common.{int_wrap, ints, is_listed, IsAnswer, IsCalmLevel, IsRuled2, IsWithin, IsWritten, length}
+use Common.{level_unit, levels_on, List, Machine, MatchBool, Motion, None, none_past, Option}
+use Common.{option_or-None, past_levels, Place, place_in, pos, refl, rise_at, rise_change_weight}
+use Common.{rise_weight, Some, start_coefficient, state_count, subst, sym, tabulate, true}
+use Common.{unit_fits, within-passes}
+use Rattle.std.specs.Int.{w128}
+use Rattle.std.specs.Prelude.{is_some}
 use Rattle.qss_order2.proofs.Bounds.{rise_by_weight, bend_by_weight, factor_small}
 use Rattle.qss_order2.proofs.Motions.{at_levels, here_level}
 use Rattle.qss_order2.proofs.ColumnSums.{wrap_small}
@@ -33,7 +18,6 @@ use Rattle.qss_order2.proofs.SizeSums.{size_from_zero}
 use Rattle.qss_order2.proofs.Quiet.{same_bend_weight}
 use Rattle.qss_order2.proofs.Settlings.{are_changes, near_ones, near_are, past_first, past_then}
 use Rattle.qss_order2.proofs.Settlings.{of_changes}
-use Rattle.mu_num.proofs.Tables.{int_at-tabulate}
 use Rattle.qss_order2.proofs.Tables.{all_of}
 
 -- numbers that are all in a list of small ones are small

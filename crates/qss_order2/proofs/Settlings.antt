@@ -1,21 +1,11 @@
 -- What follows from new levels.
-use Rattle.std.proofs.Common.{◌≡◌, ℕ, ◌<◌, Bool, true, false, List, length, ℤ, ◌*ℤ◌, refl, sym, ◌∙◌}
-use Rattle.std.proofs.Common.{ap, subst, arith}
-use Rattle.std.proofs.lemmas.Int.{ints}
-use Rattle.std.proofs.lemmas.List.FromFn.{length-map-range_with_len}
-use Rattle.std.specs.Option.{option_or}
-use Rattle.std.specs.Prelude.{Option, Some, None, MatchBool, if◌then◌else◌}
-use Rattle.mu_num.specs.Sizes.{IsWithin}
-use Rattle.qss_machine.specs.declared.compiled_machine.Machine.{Machine}
-use Rattle.mu_num.specs.IndexedSums.{int_at, tabulate, first_exceeding}
-use Rattle.qss_machine.specs.Machines.{state_count, level_unit}
-use Rattle.qss_machine.proofs.Near.{unit_positive, unit_fits}
-use Rattle.qss_order2.specs.SecondSteps.{rise_at, rise_weight, rise_change_weight}
-use Rattle.qss_order2.specs.SecondSteps.{first_exceeding_limit, nearest_change, AreChanges}
-use Rattle.qss_order2.specs.SecondRunLimits.{past_levels}
-use Rattle.qss_order2.specs.SlopeRules.{IsAnswer, IsRuled2}
+use Rattle.qss_order2.proofs.Common
+use Common.{ℕ, ℤ, ◌*ℤ◌, ◌<◌, ◌∙◌, ◌≡◌, ap, AreChanges, arith, Bool, false, first_exceeding}
+use Common.{first_exceeding_limit, if◌then◌else◌, int_at, int_at-tabulate, ints, IsAnswer, IsRuled2}
+use Common.{IsWithin, length, length-map-range_with_len, level_unit, List, Machine, MatchBool}
+use Common.{nearest_change, None, Option, option_or, past_levels, refl, rise_at, rise_change_weight}
+use Common.{rise_weight, Some, state_count, subst, sym, tabulate, true, unit_fits, unit_positive}
 use Rattle.qss_order2.proofs.Legitimacy.{nearest_is_free}
-use Rattle.mu_num.proofs.Tables.{int_at-tabulate}
 
 -- ---- limits in their order
 

@@ -1,24 +1,14 @@
 -- Due ticks of states that an event step does not affect stay.
-use Rattle.std.proofs.Common.{◌≡◌, ℕ, zero, suc, ◌+◌, ◌-◌, ◌%◌, ◌<◌, ◌≤◌, Bool, false, List, ℤ, pos}
-use Rattle.std.proofs.Common.{◌+ℤ◌, ◌-ℤ◌, ◌*ℤ◌, ◌≤ℤ◌, unsigned_abs, refl, sym, ◌∙◌, ap, subst}
-use Rattle.std.proofs.Common.{arith, ◌⊎◌}
-use Rattle.std.proofs.lemmas.Int.{ints}
-use Rattle.std.specs.Prelude.{Option, Some, None, if◌then◌else◌}
-use Rattle.mu_num.proofs.CurveLaws.{curve_more, curve_zero}
-use Rattle.mu_num.proofs.Integers.{add-mul}
-use Rattle.mu_num.proofs.Tests.{if-false, eqb-false}
-use Rattle.mu_num.specs.Curves.{curve_at, FirstUpTo}
-use Rattle.mu_num.specs.Rounding.{floor_of}
-use Rattle.qss_machine.specs.declared.compiled_machine.Machine.{Machine}
-use Rattle.qss_machine.specs.Machines.{state_count, level_unit}
-use Rattle.mu_num.specs.IndexedSums.{int_at}
-use Rattle.qss_order2.specs.SecondRunLaws.{bend_at, second_snapshot_after, gap_after}
-use Rattle.qss_order2.specs.Stores.{levels_after, due_at, is_due, until, IsDue2, IsWindow, HasDues}
-use Rattle.qss_order2.specs.Stores.{KeepsDues, IsNextLook, IsQuiet, AreQuiet}
-use Rattle.qss_order2.specs.SecondSteps.{SecondSnapshot, rise_at, reach_of, limit_check_period}
+use Rattle.qss_order2.proofs.Common
+use Common.{ℕ, ℤ, ◌%◌, ◌*ℤ◌, ◌+ℤ◌, ◌+◌, ◌-ℤ◌, ◌-◌, ◌<◌, ◌∙◌, ◌≡◌, ◌≤ℤ◌, ◌≤◌, ◌⊎◌, add-mul, ap}
+use Common.{AreQuiet, arith, bend_at, Bool, curve_at, curve_more, curve_zero, due_at, eqb-false}
+use Common.{false, FirstUpTo, floor_of, gap_after, HasDues, if-false, if◌then◌else◌, int_at}
+use Common.{int_at-tabulate, ints, is_due, IsDue2, IsNextLook, IsQuiet, IsWindow, KeepsDues}
+use Common.{level_unit, levels_after, limit_check_period, List, Machine, None, Option, pos}
+use Common.{reach_of, refl, rise_at, second_snapshot_after, SecondSnapshot, Some, state_count}
+use Common.{subst, suc, sym, unsigned_abs, until, zero}
 use Rattle.qss_order2.proofs.Calm.{gap_is}
 use Rattle.qss_order2.proofs.Quiet.{rise_stays, same_bend}
-use Rattle.mu_num.proofs.Tables.{int_at-tabulate}
 
 -- a curve goes on along itself
 pub curve_on : (c b a : ℤ) (h k : ℕ) → curve_at (curve_at c b a h) (b +ℤ pos h *ℤ a) a k ≡ curve_at

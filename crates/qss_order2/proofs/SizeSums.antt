@@ -1,8 +1,7 @@
 -- A sum of sizes is at least each of them.
-use Rattle.std.proofs.Common.{ℕ, zero, suc, ◌<◌, List, [], ◌∷◌, length, get_or, ℤ, pos, ◌≤ℤ◌, arith}
-use Rattle.std.proofs.lemmas.Int.{ints}
-use Rattle.qss_machine.specs.declared.machine_parts.Entry.{Entry}
-use Rattle.mu_num.specs.IndexedSums.{abs_of, sum_over}
+use Rattle.qss_order2.proofs.Common
+use Common.{[], ℕ, ℤ, ◌<◌, ◌∷◌, ◌≤ℤ◌, abs_of, arith, Entry, get_or, ints, length, List, pos, suc}
+use Common.{sum_over, zero}
 
 module _ (f : Entry → ℤ) (from_zero : (e : Entry) → pos 0 ≤ℤ f e) where
   pub sum_from_zero : (xs : List Entry) → pos 0 ≤ℤ sum_over f xs

@@ -1,34 +1,20 @@
 -- Sizes of a machine's units, quanta, drives, and of its rises at the start.
-use Rattle.std.proofs.Common.{◌≡◌, ℕ, zero, suc, ◌+◌, ◌*◌, ◌<◌, ◌≤◌, ◌^◌, Bool, true, false, List}
-use Rattle.std.proofs.Common.{[], map, length, ℤ, pos, negsuc, ◌+ℤ◌, ◌*ℤ◌, ◌≤ℤ◌, ◌<ℤ◌, refl, sym}
-use Rattle.std.proofs.Common.{◌∙◌, ap, subst, arith}
-use Rattle.std.proofs.Math.IntN.{*ℤ_comm, pos-*ℤ-pos}
-use Rattle.std.proofs.Math.Nat.{mul-le-mul_left}
-use Rattle.std.proofs.lemmas.Int.{ints, unsigned_abs-mul}
-use Rattle.std.proofs.lemmas.List.{get_or-map, length-map, length-replicate}
-use Rattle.std.proofs.lemmas.Nat.{mul-le}
-use Rattle.std.specs.Int.RustNames.{unsigned_abs, int_lt}
-use Rattle.std.specs.Prelude.{replicate}
-use Rattle.mu_num.specs.Rounding.{floor_of}
-use Rattle.mu_num.specs.Sizes.{IsWithin, IsPositiveWithin}
-use Rattle.mu_num.proofs.Integers.{mul-add, mul-above, mul-nonneg, mul_assoc}
-use Rattle.mu_num.proofs.Quotients.{floor_meets}
-use Rattle.mu_num.proofs.Tests.{int_lt-true, int_lt-false}
-use Rattle.qss_machine.specs.declared.machine_parts.SlopeRow.{SlopeRow}
-use Rattle.qss_machine.specs.declared.machine_parts.StateInfo.{StateInfo}
-use Rattle.qss_machine.specs.declared.compiled_machine.Machine.{Machine}
-use Rattle.mu_num.specs.IndexedSums.{int_at, abs_of, sum_below}
+use Rattle.qss_order2.proofs.Common
+use Common.{*ℤ_comm, [], ℕ, ℤ, ◌*ℤ◌, ◌*◌, ◌+ℤ◌, ◌+◌, ◌<ℤ◌, ◌<◌, ◌^◌, ◌∙◌, ◌≡◌, ◌≤ℤ◌, ◌≤◌, abs_of}
+use Common.{ap, arith, Bool, coefficient_of, false, fine_levels, fine_states, floor_meets, floor_of}
+use Common.{get_or-map, int_at, int_lt, int_lt-false, int_lt-true, ints, IsPositiveWithin, IsWithin}
+use Common.{length, length-map, length-replicate, level_unit, List, Machine, map, mode_coefficient}
+use Common.{mode_small, mul-add, mul-le, mul-le-mul_left, mul_assoc, negsuc, pos, quanta}
+use Common.{quanta_positive, reach_of, refl, replicate, rise_at, row_at, SlopeRow}
+use Common.{start_coefficient, start_constant_part, start_discretes, start_states, state_count}
+use Common.{StateInfo, subst, suc, sum_below, sum_below-same, sum_below-zero, sym, true, unit_fits}
+use Common.{unit_positive, unsigned_abs-mul, zero}
+use Rattle.std.proofs.Math.IntN.{pos-*ℤ-pos}
+use Rattle.std.specs.Int.RustNames.{unsigned_abs}
+use Rattle.mu_num.proofs.Integers.{mul-above, mul-nonneg}
 use Rattle.mu_num.specs.Levels.{level_below}
-use Rattle.qss_machine.specs.Machines.{state_count, level_unit, quanta, start_states}
-use Rattle.qss_machine.specs.Machines.{start_discretes, row_at}
-use Rattle.qss_machine.specs.Slopes.{slope_of, weight_of, constant_part, mode_coefficient}
-use Rattle.qss_machine.specs.Slopes.{coefficient_of}
-use Rattle.qss_machine.specs.Legitimate.{start_coefficient, start_constant_part}
-use Rattle.qss_machine.proofs.Near.{unit_fits, unit_positive, quanta_positive}
-use Rattle.mu_num.proofs.Sums.{sum_below-same, sum_below-zero}
+use Rattle.qss_machine.specs.Slopes.{slope_of, weight_of, constant_part}
 use Rattle.qss_machine.proofs.WeightLaws.{slope-within_weight}
-use Rattle.qss_order2.specs.SecondSteps.{rise_at, reach_of, fine_states, fine_levels}
-use Rattle.qss_machine.proofs.ModeTests.{mode_small}
 
 no_state : StateInfo
 no_state = record { name = []; x0 = pos 0; quantum = pos 0 }

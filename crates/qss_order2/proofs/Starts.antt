@@ -1,36 +1,21 @@
 -- The world at tick 0.
-use Rattle.std.proofs.Common.{◌≡◌, ℕ, ◌+◌, ◌<◌, Bool, true, List, [], ◌∷◌, length}
-use Rattle.std.proofs.Common.{get_or, ℤ, pos, ◌-ℤ◌, ◌*ℤ◌, ◌<ℤ◌, sym, ◌∙◌, ap, subst, arith}
-use Rattle.std.proofs.lemmas.List.{get_or-map, length-map}
-use Rattle.std.proofs.lemmas.List.FromFn.{get_or-map-range_with_len, get_or-range_with_len}
-use Rattle.std.proofs.lemmas.List.FromFn.{length-range_with_len}
-use Rattle.std.proofs.lemmas.Int.{ints}
+use Rattle.qss_order2.proofs.Common
+use Common.{[], ℕ, ℤ, ◌*ℤ◌, ◌+◌, ◌-ℤ◌, ◌<ℤ◌, ◌<◌, ◌∙◌, ◌∷◌, ◌≡◌, among_at, ap, AreChanges}
+use Common.{AreRisingBelow, arith, Bool, fine_levels, fine_states, flat_map, floor_of, get_or}
+use Common.{get_or-map, get_or-map-range_with_len, if-true, int_at, ints, is_listed, IsNear2}
+use Common.{IsRuled2, IsWithin, length, length-map, level_row, level_unit, levels_on, List, Machine}
+use Common.{MatchBool, no_place, Place, place_in, pos, range_with_len, reach_of, rise_at, rises_on}
+use Common.{rows_of_left, SecondSnapshot, slope_row, start_place, start_states, state_count}
+use Common.{StateInfo, states_on, subst, sym, tabulate, true}
+use Rattle.std.proofs.lemmas.List.FromFn.{get_or-range_with_len, length-range_with_len}
 use Rattle.std.specs.Int.RustNames.{unsigned_abs}
-use Rattle.std.specs.List.{flat_map, range_with_len}
-use Rattle.std.specs.Prelude.{MatchBool}
-use Rattle.mu_num.specs.Rounding.{floor_of}
-use Rattle.mu_num.proofs.Tests.{if-true}
-use Rattle.mu_num.specs.Sizes.{IsWithin}
-use Rattle.qss_order2.specs.SlopeRules.{IsRuled2}
 use Rattle.qss_order2.proofs.Settlings.{held_after}
-use Rattle.qss_machine.specs.declared.machine_parts.StateInfo.{StateInfo}
-use Rattle.qss_machine.specs.declared.compiled_machine.Machine.{Machine}
-use Rattle.mu_num.specs.ListedPlaces.{is_listed, AreRisingBelow}
 use Rattle.mu_num.proofs.Tables.{tabulate-int_at}
-use Rattle.mu_num.proofs.Writes.{among_at}
-use Rattle.mu_num.specs.IndexedSums.{int_at, tabulate}
-use Rattle.qss_machine.specs.Machines.{state_count, level_unit, start_states}
-use Rattle.qss_order2.specs.declared.order2_motion.Place.{Place}
-use Rattle.qss_order2.specs.declared.order2_rows.Kind2.TheVariants as kind
-use Rattle.qss_order2.specs.Places.{no_place, place_in, states_on, levels_on, rises_on}
-use Rattle.qss_order2.specs.SecondRuns.{level_row, slope_row}
-use Rattle.qss_order2.specs.Stores.{IsNear2, start_place, rows_of_left}
-use Rattle.qss_order2.specs.SecondSteps.{SecondSnapshot, rise_at, reach_of, fine_states}
-use Rattle.qss_order2.specs.SecondSteps.{fine_levels, AreChanges}
 use Rattle.qss_order2.proofs.Motions.{here_state, here_level, here_line, states_are, levels_are}
 use Rattle.qss_order2.proofs.Motions.{rises_are}
 use Rattle.qss_order2.proofs.RowLists.{left_rows}
 use Rattle.qss_order2.proofs.Visits.{floor_inside, flat_same}
+use Rattle.qss_order2.specs.declared.order2_rows.Kind2.TheVariants as kind
 
 pub fine_count : (m : Machine) → length (fine_states m) ≡ state_count m
 fine_count m = length-map (start_states m) (λ (x : ℤ). pos 64 *ℤ x)

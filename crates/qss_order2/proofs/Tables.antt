@@ -1,17 +1,14 @@
 -- Lists by the number of each value.
-use Rattle.std.proofs.Common.{◌≡◌, ◌≢◌, ℕ, zero, suc, ◌+◌, ◌<◌, ◌≤◌, Bool, true, false, cond, List}
-use Rattle.std.proofs.Common.{[], ◌∷◌, ◌++◌, length, map, take, set, get_or, ℤ, pos, refl, sym, ◌∙◌}
-use Rattle.std.proofs.Common.{ap, subst, inl, inr, ◌⊎◌, arith}
-use Rattle.std.proofs.lemmas.Bool.{cases_eq}
-use Rattle.std.proofs.lemmas.List.{map-append, take_more, length-set, get_or-set_same}
-use Rattle.std.proofs.lemmas.List.{get_or-set_other, get_or_default}
-use Rattle.std.proofs.lemmas.List.FromFn.{length-map-range_with_len, fill_by_all}
-use Rattle.std.proofs.lemmas.List.FromFn.{map-range_with_len_more}
+use Rattle.qss_order2.proofs.Common
+use Common.{[], ℕ, ℤ, ◌++◌, ◌+◌, ◌<◌, ◌∙◌, ◌∷◌, ◌≡◌, ◌≢◌, ◌≤◌, ◌⊎◌, All, ap, arith, Bool, cases_eq}
+use Common.{false, fill_by_all, get_or, get_or-set_other, get_or-set_same, get_or_default, inl, inr}
+use Common.{int_at, int_at-tabulate, length, length-map-range_with_len, length-set, List, map}
+use Common.{map-append, map-range_with_len_more, None, pos, refl, set, Some, subst, suc, sym}
+use Common.{tabulate, take, true, zero}
+use Rattle.std.proofs.Common.{cond}
+use Rattle.std.proofs.lemmas.List.{take_more}
 use Rattle.std.proofs.lemmas.Iterator.Adapters.{position_from-zero}
 use Rattle.std.specs.List.{position, position_from}
-use Rattle.std.specs.Prelude.{All, Some, None}
-use Rattle.mu_num.specs.IndexedSums.{int_at, tabulate}
-use Rattle.mu_num.proofs.Tables.{int_at-tabulate}
 
 -- tables of the same values
 pub same_table : (n : ℕ) (f g : ℕ → ℤ) → ((j : ℕ) → j < n → f j ≡ g j) → tabulate n f ≡ tabulate n g

@@ -1,33 +1,19 @@
 -- An event step is the tick after event-free ones.
-use Rattle.std.proofs.Common.{◌≡◌, ℕ, zero, suc, ◌+◌, ◌≤◌, ◌<◌, Bool, true, false, List, [], ◌∷◌}
-use Rattle.std.proofs.Common.{◌++◌, ℤ, pos, ◌-ℤ◌, ◌*ℤ◌, ◌<ℤ◌, refl, sym, ◌∙◌, ap, subst, arith}
-use Rattle.std.proofs.lemmas.Int.{ints}
-use Rattle.std.specs.Int.RustNames.{unsigned_abs, int_lt}
-use Rattle.std.specs.List.{flat_map, range_with_len}
-use Rattle.std.specs.Prelude.{Option, Some, None, Ok, not, MatchBool, if◌then◌else◌}
-use Rattle.mu_num.specs.Rounding.{floor_of}
-use Rattle.mu_num.proofs.Quotients.{floor_meets}
-use Rattle.mu_num.proofs.Tests.{if_cases, int_lt-true}
-use Rattle.qss_machine.specs.declared.compiled_machine.Machine.{Machine}
-use Rattle.mu_num.specs.IndexedSums.{int_at}
-use Rattle.qss_machine.specs.Machines.{state_count, level_unit}
-use Rattle.qss_machine.proofs.Near.{unit_positive}
-use Rattle.qss_order2.specs.declared.order2_rows.Row2.{Row2}
-use Rattle.qss_order2.specs.declared.order2_rows.Kind2.TheVariants as kind
-use Rattle.qss_order2.specs.SecondSteps.{SecondSnapshot, rise_at, reach_of, moved_state}
-use Rattle.qss_order2.specs.SecondSteps.{moved_level, leaves_quantum, next_states, next_levels}
-use Rattle.qss_order2.specs.SecondSteps.{next_snapshot, first_exceeding_limit}
-use Rattle.qss_order2.specs.SecondSteps.{second_snapshot_unless, finish_second_tick, AreChanges}
-use Rattle.qss_order2.specs.SecondSteps.{IsSecondStep}
-use Rattle.qss_order2.specs.SecondRuns.{last_second_snapshot, level_row, slope_row, tick_rows2}
-use Rattle.qss_order2.specs.SecondRunLaws.{second_snapshot_after, HasEach}
-use Rattle.qss_order2.specs.Events.{IsVisit2}
-use Rattle.qss_order2.specs.Stores.{MotionAt, snapshot_of, IsNear2, IsMovedOn, IsSettled}
-use Rattle.qss_order2.specs.Stores.{rows_of_left}
+use Rattle.qss_order2.proofs.Common
+use Common.{[], ℕ, ℤ, ◌*ℤ◌, ◌++◌, ◌+◌, ◌-ℤ◌, ◌<ℤ◌, ◌<◌, ◌∙◌, ◌∷◌, ◌≡◌, ◌≤◌, ap, AreChanges, arith}
+use Common.{Bool, false, finish_second_tick, first_exceeding_limit, flat_map, floor_meets, floor_of}
+use Common.{HasEach, if_cases, if◌then◌else◌, int_at, int_at-tabulate, int_lt, int_lt-true, ints}
+use Common.{IsMovedOn, IsNear2, IsSecondStep, IsSettled, IsVisit2, last_second_snapshot}
+use Common.{leaves_quantum, level_row, level_unit, List, Machine, MatchBool, MotionAt, moved_level}
+use Common.{moved_state, next_levels, next_snapshot, next_states, None, not, Ok, Option, pos}
+use Common.{range_with_len, reach_of, refl, rise_at, Row2, rows_of_left, second_snapshot_after}
+use Common.{second_snapshot_unless, SecondSnapshot, slope_row, snapshot_of, Some, state_count}
+use Common.{subst, suc, sym, tick_rows2, true, unit_positive, zero}
+use Rattle.std.specs.Int.RustNames.{unsigned_abs}
 use Rattle.qss_order2.proofs.RowLists.{left_rows}
 use Rattle.qss_order2.proofs.Silent.{calm_worlds, calm_length, calm_last, calm_leads}
 use Rattle.qss_order2.proofs.Sizes.{reach_unit}
-use Rattle.mu_num.proofs.Tables.{int_at-tabulate}
+use Rattle.qss_order2.specs.declared.order2_rows.Kind2.TheVariants as kind
 
 pub flat_same : (f g : ℕ → List Row2) (first count : ℕ) → ((j : ℕ) → first ≤ j → j < first + count →
     f j ≡ g j) → flat_map f (range_with_len first count) ≡ flat_map g (range_with_len first count)

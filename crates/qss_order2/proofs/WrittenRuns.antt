@@ -1,27 +1,20 @@
 -- A call of a second-order simulator, and a run from its start.
-use Rattle.std.proofs.Common.{◌≡◌, ℕ, ◌-◌, ◌<◌, ◌+◌, Bool, true, List, [], ◌++◌, refl, sym, ap, ◌∙◌}
-use Rattle.std.proofs.Common.{subst, arith, inl, inr}
-use Rattle.std.specs.Prelude.{Option, Some, All}
+use Rattle.qss_order2.proofs.Common
+use Common.{[], ℕ, ◌++◌, ◌+◌, ◌-◌, ◌<◌, ◌∙◌, ◌≡◌, All, ap, arith, Bool, discrete_count, EndsAs}
+use Common.{Events, first_exceeding_limit, HasVariable2, inl, inr, IsAble, IsNext2, IsRuled2}
+use Common.{IsStarted, line2_of, List, Machine, nearest_change, Option, Outcome2, Over}
+use Common.{overflow_ahead, refl, row2_lines, rows2_after, rows2_left, run2_rows, second_order_run}
+use Common.{SecondRunView, snapshots_from, snapshots_unless, Some, state_count, subst, sym, text_in}
+use Common.{true}
 use Rattle.std.proofs.lemmas.List.Elements.{All-head}
-use Rattle.qss_machine.specs.declared.compiled_machine.Machine.{Machine}
-use Rattle.qss_machine.specs.Machines.{state_count, discrete_count}
-use Rattle.qss_order2.specs.declared.outcome2.Outcome2.{Outcome2}
-use Rattle.qss_order2.specs.declared.outcome2.Outcome2.TheVariants.{Events, Over}
-use Rattle.qss_order2.specs.Events.{SecondRunView, IsStarted, IsNext2, unless_ended2, rows2_left}
-use Rattle.qss_order2.specs.SecondRowLines.{HasVariable2, line2_of}
-use Rattle.qss_order2.specs.SlopeRules.{IsRuled2}
-use Rattle.qss_order2.specs.SecondRuns.{snapshots_from, snapshots_unless, rows2_after, run2_rows}
-use Rattle.qss_order2.specs.SecondSteps.{nearest_change, first_exceeding_limit}
+use Rattle.qss_order2.specs.Events.{unless_ended2}
 use Rattle.qss_order2.proofs.NamedRows.{all_rows}
 use Rattle.qss_rows.specs.declared.simulation_rows.RunResult.{RunResult}
-use Rattle.qss_rows.specs.declared.simulation_rows.RunResult.TheVariants as played
 use Rattle.qss_rows.specs.declared.simulation_rows.RunEnd.{RunEnd}
-use Rattle.qss_rows.specs.declared.simulation_rows.RunEnd.TheVariants as end
-use Rattle.qss_order2.specs.RemainingSecondRows.{row2_lines, remaining_second_rows, overflow_ahead}
-use Rattle.qss_order2.specs.RemainingSecondRows.{outcome2_of, EndsAs, IsAble}
-use Rattle.qss_order2.specs.SecondRunTexts.{second_order_run, second_run_text, IsSecondRunResult}
-use Rattle.qss_order2.specs.SecondRunTexts.{IsSecondRunCutShort, IsSecondRunWritten}
-use Rattle.qss_rows.specs.Simulations.{text_in, HasResult, IsCutAtLine, IsSimulated}
+use Rattle.qss_order2.specs.RemainingSecondRows.{remaining_second_rows, outcome2_of}
+use Rattle.qss_order2.specs.SecondRunTexts.{second_run_text, IsSecondRunResult, IsSecondRunCutShort}
+use Rattle.qss_order2.specs.SecondRunTexts.{IsSecondRunWritten}
+use Rattle.qss_rows.specs.Simulations.{HasResult, IsCutAtLine, IsSimulated}
 use Rattle.qss_rows.proofs.WrittenLines.{writes_none}
 use Rattle.qss_order2.proofs.Ends2.{able_before, event_end, start_over}
 use Rattle.qss_rows.proofs.KnownParts.{all_front, all_back}
@@ -29,6 +22,8 @@ use Rattle.qss_order2.proofs.KnownRows2.{run_known}
 use Rattle.qss_rows.proofs.RowLines.{lines_by-append}
 use Rattle.qss_order2.proofs.SecondLines.{row2_text, stops_before2}
 use Rattle.qss_rows.specs.RowTexts.{header}
+use Rattle.qss_rows.specs.declared.simulation_rows.RunResult.TheVariants as played
+use Rattle.qss_rows.specs.declared.simulation_rows.RunEnd.TheVariants as end
 
 module _ (now new : SecondRunView) (same : new.machine ≡ now.machine)
     (ahead : rows2_left nearest_change now ≡ remaining_second_rows new) where

@@ -1,29 +1,17 @@
 -- Runs under the floor rule, tick by tick.
-use Rattle.std.proofs.Common.{◌≡◌, ℕ, zero, suc, ◌+◌, ◌-◌, ◌^◌, ◌<◌, ◌≤◌, List, [], ◌∷◌, ◌++◌}
-use Rattle.std.proofs.Common.{length, ℤ, pos, ◌+ℤ◌, ◌-ℤ◌, ◌*ℤ◌, ◌≤ℤ◌, ◌<ℤ◌, sym, ◌∙◌, ap, subst}
-use Rattle.std.proofs.Common.{arith, append_assoc}
-use Rattle.std.proofs.lemmas.Int.{ints}
-use Rattle.std.proofs.lemmas.List.{append-nil, map-append, length-map}
+use Rattle.qss_own_traces.proofs.Common
+use Common.{[], ℕ, ℤ, ◌*ℤ◌, ◌++◌, ◌+ℤ◌, ◌+◌, ◌-ℤ◌, ◌-◌, ◌<ℤ◌, ◌<◌, ◌^◌, ◌∙◌, ◌∷◌, ◌≡◌, ◌≤ℤ◌, ◌≤◌}
+use Common.{All, ap, append-nil, append_assoc, arith, Draft, Err, first_run, floor_level, floor_of}
+use Common.{Holds, ints, IsFirstRefusal, IsLegitimate, IsWithin, length, length-map, levels_from}
+use Common.{List, Machine, map-append, None, Ok, Over, pos, quanta, Result, Run, run_from}
+use Common.{runs_are_unique, Snapshot, Some, start_small, start_snapshot, start_states, state_count}
+use Common.{states_from, step, subst, suc, sym, zero}
 use Rattle.std.specs.Int.RustNames.{unsigned_abs}
-use Rattle.std.specs.Prelude.{Some, None, Result, Ok, Err, All}
 use Rattle.mu_num.proofs.Quotients.{floor_meets}
-use Rattle.mu_num.specs.Levels.{floor_level}
-use Rattle.mu_num.specs.Rounding.{floor_of}
-use Rattle.mu_num.specs.Sizes.{IsWithin}
-use Rattle.qss_machine.specs.declared.compiled_machine.Machine.{Machine}
-use Rattle.qss_machine.specs.Machines.{state_count, start_states, quanta}
-use Rattle.qss_machine.specs.Ticks.{Snapshot, start_snapshot, IsQuantizing, step}
-use Rattle.qss_machine.specs.Runs.{Run, run_from, run_with}
-use Rattle.qss_machine.specs.RunLaws.{states_from, levels_from}
-use Rattle.qss_machine.specs.Legitimate.{IsLegitimate}
+use Rattle.qss_machine.specs.Ticks.{IsQuantizing}
+use Rattle.qss_machine.specs.Runs.{run_with}
 use Rattle.qss_machine.proofs.Admitted.{runs_are_legitimate}
-use Rattle.qss_machine.proofs.OneRun.{runs_are_unique}
-use Rattle.qss_machine.proofs.Ranges.{start_small}
 use Rattle.qss_machine.proofs.Rules.{rules_are_free}
-use Rattle.qss_own_traces.specs.declared.own_trace_draft.TraceOver.TheVariants.{Over}
-use Rattle.qss_own_traces.specs.FirstRuns.{first_run, IsFirstRefusal}
-use Rattle.qss_own_traces.specs.declared.own_trace_draft.Draft.{Draft}
-use Rattle.qss_own_traces.specs.RecordedTraces.{Holds}
 use Rattle.qss_own_traces.specs.FirstCourses.{run_after}
 use Rattle.qss_own_traces.proofs.Placing.{holds_more}
 

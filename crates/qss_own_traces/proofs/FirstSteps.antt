@@ -1,28 +1,19 @@
 -- Steps of a machine without clauses under the floor rule.
-use Rattle.std.proofs.Common.{◌≡◌, ℕ, ◌<◌, Bool, List, [], ◌∷◌, map, length, ℤ, pos, ◌*ℤ◌, refl}
-use Rattle.std.proofs.Common.{sym, ◌∙◌, ap, ap₂}
-use Rattle.std.proofs.lemmas.List.{length-map}
-use Rattle.std.specs.Prelude.{Option, Some, None, position, flat_map, All}
-use Rattle.std.specs.Option.{option_or}
+use Rattle.qss_own_traces.proofs.Common
+use Common.{[], ℕ, ℤ, ◌*ℤ◌, ◌∙◌, ◌∷◌, ◌≡◌, All, all_of, ap, ap₂, Bool, exceeds_row_limits}
+use Common.{first_exceeding, flat_map, floor_level, HandlerState, IsWithin, length, length-map}
+use Common.{level_below, level_unit, List, Machine, map, moved_states, next_levels, None, Option}
+use Common.{option_or, plain_world, pos, position, refl, run_clauses-none, Snapshot}
+use Common.{snapshot_unless, Some, start_discretes, start_small, start_snapshot, start_states}
+use Common.{state_count, StateInfo, step, sym}
 use Rattle.mu_num.proofs.Integers.{one-mul}
-use Rattle.mu_num.specs.Levels.{floor_level, level_below}
 use Rattle.qss_machine.specs.declared.machine_parts.BranchInfo.{BranchInfo}
 use Rattle.qss_machine.specs.declared.machine_parts.ClauseInfo.{ClauseInfo}
 use Rattle.qss_machine.specs.declared.machine_parts.Condition.{Condition}
-use Rattle.qss_machine.specs.declared.compiled_machine.Machine.{Machine}
-use Rattle.mu_num.specs.IndexedSums.{first_exceeding}
-use Rattle.qss_machine.specs.declared.machine_parts.StateInfo.{StateInfo}
-use Rattle.qss_machine.specs.Machines.{state_count, level_unit, start_discretes, start_states}
 use Rattle.qss_machine.specs.Machines.{truth}
-use Rattle.qss_machine.proofs.Ranges.{none_past, start_small}
-use Rattle.qss_order2.proofs.Tables.{all_of}
-use Rattle.mu_num.specs.Sizes.{IsWithin}
-use Rattle.qss_machine.specs.Handlers.{HandlerState, truths}
-use Rattle.qss_machine.specs.Ticks.{Snapshot, start_snapshot, moved_states, handlers_at}
-use Rattle.qss_machine.specs.Ticks.{next_levels, exceeds_row_limits, snapshot_unless, finish_tick}
-use Rattle.qss_machine.specs.Ticks.{step}
-use Rattle.qss_own_traces.specs.TraceSnapshots.{plain_world}
-use Rattle.qss_machine.proofs.Admitted.{run_clauses-none}
+use Rattle.qss_machine.proofs.Ranges.{none_past}
+use Rattle.qss_machine.specs.Handlers.{truths}
+use Rattle.qss_machine.specs.Ticks.{handlers_at, finish_tick}
 
 arrival : Machine → Snapshot → HandlerState
 arrival m w = record { states = moved_states m w; discretes = w.discretes; rows = []; overflow = first_exceeding 88 (moved_states m w) }

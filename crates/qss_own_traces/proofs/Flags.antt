@@ -1,10 +1,8 @@
 -- Whether a test holds below a number, and the least place where one does.
-use Rattle.std.proofs.Common.{◌≡◌, ℕ, zero, suc, ◌<◌, Bool, true, false, ◌||◌, List, [], ◌∷◌}
-use Rattle.std.proofs.Common.{length, get_or, refl, sym, ◌∙◌, ap, ap₂, arith}
-use Rattle.std.proofs.lemmas.List.FromFn.{length-range_with_len, get_or-range_with_len}
-use Rattle.std.specs.List.{list_any, range_with_len}
-use Rattle.std.specs.Prelude.{Some, None, position}
-use Rattle.qss_order2.proofs.Tables.{first_is, none_is}
+use Rattle.qss_own_traces.proofs.Common
+use Common.{[], ℕ, ◌<◌, ◌||◌, ◌∙◌, ◌∷◌, ◌≡◌, ap, ap₂, arith, Bool, false, first_is, get_or}
+use Common.{get_or-range_with_len, length, length-range_with_len, List, list_any, None, none_is}
+use Common.{position, range_with_len, refl, Some, suc, sym, true, zero}
 
 -- the numbers below n
 pub range_at : (n k : ℕ) → k < n → get_or (range_with_len 0 n) k 0 ≡ k

@@ -1,15 +1,8 @@
 -- Traces of legitimate runs.
-use Rattle.std.proofs.Common.{ℕ, List, ℤ, sym, ◌∙◌, ap, subst}
-use Rattle.cert_check.specs.CertificateLimits.{IsSize}
-use Rattle.qss_machine.specs.declared.compiled_machine.Machine.{Machine}
-use Rattle.qss_machine.specs.Machines.{state_count, start_states, quanta}
-use Rattle.qss_machine.specs.Legitimate.{IsLegitimate}
-use Rattle.qss_trace.specs.declared.trace.Trace.{Trace}
-use Rattle.qss_trace.specs.TracePlaces.{places}
-use Rattle.qss_trace.specs.Trace.{IsRunOf, states_of, levels_of}
-use Rattle.qss_own_traces.specs.declared.own_trace_draft.Draft.{Draft}
-use Rattle.qss_own_traces.specs.RecordedTraces.{Holds}
-use Rattle.qss_own_traces.specs.Traces.{IsTraceOf}
+use Rattle.qss_own_traces.proofs.Common
+use Common.{ℕ, ℤ, ◌∙◌, ap, Draft, Holds, IsLegitimate, IsRunOf, IsSize, IsTraceOf, List, Machine}
+use Common.{places, quanta, start_states, state_count, subst, sym, Trace}
+use Rattle.qss_trace.specs.Trace.{states_of, levels_of}
 use Rattle.qss_own_traces.proofs.Placing.{places_of_joined}
 
 -- a trace of a legitimate run is one

@@ -1,3 +1,4 @@
+mod Common
 mod FirstSteps
 mod Placing
 mod FirstRuns

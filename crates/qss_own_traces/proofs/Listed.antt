@@ -1,27 +1,13 @@
 -- Lists of states and levels as a trace.
-use Rattle.std.proofs.Common.{◌≡◌, ℕ, zero, suc, ◌+◌, ◌*◌, ◌/◌, ◌^◌, ◌<◌, ◌≤◌, List, [], ◌∷◌, ◌++◌}
-use Rattle.std.proofs.Common.{length, map, take, drop, get_or, ℤ, pos, ◌≤ℤ◌, refl, sym, ap, subst}
-use Rattle.std.proofs.Common.{◌∙◌, arith, lit≤}
-use Rattle.std.proofs.Math.Nat.{mul-le-mul_right}
-use Rattle.std.proofs.Math.Seq.{ext_get_or, take-append_seam, drop-append-add}
-use Rattle.std.proofs.lemmas.Int.{ints}
-use Rattle.std.proofs.lemmas.List.{length-append, length-map, get_or-map, get_or_default}
-use Rattle.std.proofs.lemmas.List.Elements.{All-append, All-nil}
-use Rattle.std.proofs.lemmas.Nat.{div-mul-add}
-use Rattle.std.specs.Prelude.{All, unsigned_abs}
-use Rattle.mu_num.specs.Sizes.{IsWithin, IsPositiveWithin}
-use Rattle.qss_machine.specs.Machines.{state_count, quanta}
-use Rattle.mu_num.specs.IndexedSums.{int_at}
-use Rattle.qss_machine.specs.declared.machine_parts.StateInfo.{StateInfo}
-use Rattle.qss_machine.specs.declared.compiled_machine.Machine.{Machine}
-use Rattle.cert_check.specs.CertificateLimits.{IsSize}
-use Rattle.qss_trace.specs.TraceLimits.{IsFactor, AreQuanta, place_count}
-use Rattle.qss_trace.specs.TracePlaces.{place_at, places}
-use Rattle.qss_trace.specs.declared.trace.Trace.{Trace}
+use Rattle.qss_own_traces.proofs.Common
+use Common.{[], ℕ, ℤ, ◌*◌, ◌/◌, ◌<◌, ◌^◌, ◌∙◌, ◌∷◌, ◌≡◌, ◌≤◌, All, All-append, All-nil, ap}
+use Common.{AreQuanta, arith, get_or, get_or-map, ints, IsSize, IsTraceOf, IsWithin, length}
+use Common.{length-map, length-places, List, Machine, mul-le-mul_right, place_count, places, pos}
+use Common.{quanta, refl, state_count, StateInfo, suc, sym, Trace}
+use Rattle.qss_trace.specs.TraceLimits.{IsFactor}
 use Rattle.qss_trace.proofs.Fields.{trace_of, same-trace}
 use Rattle.qss_trace.proofs.OneTrace.{numbers-same}
-use Rattle.qss_trace.proofs.Placing.{places-at, length-places}
-use Rattle.qss_own_traces.specs.Traces.{IsTraceOf}
+use Rattle.qss_trace.proofs.Placing.{places-at}
 use Rattle.qss_own_traces.proofs.Placing.{joined, joined_length, count_of_joined, places_of_joined}
 
 -- ---- one trace

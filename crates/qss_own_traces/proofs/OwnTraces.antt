@@ -1,56 +1,31 @@
 -- Each of a machine's own runs has one trace, or overflows at one tick; its trace is a legitimate run.
-use Rattle.std.proofs.Common.{◌≡◌, ℕ, zero, suc, ◌+◌, ◌^◌, ◌<◌, ◌≤◌, ◌⊎◌, inl, inr, Bool, true}
-use Rattle.std.proofs.Common.{false, cond, List, [], ◌∷◌, length, map, take, get_or, ℤ, pos, refl}
-use Rattle.std.proofs.Common.{sym, ap, subst, ◌∙◌, arith, lit≤}
+use Rattle.qss_own_traces.proofs.Common
+use Common.{[], ℕ, ℤ, ◌+◌, ◌<◌, ◌^◌, ◌∙◌, ◌∷◌, ◌≡◌, ◌≤◌, All, All-nil, all_of, ap, arith, Bool}
+use Common.{exceeds, false, first_run, first_wide, floor_level, get_or, get_or-map}
+use Common.{get_or-range_with_len, HandlerState, inl, inr, int_at, is_wide, IsFirstRefusal, IsRunOf}
+use Common.{IsSecondRefusal, IsSize, IsWithin, length, length-map, length-map-range_with_len}
+use Common.{length-places, length-range_with_len, level_below, level_unit, levels_from}
+use Common.{levels_from2, List, Machine, map, nat_tests, nearest_change, None, Ok, Option, Over}
+use Common.{Past, range_with_len, refl, run_clauses-none, runs_are_unique, second_order_run}
+use Common.{second_runs_are_unique, second_scale, second_snapshots, SecondSnapshot, SlopeRuleOf}
+use Common.{Snapshot, Some, start_small, start_snapshot, start_states, state_count, StateInfo}
+use Common.{states_from, states_from2, subst, suc, sym, take, Trace, true, zero}
+use Rattle.std.proofs.Common.{◌⊎◌, lit≤}
 use Rattle.std.proofs.lemmas.Bool.{cases_lt}
-use Rattle.std.proofs.lemmas.Bool.Decides.{nat_tests}
-use Rattle.std.proofs.lemmas.Iterator.Adapters.{position_from-zero}
-use Rattle.std.proofs.lemmas.List.{length-map, get_or-map, get_or-take, length-take}
-use Rattle.std.proofs.lemmas.List.Elements.{All-cons, All-map, All-nil}
-use Rattle.std.proofs.lemmas.List.FromFn.{length-map-range_with_len, length-range_with_len}
-use Rattle.std.proofs.lemmas.List.FromFn.{get_or-range_with_len}
+use Rattle.std.proofs.lemmas.List.{get_or-take, length-take}
+use Rattle.std.proofs.lemmas.List.Elements.{All-cons, All-map}
 use Rattle.std.proofs.lemmas.List.Quantifiers.{position-Some}
-use Rattle.std.specs.List.{position, position_from, range_with_len}
-use Rattle.std.specs.Prelude.{All, Option, Some, None, Ok, MatchBool, ◌||◌, unsigned_abs}
-use Rattle.mu_num.proofs.NearLevels.{floor-free}
-use Rattle.mu_num.specs.Levels.{floor_level, level_below}
-use Rattle.mu_num.specs.Sizes.{IsWithin, exceeds}
-use Rattle.qss_machine.specs.Handlers.{HandlerState, run_clauses}
-use Rattle.qss_machine.specs.RunLaws.{HasSmallLevels, states_from, levels_from}
-use Rattle.qss_machine.specs.Legitimate.{IsLegitimate}
+use Rattle.qss_machine.specs.RunLaws.{HasSmallLevels}
 use Rattle.qss_machine.specs.MachineLimits.{IsStateInfo}
-use Rattle.qss_machine.specs.Machines.{state_count, level_unit, quanta, start_states}
-use Rattle.mu_num.specs.IndexedSums.{int_at}
-use Rattle.qss_machine.specs.Runs.{IsExecutionBy, IsExecution, RunEndsBy, Run, IsRun}
-use Rattle.qss_machine.specs.Slopes.{slope_of}
-use Rattle.qss_machine.specs.Ticks.{Snapshot, start_snapshot, moved_states, handlers_at, IsStepBy}
-use Rattle.qss_machine.specs.Ticks.{RuleOf, IsQuantizing, IsNextLevel}
-use Rattle.qss_machine.specs.declared.machine_parts.ClauseInfo.{ClauseInfo}
-use Rattle.qss_machine.specs.declared.machine_parts.StateInfo.{StateInfo}
-use Rattle.qss_machine.specs.declared.compiled_machine.Machine.{Machine}
-use Rattle.qss_machine.proofs.Admitted.{runs_are_legitimate, run_clauses-none}
-use Rattle.qss_machine.proofs.Near.{step_facts, unit_positive}
-use Rattle.qss_machine.proofs.OneRun.{runs_are_unique}
-use Rattle.qss_machine.proofs.Ranges.{states_small, start_small, step_small}
-use Rattle.qss_machine.proofs.Rules.{rules_are_free}
-use Rattle.cert_check.specs.CertificateLimits.{IsSize}
-use Rattle.qss_order2.specs.SecondRunLaws.{states_from2, levels_from2}
-use Rattle.qss_order2.specs.SlopeRules.{IsRuled2}
-use Rattle.qss_order2.specs.SecondRuns.{Leads2, EndsBy2, Past}
-use Rattle.qss_order2.specs.SecondSteps.{SecondSnapshot, second_scale, nearest_change, SlopeRuleOf}
-use Rattle.qss_order2.specs.SecondSteps.{AreChanges, rise_at, leaves_quantum, next_levels, IsStart2}
-use Rattle.qss_order2.proofs.Tables.{all_of}
-use Rattle.qss_order2.proofs.Uniqueness.{second_runs_are_unique}
-use Rattle.qss_trace.proofs.Placing.{length-places}
+use Rattle.qss_machine.specs.Runs.{IsExecutionBy, RunEndsBy}
+use Rattle.qss_machine.specs.Ticks.{IsStepBy, RuleOf, IsNextLevel}
+use Rattle.qss_machine.proofs.Near.{step_facts}
+use Rattle.qss_machine.proofs.Ranges.{states_small, step_small}
+use Rattle.qss_order2.specs.SecondRuns.{EndsBy2}
 use Rattle.qss_trace.proofs.Turns.{state-small, level-small}
-use Rattle.qss_trace.specs.Trace.{count_of, IsRunOf}
-use Rattle.qss_trace.specs.declared.trace.Trace.{Trace}
-use Rattle.qss_own_traces.specs.FirstRuns.{first_run, IsFirstTrace, IsFirstRefusal}
-use Rattle.qss_own_traces.specs.SecondRuns.{second_snapshots, is_wide, first_wide, IsSecondTrace}
-use Rattle.qss_own_traces.specs.SecondRuns.{IsOverflow, IsTooWide, IsSecondRefusal}
-use Rattle.qss_order2.specs.SecondRunTexts.{second_order_run}
-use Rattle.qss_own_traces.specs.Traces.{IsTraceOf}
-use Rattle.qss_own_traces.specs.declared.own_trace_draft.TraceOver.TheVariants.{Over}
+use Rattle.qss_trace.specs.Trace.{count_of}
+use Rattle.qss_own_traces.specs.FirstRuns.{IsFirstTrace}
+use Rattle.qss_own_traces.specs.SecondRuns.{IsSecondTrace, IsTooWide}
 use Rattle.qss_own_traces.proofs.FirstRuns.{first_legitimate, wider}
 use Rattle.qss_own_traces.proofs.Legitimate.{trace_legitimate}
 use Rattle.qss_own_traces.proofs.Listed.{one-trace-of, some-trace-of}

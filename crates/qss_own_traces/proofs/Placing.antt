@@ -1,21 +1,14 @@
 -- Lists one after another, as places.
-use Rattle.std.proofs.Common.{◌≡◌, ℕ, zero, suc, ◌+◌, ◌*◌, ◌/◌, ◌<◌, ◌≤◌, List, [], ◌∷◌, ◌++◌}
-use Rattle.std.proofs.Common.{length, take, drop, get_or, ℤ, refl, sym, ◌∙◌, ap, subst, arith}
-use Rattle.std.proofs.Math.Seq.{take-append_seam, drop-append-add}
-use Rattle.std.proofs.Math.Nat.{mul-le-mul_right}
-use Rattle.std.proofs.lemmas.List.{append-nil, length-append}
+use Rattle.qss_own_traces.proofs.Common
+use Common.{[], ℕ, ℤ, ◌*◌, ◌++◌, ◌+◌, ◌/◌, ◌<◌, ◌∙◌, ◌∷◌, ◌≡◌, ◌≤◌, All, All-append, ap, append-nil}
+use Common.{ArePlaces, arith, Draft, fill_by_all, flat_map, get_or, Holds, IsSize, IsWithin, length}
+use Common.{length-append, List, mul-le-mul_right, place_count, places, refl, subst, suc, sym}
+use Common.{tabulate, take, take-append_seam, zero}
+use Rattle.std.proofs.Common.{drop}
+use Rattle.std.proofs.Math.Seq.{drop-append-add}
 use Rattle.std.proofs.lemmas.List.Concat.{flat_map-append}
-use Rattle.std.proofs.lemmas.List.Elements.{All-append}
-use Rattle.std.proofs.lemmas.List.FromFn.{fill_by_all}
 use Rattle.std.proofs.lemmas.Nat.{div-mul-add}
-use Rattle.std.specs.Prelude.{All, flat_map}
-use Rattle.mu_num.specs.Sizes.{IsWithin}
-use Rattle.cert_check.specs.CertificateLimits.{IsSize}
-use Rattle.mu_num.specs.IndexedSums.{tabulate}
-use Rattle.qss_trace.specs.TraceLimits.{ArePlaces, place_count}
-use Rattle.qss_trace.specs.TracePlaces.{place_at, places}
-use Rattle.qss_own_traces.specs.declared.own_trace_draft.Draft.{Draft}
-use Rattle.qss_own_traces.specs.RecordedTraces.{Holds}
+use Rattle.qss_trace.specs.TracePlaces.{place_at}
 
 -- the lists one after another
 abbrev pub joined : List (List ℤ) → List ℤ

@@ -1,19 +1,13 @@
 -- The second-order run under the nearest rule is legitimate.
-use Rattle.std.proofs.Common.{◌≡◌, ℕ, ◌+◌, Bool, true, false, List, [], ◌∷◌, ℤ, sym, subst}
+use Rattle.qss_own_traces.proofs.Common
+use Common.{[], ℕ, ℤ, ◌+◌, ◌∷◌, ◌≡◌, Bool, false, int_at, IsLegitimate, leaves_quantum, level_unit}
+use Common.{levels_from2, List, Machine, nearest_change, quanta, rise_at, second_order_run}
+use Common.{second_runs_are_unique, second_scale, SecondSnapshot, SlopeRuleOf, start_states}
+use Common.{states_from2, subst, sym, true, unit_positive}
 use Rattle.std.specs.Prelude.{MatchBool}
-use Rattle.qss_machine.specs.declared.compiled_machine.Machine.{Machine}
-use Rattle.qss_machine.specs.Machines.{level_unit, start_states, quanta}
-use Rattle.mu_num.specs.IndexedSums.{int_at}
-use Rattle.qss_machine.specs.Legitimate.{IsLegitimate}
-use Rattle.qss_machine.proofs.Near.{unit_positive}
-use Rattle.qss_order2.specs.SecondSteps.{SecondSnapshot, rise_at, leaves_quantum, next_levels}
-use Rattle.qss_order2.specs.SecondSteps.{nearest_change, SlopeRuleOf, FreeChange, AreChanges}
-use Rattle.qss_order2.specs.SecondSteps.{second_scale}
+use Rattle.qss_order2.specs.SecondSteps.{next_levels, FreeChange, AreChanges}
 use Rattle.qss_order2.specs.SecondRuns.{Leads2}
-use Rattle.qss_order2.specs.SecondRunLaws.{states_from2, levels_from2}
 use Rattle.qss_order2.proofs.Legitimacy.{second_runs_are_legitimate, nearest_is_free}
-use Rattle.qss_order2.proofs.Uniqueness.{second_runs_are_unique}
-use Rattle.qss_order2.specs.SecondRunTexts.{second_order_run}
 
 free_change : (m : Machine) (asked : ℕ → Bool) (levels old new : List ℤ) → AreChanges (SlopeRuleOf nearest_change) m asked levels old new → AreChanges FreeChange m asked levels old new
 free_change m asked levels old new are = record { one_each = are.one_each; each = λ j h. by (asked j) (rise_at m j levels) (int_at new j) (int_at old j) (are.each j h) }

@@ -1,31 +1,15 @@
 -- Second-order runs under the nearest rule, tick by tick.
-use Rattle.std.proofs.Common.{◌≡◌, ℕ, zero, suc, ◌+◌, ◌-◌, ◌<◌, ◌≤◌, inl, inr, Bool, true, List, []}
-use Rattle.std.proofs.Common.{◌∷◌, ◌++◌, length, take, get_or, replicate, ℤ, pos, ◌*ℤ◌, refl, sym}
-use Rattle.std.proofs.Common.{◌∙◌, ap, ap₂, subst, arith, append_assoc}
-use Rattle.std.proofs.Math.Seq.{take-append_seam}
-use Rattle.std.proofs.lemmas.Int.{ints}
-use Rattle.std.proofs.lemmas.List.{append-nil, map-append, length-map, length-append}
-use Rattle.std.proofs.lemmas.List.Elements.{All-append}
-use Rattle.std.specs.Prelude.{Option, Some, None, Result, Ok, Err, All, slice_index_or}
-use Rattle.std.specs.Prelude.{if◌then◌else◌}
-use Rattle.mu_num.specs.Sizes.{IsWithin}
-use Rattle.qss_machine.specs.declared.compiled_machine.Machine.{Machine}
-use Rattle.mu_num.specs.ListedPlaces.{flag_at}
-use Rattle.qss_machine.specs.Machines.{state_count, level_unit}
-use Rattle.mu_num.specs.IndexedSums.{int_at}
-use Rattle.qss_order2.specs.SecondSteps.{SecondSnapshot, fine_levels, nearest_change, rise_at}
-use Rattle.qss_order2.specs.SecondSteps.{first_exceeding_limit, second_start, second_step}
-use Rattle.qss_order2.specs.SecondRuns.{Past, Run2, snapshots_from, snapshots_with}
-use Rattle.qss_order2.specs.SecondRuns.{snapshots_unless}
-use Rattle.qss_order2.specs.SecondRunLaws.{states_from2, levels_from2}
-use Rattle.qss_order2.proofs.Tables.{same_table}
-use Rattle.qss_own_traces.specs.declared.own_trace_draft.Draft.{Draft}
-use Rattle.qss_own_traces.specs.declared.own_trace_draft.TraceOver.TheVariants.{Over}
-use Rattle.qss_own_traces.specs.RecordedTraces.{Holds}
-use Rattle.qss_own_traces.specs.SecondPlaces.{AreHeld, changed}
+use Rattle.qss_own_traces.proofs.Common
+use Common.{[], ℕ, ℤ, ◌*ℤ◌, ◌++◌, ◌+◌, ◌-◌, ◌<◌, ◌∙◌, ◌∷◌, ◌≡◌, ◌≤◌, All, All-append, ap}
+use Common.{append-nil, append_assoc, ap₂, AreHeld, arith, Bool, changed, Draft, Err, fine_levels}
+use Common.{first_exceeding_limit, first_wide, flag_at, get_or, get_or as slice_index_or, Holds}
+use Common.{if◌then◌else◌, inl, inr, int_at, ints, IsSecondRefusal, IsWithin, length, length-append}
+use Common.{length-map, level_unit, levels_from2, List, Machine, map-append, nearest_change, None}
+use Common.{Ok, Option, Over, Past, pos, refl, replicate, Result, rise_at, Run2, same_table}
+use Common.{second_order_run, second_snapshots, second_start, second_step, SecondSnapshot, Some}
+use Common.{state_count, states_from2, subst, suc, sym, take, take-append_seam, true, zero}
+use Rattle.qss_order2.specs.SecondRuns.{snapshots_from, snapshots_with, snapshots_unless}
 use Rattle.qss_own_traces.specs.SecondCourses.{run2_after}
-use Rattle.qss_own_traces.specs.SecondRuns.{second_snapshots, first_wide, IsSecondRefusal}
-use Rattle.qss_order2.specs.SecondRunTexts.{second_order_run}
 use Rattle.qss_own_traces.proofs.Placing.{holds_more}
 
 -- ---- one snapshot more of a list

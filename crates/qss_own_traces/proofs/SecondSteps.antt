@@ -1,27 +1,17 @@
 -- Steps of a second-order run.
-use Rattle.std.proofs.Common.{◌≡◌, ℕ, ◌+◌, ◌*◌, ◌%◌, ◌^◌, ◌<◌, ◌≤◌, Bool, true, false, ◌||◌, ◌==◌}
-use Rattle.std.proofs.Common.{List, length, ℤ, pos, ◌+ℤ◌, ◌*ℤ◌, unsigned_abs, refl, sym, ◌∙◌, ap}
-use Rattle.std.proofs.Common.{ap₂, arith}
+use Rattle.qss_own_traces.proofs.Common
+use Common.{ℕ, ℤ, ◌*ℤ◌, ◌*◌, ◌+ℤ◌, ◌+◌, ◌<◌, ◌^◌, ◌||◌, ◌∙◌, ◌≡◌, ◌≤◌, abs_of, All, all_of, ap, ap₂}
+use Common.{AreHeld, arith, Bool, changed, false, fill_by_all, first_exceeding_limit, flag_at}
+use Common.{if◌then◌else◌, int_at, ints, is_limit_check, is_requantization, IsWithin}
+use Common.{leaves_quantum, length, level_unit, List, Machine, mul-le-mul_right, nearest_change}
+use Common.{next_states, None, Ok, Option, pos, refl, Result, rise_at, row_weight, same_table}
+use Common.{second_snapshot_unless, second_step, SecondSnapshot, Some, start_coefficient}
+use Common.{start_constant_part, state_count, sum_below, sym, tabulate, true, unit_fits}
+use Common.{unsigned_abs, unsigned_abs-mul}
+use Rattle.std.proofs.Common.{◌%◌, ◌==◌}
 use Rattle.std.proofs.Math.IntN.{zero-*ℤ}
-use Rattle.std.proofs.Math.Nat.{mul-le-mul_right}
-use Rattle.std.proofs.lemmas.Int.{ints, unsigned_abs-mul}
-use Rattle.std.proofs.lemmas.List.FromFn.{fill_by_all}
-use Rattle.std.specs.Prelude.{Option, Some, None, Result, Ok, All, if◌then◌else◌}
-use Rattle.mu_num.specs.Sizes.{IsWithin}
-use Rattle.qss_machine.specs.declared.compiled_machine.Machine.{Machine}
-use Rattle.mu_num.specs.ListedPlaces.{flag_at}
-use Rattle.mu_num.specs.IndexedSums.{int_at, abs_of, sum_below, tabulate}
-use Rattle.qss_machine.specs.Machines.{state_count, level_unit}
-use Rattle.qss_machine.specs.Legitimate.{start_coefficient, start_constant_part}
-use Rattle.qss_order2.specs.SecondSteps.{SecondSnapshot, rise_at, rise_change_weight}
-use Rattle.qss_order2.specs.SecondSteps.{leaves_quantum, is_requantization, nearest_change}
-use Rattle.qss_order2.specs.SecondSteps.{next_states, next_levels, next_changes, next_snapshot}
-use Rattle.qss_order2.specs.SecondSteps.{first_exceeding_limit, is_limit_check, limit_check_period}
-use Rattle.qss_order2.specs.SecondSteps.{second_snapshot_unless, second_step}
-use Rattle.qss_machine.proofs.Near.{unit_fits}
-use Rattle.qss_order2.proofs.Tables.{all_of, same_table}
-use Rattle.qss_own_traces.specs.SecondPlaces.{changed, AreHeld}
-use Rattle.qss_own_traces.specs.TraceSystems.{row_weight}
+use Rattle.qss_order2.specs.SecondSteps.{rise_change_weight, next_levels, next_changes}
+use Rattle.qss_order2.specs.SecondSteps.{next_snapshot, limit_check_period}
 use Rattle.qss_own_traces.proofs.Flags.{none_each}
 
 -- a change of which a multiple is small is small

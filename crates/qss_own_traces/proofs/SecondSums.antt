@@ -1,24 +1,20 @@
 -- Sums along the rows of a machine's affine system.
-use Rattle.std.proofs.Common.{◌≡◌, ℕ, zero, suc, ◌+◌, ◌*◌, ◌<◌, List, ℤ, pos, ◌+ℤ◌, ◌-ℤ◌, ◌*ℤ◌}
-use Rattle.std.proofs.Common.{unsigned_abs, refl, sym, ◌∙◌, ap, ap₂, arith}
+use Rattle.qss_own_traces.proofs.Common
+use Common.{ℕ, ℤ, ◌*ℤ◌, ◌*◌, ◌+ℤ◌, ◌+◌, ◌-ℤ◌, ◌<◌, ◌∙◌, ◌≡◌, abs_of, ap, ap₂, arith, int_at, ints}
+use Common.{level_unit, List, Machine, pos, quanta, refl, rise_at, row_weight, start_coefficient}
+use Common.{start_constant_part, state_count, suc, sum_below, sym, system_weight, table}
+use Common.{unsigned_abs, unsigned_abs-mul, vector, weight, zero}
 use Rattle.std.proofs.Math.IntN.{pos-*ℤ-pos}
 use Rattle.std.proofs.Math.Nat.{mul_comm}
-use Rattle.std.proofs.lemmas.Int.{ints, unsigned_abs-mul}
 use Rattle.mu_num.proofs.Integers.{mul-add}
-use Rattle.qss_machine.specs.declared.compiled_machine.Machine.{Machine}
-use Rattle.mu_num.specs.IndexedSums.{int_at, abs_of, sum_below}
-use Rattle.qss_machine.specs.Machines.{state_count, level_unit, quanta}
-use Rattle.qss_machine.specs.Legitimate.{start_coefficient, start_constant_part}
 use Rattle.mu_num.proofs.Sums.{sum_below-same}
 use Rattle.cert_matrix.specs.Form.{Vector, times}
-use Rattle.cert_matrix.specs.Matrix.{table, vector, weight}
 use Rattle.cert_matrix.proofs.Weights.{weight-more}
 use Rattle.cert_check.specs.declared.affine_data.AffineSystem.{AffineSystem}
 use Rattle.cert_check.specs.Inequalities.{System}
 use Rattle.cert_check.specs.Systems.{start_matrix, start_drives}
 use Rattle.cert_check.proofs.Join.{entry-at, drive-at, slope-same}
-use Rattle.qss_order2.specs.SecondSteps.{rise_at}
-use Rattle.qss_own_traces.specs.TraceSystems.{Fits, row_weight, system_weight}
+use Rattle.qss_own_traces.specs.TraceSystems.{Fits}
 
 -- the numbers of the system
 pub unit_is : (m : Machine) (a : AffineSystem) → Fits m a → a.unit ≡ level_unit m

@@ -1,24 +1,16 @@
 -- Snapshots that a trace can hold.
-use Rattle.std.proofs.Common.{◌≡◌, ℕ, zero, suc, ◌+◌, ◌<◌, Bool, true, false, cond, ◌||◌, List, []}
-use Rattle.std.proofs.Common.{◌∷◌, length, get_or, ℤ, pos, ◌*ℤ◌, refl, sym, ◌∙◌, ap, ap₂, arith}
-use Rattle.std.proofs.lemmas.Int.{ints}
+use Rattle.qss_own_traces.proofs.Common
+use Common.{[], ℕ, ℤ, ◌*ℤ◌, ◌+◌, ◌<◌, ◌||◌, ◌∙◌, ◌∷◌, ◌≡◌, All, all_of, ap, ap₂, arith, Bool, false}
+use Common.{fine_count, fine_levels, first_wide, get_or, get_or-map, int_at, ints, is_wide}
+use Common.{IsWithin, length, length-map, List, Machine, nearest_change, None, pos, range_with_len}
+use Common.{refl, second_start, SecondSnapshot, Some, start_states, state_count, StateInfo}
+use Common.{states_start, suc, sym, true, zero}
+use Rattle.std.proofs.Common.{cond}
 use Rattle.std.proofs.lemmas.Iterator.Adapters.{position_from-zero}
-use Rattle.std.proofs.lemmas.List.{get_or-map, length-map}
-use Rattle.std.specs.List.{position_from, range_with_len}
-use Rattle.std.specs.Prelude.{All, None, Some}
-use Rattle.mu_num.specs.Sizes.{IsWithin}
+use Rattle.std.specs.List.{position_from}
 use Rattle.mu_num.proofs.SizeTests.{within-passes, passes-within}
-use Rattle.qss_machine.specs.declared.machine_parts.StateInfo.{StateInfo}
-use Rattle.qss_machine.specs.declared.compiled_machine.Machine.{Machine}
-use Rattle.mu_num.specs.IndexedSums.{int_at}
-use Rattle.qss_machine.specs.Machines.{state_count, start_states}
-use Rattle.qss_order2.specs.SecondSteps.{SecondSnapshot, fine_states, fine_levels, nearest_change}
-use Rattle.qss_order2.specs.SecondSteps.{second_start}
+use Rattle.qss_order2.specs.SecondSteps.{fine_states}
 use Rattle.qss_order2.proofs.Sizes.{start_level_small}
-use Rattle.qss_order2.proofs.Starts.{fine_count}
-use Rattle.qss_order2.proofs.Tables.{all_of}
-use Rattle.qss_own_traces.specs.SecondRuns.{first_wide, is_wide}
-use Rattle.qss_machine.proofs.StartValues.{states_start}
 use Rattle.qss_own_traces.proofs.Flags.{none_below, range_at, range_count}
 
 -- where no place passes a test, no element does

@@ -1,9 +1,9 @@
 -- When a number that moves along a line leaves the numbers below a limit in absolute value.
-use Rattle.std.proofs.Common.{◌≡◌, ℕ, ℤ, pos, ◌+ℤ◌, ◌-ℤ◌, ◌*ℤ◌, neg_ℤ, ◌≤ℤ◌, ◌<ℤ◌, unsigned_abs, Option, sym, ap, subst, ◌∙◌, arith}
-use Rattle.std.proofs.lemmas.Int.{ints}
-use Rattle.mu_num.specs.Ticks.{FirstAfter}
+use Rattle.qss_quant.proofs.Common
+use Common.{ℕ, ℤ, ◌*ℤ◌, ◌+ℤ◌, ◌-ℤ◌, ◌<ℤ◌, ◌∙◌, ◌≡◌, ◌≤ℤ◌, arith, first_after-same, FirstAfter, ints}
+use Common.{Option, pos, subst, sym, unsigned_abs}
+use Rattle.std.proofs.Common.{neg_ℤ, ap}
 use Rattle.mu_num.proofs.Integers.{mul-neg, mul-nonneg, mul-nonpos}
-use Rattle.mu_num.proofs.FirstTicks.{first_after-same}
 
 up_to : (gap p limit : ℤ) → (limit -ℤ gap) ≤ℤ p → limit ≤ℤ pos (unsigned_abs (gap +ℤ p))
 up_to gap p limit h = omega (arith, ints)

@@ -1,5 +1,5 @@
 -- The results of the named rules.
-use Rattle.std.proofs.Common.{◌≡◌, ℤ, pos, ◌*ℤ◌, ◌≤ℤ◌, ◌<ℤ◌, sym, subst, ◌∙◌}
+use Rattle.qss_quant.proofs.Common.{ℤ, ◌*ℤ◌, ◌<ℤ◌, ◌∙◌, ◌≡◌, ◌≤ℤ◌, pos, subst, sym}
 use Rattle.std.specs.Prelude.{Some}
 use Rattle.mu_num.proofs.NearLevels.{near-free, inward-free}
 use Rattle.mu_num.proofs.Tests.{if-true, if-false, int_lt-yes, int_lt-no}

@@ -1,5 +1,5 @@
 -- A fact of all rows holds of the first and of the last ones.
-use Rattle.std.proofs.Common.{List, [], ◌∷◌, ◌++◌}
+use Rattle.qss_rows.proofs.Common.{[], ◌++◌, ◌∷◌, List}
 use Rattle.std.specs.Prelude.{All}
 use Rattle.std.proofs.lemmas.List.Elements.{All-nil, All-cons, All-head, All-tail}
 

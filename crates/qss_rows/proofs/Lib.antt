@@ -1,3 +1,4 @@
+mod Common
 mod Plain
 mod LineRecords
 mod Names

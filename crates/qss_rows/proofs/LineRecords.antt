@@ -1,15 +1,16 @@
 -- Lines that are copied as the only field of a record, and the parts of a line in a buffer.
-use Rattle.std.proofs.Common.{◌≡◌, ◌<◌, ◌≤◌, ◌-◌, ℕ, ◌+◌, List, [], ◌∷◌, ◌++◌, length, take, drop}
-use Rattle.std.proofs.Common.{refl, sym, ap, ◌∙◌, subst, arith, append-nil, length-append}
-use Rattle.std.proofs.lemmas.List.{drop-drop, drop_at, length-take-le, take_at}
+use Rattle.qss_rows.proofs.Common
+use Common.{[], ℕ, ◌++◌, ◌+◌, ◌-◌, ◌<◌, ◌∙◌, ◌∷◌, ◌≡◌, ◌≤◌, ap, append-nil, arith, default_writer}
+use Common.{drop, drop-drop, fields_text, is_blank, length, List, refl, row_text, RowKind, subst}
+use Common.{sym, take, word_of}
+use Rattle.std.proofs.Common.{length-append}
+use Rattle.std.proofs.lemmas.List.{drop_at, length-take-le, take_at}
 use borrow.Rule.Slice.PartMut.{put_mid}
-use Rattle.csv.specs.Writing.{default_writer, row_text, row_body, field_text, fields_text, is_blank}
-use Rattle.qss_machine.specs.declared.machine_parts.RowKind.{RowKind}
-use Rattle.qss_machine.specs.declared.machine_parts.RowKind.TheVariants as kind
+use Rattle.csv.specs.Writing.{row_body, field_text}
 use Rattle.qss_rows.specs.PlainFields.{IsPlain, csv_line}
-use Rattle.qss_rows.specs.RowTexts.{word_of}
 use Rattle.qss_rows.specs.Writers.{copying_writer}
 use Rattle.qss_rows.proofs.Plain.{IsUnquoted, differs, plain_word, row_text-plain}
+use Rattle.qss_machine.specs.declared.machine_parts.RowKind.TheVariants as kind
 
 -- ---- fields
 

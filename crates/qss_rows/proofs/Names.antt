@@ -1,8 +1,11 @@
 -- What follows the name that is kept in a name.
-use Rattle.std.proofs.Common.{◌≡◌, ◌≢◌, Bool, true, false, ◌||◌, ℕ, ◌<◌, List, [], ◌∷◌, ◌++◌, length, drop, refl, sym, ◌∙◌, subst, append_assoc, append-nil, arith}
+use Rattle.qss_rows.proofs.Common
+use Common.{[], ℕ, ◌++◌, ◌<◌, ◌∙◌, ◌∷◌, ◌≡◌, append-nil, append_assoc, arith, Bool, codes}
+use Common.{Decides-eqb, drop, false, get_or as slice_index_or, length, List, refl, subst, sym}
+use Common.{true}
+use Rattle.std.proofs.Common.{◌≢◌, ◌||◌}
 use Rattle.std.specs.List.{starts_with}
-use Rattle.std.specs.Prelude.{bytes_eq, codes, nat_eq, slice_index_or}
-use Rattle.std.proofs.lemmas.Bool.Decides.{Decides-eqb}
+use Rattle.std.specs.Prelude.{bytes_eq, nat_eq}
 use Rattle.std.proofs.lemmas.List.{append_cancel_left}
 use Rattle.std.proofs.lemmas.Slice.Eq.{bytes_eq-Decides, starts_is}
 use Rattle.qss_rows.specs.Filters.{is_named}

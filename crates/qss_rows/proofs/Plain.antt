@@ -1,15 +1,17 @@
 -- Numbers and words need no quotes, and a field that needs none is copied to the line unchanged.
-use Rattle.std.proofs.Common.{◌≡◌, Bool, true, false, ◌==◌, ℕ, zero, suc, ◌+◌, ◌/◌, ◌%◌, ℤ, pos, negsuc, List, [], ◌∷◌, ◌++◌, refl, arith, decimal, append-nil, cond}
-use Rattle.std.specs.Prelude.{codes, if◌then◌else◌, nat_lt, Option, None, Some}
+use Rattle.qss_rows.proofs.Common
+use Common.{[], ℕ, ◌++◌, ◌+◌, ◌∷◌, ◌≡◌, append-nil, arith, Bool, codes, cond, decimal}
+use Common.{default_writer, false, fields_text, is_blank, List, Machine, needs_quotes, None}
+use Common.{number_text, Option, refl, row_text, RowKind, Some, suc, true, word_of, zero}
+use Rattle.std.proofs.Common.{◌==◌, ◌/◌, ◌%◌, ℤ, pos, negsuc}
+use Rattle.std.specs.Prelude.{if◌then◌else◌, nat_lt}
 use Rattle.std.specs.Fmt.{digit_glyph, digits, digits_onto, signed_decimal}
 use Rattle.std.proofs.lemmas.List.Folds.{list_any-append}
-use Rattle.csv.specs.Writing.{default_writer, needs_quotes, needs_byte, row_text, fields_text, is_blank}
+use Rattle.csv.specs.Writing.{needs_byte}
 use Rattle.qss_machine.specs.Machines.{state_count}
-use Rattle.qss_machine.specs.declared.machine_parts.RowKind.{RowKind}
+use Rattle.qss_rows.specs.RowTexts.{prints_name, name_of, name_field, level_field, state_field}
+use Rattle.qss_rows.specs.RowTexts.{plain_line, LinesArePlain}
 use Rattle.qss_machine.specs.declared.machine_parts.RowKind.TheVariants as kind
-use Rattle.qss_machine.specs.declared.compiled_machine.Machine.{Machine}
-use Rattle.qss_rows.specs.PlainFields.{number_text}
-use Rattle.qss_rows.specs.RowTexts.{word_of, prints_name, name_of, name_field, level_field, state_field, plain_line, LinesArePlain}
 
 abbrev pub IsUnquoted : List ℕ → Type 0
 IsUnquoted text = needs_quotes default_writer text ≡ false

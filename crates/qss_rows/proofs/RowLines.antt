@@ -1,14 +1,16 @@
 -- The lines of rows, one after another.
-use Rattle.std.proofs.Common.{◌≡◌, ◌<◌, Bool, true, false, cond, ℕ, List, [], ◌∷◌, ◌++◌, length, flat_map, get_or, refl, ap, ◌∙◌, append-nil}
-use Rattle.std.specs.Prelude.{Option, Some, None, filter}
+use Rattle.qss_rows.proofs.Common
+use Common.{[], ℕ, ◌++◌, ◌<◌, ◌∙◌, ◌∷◌, ◌≡◌, ap, append-nil, Bool, bytes_in, cond, false}
+use Common.{flat_map-append, get_or, length, line_at, List, Machine, None, Option, refl, Some}
+use Common.{text_in, true}
+use Rattle.std.proofs.Common.{flat_map}
+use Rattle.std.specs.Prelude.{filter}
 use Rattle.std.proofs.lemmas.List.{get_or-map, length-map, map-append}
-use Rattle.std.proofs.lemmas.List.Concat.{flat_map-append}
 use Rattle.std.proofs.lemmas.List.Elements.{filter-append}
 use Rattle.qss_machine.specs.declared.machine_parts.Row.{Row}
-use Rattle.qss_machine.specs.declared.compiled_machine.Machine.{Machine}
 use Rattle.qss_rows.specs.Filters.{passes, lines_passed}
 use Rattle.qss_rows.specs.RowTexts.{line_of, lines_of}
-use Rattle.qss_rows.specs.Simulations.{line_if, lines_by, line_at, bytes_in, text_in}
+use Rattle.qss_rows.specs.Simulations.{line_if, lines_by}
 
 -- ---- lines that pass a filter, and those of second-order rows
 

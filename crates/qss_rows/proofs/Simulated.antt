@@ -1,15 +1,13 @@
 -- What became of a run, from what was written of it and how it ended.
-use Rattle.std.proofs.Common.{Bool, ◌≡◌, ℕ, List, ◌++◌, refl, subst, inl, inr}
-use Rattle.std.specs.Prelude.{Option, Some, None, IfSome}
-use Rattle.qss_machine.specs.declared.compiled_machine.Machine.{Machine}
-use Rattle.qss_rows.specs.RowTexts.{header}
+use Rattle.qss_rows.proofs.Common
+use Common.{ℕ, ◌++◌, ◌≡◌, Bool, header, IsResultOf, IsWriting, List, Machine, Memory, None, Option}
+use Common.{refl, RunEnd, Some, StopsAtLine, subst, text_in, WriteStop}
+use Rattle.std.proofs.Common.{inl, inr}
+use Rattle.std.specs.Prelude.{IfSome}
 use Rattle.qss_rows.specs.declared.simulation_rows.RunResult.{RunResult}
+use Rattle.qss_rows.specs.declared.simulation_rows.WriteStop.TheVariants.{Fault}
+use Rattle.qss_rows.specs.Simulations.{IsSimulated}
 use Rattle.qss_rows.specs.declared.simulation_rows.RunResult.TheVariants as played
-use Rattle.qss_rows.specs.declared.simulation_rows.RunEnd.{RunEnd}
-use Rattle.qss_rows.specs.declared.simulation_rows.WriteStop.{WriteStop}
-use Rattle.qss_rows.specs.declared.simulation_rows.WriteStop.TheVariants.{Fault, Memory}
-use Rattle.qss_rows.specs.Simulations.{text_in, StopsAtLine, IsResultOf, IsSimulated}
-use Rattle.qss_rows.specs.Writes.{IsWriting}
 
 -- a fact of what an option holds
 pub some_holds : {X : Type 0} (P : X → Type 0) (o : Option X) (x : X) → o ≡ Some x → IfSome o P → P x

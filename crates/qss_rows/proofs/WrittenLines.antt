@@ -1,16 +1,14 @@
 -- Lines that are written one after another.
-use Rattle.std.proofs.Common.{Bool, ◌≡◌, ◌<◌, ℕ, zero, suc, ◌+◌, List, [], ◌∷◌, ◌++◌, length, take, refl, sym, ap, ◌∙◌, subst, append_assoc, append-nil, arith, rules}
-use Rattle.std.specs.Prelude.{Option, Some, None, IsSome}
-use Rattle.std.proofs.KnownBytes.{Appends-nil, Appends-trans}
+use Rattle.qss_rows.proofs.Common
+use Common.{[], ℕ, ◌++◌, ◌+◌, ◌<◌, ◌∙◌, ◌∷◌, ◌≡◌, ap, append-nil, append_assoc, Appends}
+use Common.{Appends-trans, arith, Bool, bytes_in, flat_map-append, IsWriting, length, line_at, List}
+use Common.{Memory, None, Option, refl, rules, Some, StopsAtLine, subst, suc, sym, take, text_in}
+use Common.{WriteStop, zero}
+use Rattle.std.specs.Prelude.{IsSome}
+use Rattle.std.proofs.KnownBytes.{Appends-nil}
 use Rattle.std.proofs.lemmas.List.{take_more}
-use Rattle.std.proofs.lemmas.List.Concat.{flat_map-append}
-use Rattle.std.specs.Io.KnownBytes.{Appends}
 use Rattle.mu_io.specs.FaultCounts.{HasOneMoreFault}
 use Rattle.mu_io.specs.Sinks.{AppendsPrefix}
-use Rattle.qss_rows.specs.declared.simulation_rows.WriteStop.{WriteStop}
-use Rattle.qss_rows.specs.declared.simulation_rows.WriteStop.TheVariants.{Memory}
-use Rattle.qss_rows.specs.Simulations.{line_at, bytes_in, text_in, StopsAtLine}
-use Rattle.qss_rows.specs.Writes.{IsWriting}
 
 -- ---- lines
 

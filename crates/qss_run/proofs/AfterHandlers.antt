@@ -1,28 +1,15 @@
 -- Slopes and conditions after handlers, where few states moved and few discrete variables were assigned.
-use Rattle.std.proofs.Common.{◌≡◌, ℕ, ◌+◌, ◌<◌, Bool, false, List, length, ℤ, pos, sym, ◌∙◌, ap}
-use Rattle.std.proofs.Common.{arith, inl, inr}
-use Rattle.std.proofs.lemmas.Bool.{cases_Bool}
-use Rattle.std.proofs.lemmas.List.FromFn.{length-map-range_with_len}
-use Rattle.std.specs.Prelude.{if◌then◌else◌}
+use Rattle.qss_run.proofs.Common
+use Common.{ℕ, ℤ, ◌+◌, ◌<◌, ◌∙◌, ◌≡◌, ap, AreDetectorsUpTo, arith, Bool, cases_Bool, conditions}
+use Common.{DetectorStates, DiffersOnlyAt, discrete_count, false, if◌then◌else◌, inl, inr, int_at}
+use Common.{int_at-states_at, int_at-tabulate, is_listed, IsSettled, length}
+use Common.{length-map-range_with_len, length-states_at, Line, line_at, List, Machine, no_row, pos}
+use Common.{reads_moved, row_at, row_reads, slope_at, Snapshot, state_at, state_count, states_at}
+use Common.{states_with, sym, tabulate, tabulate-same, unread_at}
 use Rattle.mu_num.proofs.Tests.{if-false}
 use Rattle.qss_machine.specs.declared.machine_parts.SlopeRow.{SlopeRow}
-use Rattle.qss_machine.specs.declared.compiled_machine.Machine.{Machine}
-use Rattle.qss_machine.specs.Handlers.{conditions}
-use Rattle.qss_machine.specs.Machines.{state_count, discrete_count, slope_at, row_at}
-use Rattle.mu_num.specs.IndexedSums.{int_at, tabulate}
-use Rattle.qss_machine.specs.Ticks.{Snapshot}
-use Rattle.qss_machine.specs.Readers.{row_reads}
-use Rattle.qss_quant.specs.IntegratorLines.{Line, state_at}
-use Rattle.qss_states.specs.Variables.{AreAssigned, reads_moved}
-use Rattle.qss_states.specs.StateLines.{states_with, line_at, states_at}
-use Rattle.qss_run.specs.HandlerResults.{AreDetectorsUpTo}
-use Rattle.qss_run.specs.DetectorUpdates.{DetectorStates, IsSettled}
-use Rattle.mu_num.specs.ListedPlaces.{is_listed, DiffersOnlyAt}
-use Rattle.qss_events.specs.Schedules.{no_row}
-use Rattle.qss_states.proofs.DueLevels.{length-states_at, int_at-states_at}
-use Rattle.mu_num.proofs.Tables.{int_at-tabulate, tabulate-same}
+use Rattle.qss_states.specs.Variables.{AreAssigned}
 use Rattle.qss_events.proofs.SameSlopes.{slope_same}
-use Rattle.qss_machine.proofs.Unread.{unread_at}
 
 -- states with those of the moved ones, by number
 pub length-states_with : (lines : List Line) (t : ℕ) (moved : List ℕ) (x : List ℤ) → length (states_with lines t moved x) ≡ length lines

@@ -1,47 +1,28 @@
 -- Handlers do the same at states that agree where their statements read one.
-use Rattle.std.proofs.Common.{◌≡◌, ℕ, suc, ◌+◌, ◌-◌, ◌*◌, ◌<◌, ◌^◌, Bool, true, false, ◌||◌, List}
-use Rattle.std.proofs.Common.{[], ◌∷◌, ◌++◌, length, get_or, set, take, drop, map, fold, ℤ, pos}
-use Rattle.std.proofs.Common.{◌+ℤ◌, ◌*ℤ◌, refl, sym, ◌∙◌, ap, subst, arith, inl, inr, ◌==◌}
-use Rattle.std.proofs.Math.IntN.{zero-*ℤ}
-use Rattle.std.proofs.lemmas.Bool.{cases_Bool, cases_lt, cases_eq, or_cases, or_left, or_right}
-use Rattle.std.proofs.lemmas.List.{length-append, length-set, get_or_append_left}
-use Rattle.std.proofs.lemmas.List.{get_or-append_right, get_or-set_same, get_or-set_other}
-use Rattle.std.proofs.lemmas.List.{get_or_past, get_or-take, get_or-drop}
-use Rattle.std.proofs.lemmas.List.Folds.{list_any-append, list_any_at}
-use Rattle.std.proofs.lemmas.List.Sums.{sum_by-cons}
-use Rattle.std.specs.List.{list_any}
-use Rattle.std.specs.Prelude.{None, is_some, if◌then◌else◌}
-use Rattle.mu_num.proofs.Tests.{eqb-true}
+use Rattle.qss_run.proofs.Common
+use Common.{[], ℕ, ℤ, ◌*ℤ◌, ◌*◌, ◌++◌, ◌+ℤ◌, ◌+◌, ◌-◌, ◌<◌, ◌==◌, ◌^◌, ◌||◌, ◌∙◌, ◌∷◌, ◌≡◌, Action}
+use Common.{action_reads, ap, AreArrived, AreBranches, AreRisingBelow, arith, assign}
+use Common.{assigned_value, Bool, branch_at, BranchInfo, BranchPlace, cases_Bool, cases_eq}
+use Common.{cases_lt, ClauseInfo, drop, eqb-true, exceeds, false, fire_row, fired_reads}
+use Common.{first_place, flag_at, flags_of, fold, Form, get_or, get_or-append_right, get_or-drop}
+use Common.{get_or-set_other, get_or-set_same, get_or-take, get_or_append_left, get_or_past}
+use Common.{HandlerState, handling_of_fired, has_entry, if◌then◌else◌, index_of, inl, inr, int_at}
+use Common.{is_reinitialized, is_some, length, length-append, length-set, level_unit, List}
+use Common.{list_any, list_any-append, list_any_at, Machine, map, no_branch, None, or_cases}
+use Common.{or_left, or_right, pos, refl, Reinit, Row, run_action, run_branch, run_clauses}
+use Common.{run_first_due, Set, set, state_count, subst, suc, sum_by-cons, sym, take, true}
+use Common.{value_of, zero-*ℤ}
 use Rattle.mu_num.specs.Rounding.{nearest_of}
-use Rattle.mu_num.specs.Sizes.{exceeds}
 use Rattle.mu_num.proofs.Sums.{sum_below-same}
-use Rattle.qss_machine.specs.declared.machine_parts.Action.{Action}
-use Rattle.qss_machine.specs.declared.machine_parts.Action.TheVariants.{Set, Reinit}
-use Rattle.qss_machine.specs.declared.machine_parts.BranchInfo.{BranchInfo}
-use Rattle.qss_machine.specs.declared.machine_parts.ClauseInfo.{ClauseInfo}
-use Rattle.qss_machine.specs.declared.machine_parts.Form.{Form}
-use Rattle.qss_machine.specs.declared.machine_parts.Row.{Row}
-use Rattle.qss_machine.specs.declared.machine_parts.RowKind.TheVariants as kind
-use Rattle.qss_machine.specs.declared.compiled_machine.Machine.{Machine}
-use Rattle.qss_machine.specs.Firing.{first_place}
-use Rattle.mu_num.specs.ListedPlaces.{flag_at, AreRisingBelow}
-use Rattle.qss_machine.specs.Handlers.{HandlerState, assigned_value, assign, run_action, fire_row}
-use Rattle.qss_machine.specs.Handlers.{run_branch, run_first_due, run_clause, run_clauses}
-use Rattle.qss_machine.specs.Machines.{state_count, level_unit, value_of}
-use Rattle.mu_num.specs.IndexedSums.{int_at, sum_below}
+use Rattle.qss_machine.specs.Handlers.{run_clause}
+use Rattle.mu_num.specs.IndexedSums.{sum_below}
 use Rattle.qss_machine.specs.Slopes.{coefficient_of}
-use Rattle.qss_machine.specs.Readers.{has_entry}
-use Rattle.qss_hand.specs.Works.{branch_at}
-use Rattle.qss_hand.proofs.Branches.{no_branch}
-use Rattle.qss_run.specs.declared.run_conditions.BranchPlace.{BranchPlace}
-use Rattle.qss_run.specs.HandlerResults.{flags_of, handling_of_fired, is_reinitialized}
-use Rattle.qss_run.specs.ConditionPlaces.{AreBranches}
-use Rattle.qss_run.specs.HandlerReads.{action_reads, branch_reads, fired_reads, AreArrived}
+use Rattle.qss_run.specs.HandlerReads.{branch_reads}
 use Rattle.qss_run.proofs.Branches.{place_at}
 use Rattle.qss_run.proofs.Firings.{no_clause, one_place, set_inside, flag_among}
 use Rattle.qss_run.proofs.Reported.{reinits_of}
-use Rattle.mu_num.proofs.Writes.{index_of}
 use Rattle.qss_machine.proofs.Unread.{no_coefficient}
+use Rattle.qss_machine.specs.declared.machine_parts.RowKind.TheVariants as kind
 
 -- a form's value depends on a state only where the form has an entry of it
 pub value_agrees : (m : Machine) (form : Form) (x y discretes before : List ℤ) (tick : ℕ) → length x ≡ length y →

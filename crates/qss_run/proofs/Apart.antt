@@ -1,18 +1,10 @@
 -- Conditions that are not after the handlers as on arrival, and the places at which they are.
-use Rattle.std.proofs.Common.{◌≡◌, ℕ, ◌<◌, Bool, true, false, ◌&&◌, ◌||◌, List, [], ◌∷◌, ◌++◌}
-use Rattle.std.proofs.Common.{length, set, refl, sym, ◌∙◌, ap, subst, inl, inr, ◌⊎◌, ◌==◌}
-use Rattle.std.proofs.lemmas.Bool.{cases_Bool, or_parts, or_cases}
-use Rattle.std.proofs.lemmas.List.{get_or-set_same}
-use Rattle.std.proofs.lemmas.List.Folds.{list_any-append}
-use Rattle.mu_num.proofs.Tests.{eqb-true, eqb-yes}
-use Rattle.qss_machine.specs.declared.compiled_machine.Machine.{Machine}
-use Rattle.mu_num.specs.ListedPlaces.{flag_at, is_listed}
-use Rattle.mu_num.specs.Writes.{IsWritten}
-use Rattle.qss_events.proofs.Firsts.{same_lists}
-use Rattle.qss_run.specs.declared.run_conditions.Conditions.{Conditions}
-use Rattle.qss_run.specs.DueLists.{AreAlikeBut, differ}
-use Rattle.qss_run.specs.DetectorUpdates.{AreMarkedChanged, touched_by, touched_after}
-use Rattle.qss_run.specs.DetectorUpdates.{readers_before}
+use Rattle.qss_run.proofs.Common
+use Common.{[], ℕ, ◌&&◌, ◌++◌, ◌<◌, ◌==◌, ◌||◌, ◌∙◌, ◌∷◌, ◌≡◌, ◌⊎◌, ap, AreAlikeBut, Bool}
+use Common.{cases_Bool, Conditions, differ, eqb-true, eqb-yes, false, flag_at, get_or-set_same, inl}
+use Common.{inr, is_listed, IsWritten, length, List, list_any-append, Machine, or_cases, or_parts}
+use Common.{readers_before, refl, same_lists, set, subst, sym, touched_after, touched_by, true}
+use Rattle.qss_run.specs.DetectorUpdates.{AreMarkedChanged}
 
 -- flags that are alike but for some places are equal where those are written too
 pub all_alike : (places : List ℕ) (after_handlers at_arrival new : List Bool) → length at_arrival ≡ length after_handlers → AreAlikeBut places at_arrival after_handlers →

@@ -1,43 +1,24 @@
 -- Conditions on arrival, and what the handlers of the branches do that are then due.
-use Rattle.std.proofs.Common.{◌≡◌, ℕ, ◌+◌, ◌^◌, ◌<◌, ◌≤◌, Bool, true, false, ◌&&◌, ◌||◌, List, []}
-use Rattle.std.proofs.Common.{length, get_or, ℤ, pos, refl, sym, ap, ◌∙◌, subst, inl, inr, ◌⊎◌}
-use Rattle.std.proofs.Common.{arith, eqb}
-use Rattle.std.proofs.lemmas.Bool.{cases_Bool, or_parts, or_cases, eqb-true}
-use Rattle.std.proofs.lemmas.List.{get_or_default}
+use Rattle.qss_run.proofs.Common
+use Common.{[], ℕ, ℤ, ◌&&◌, ◌+◌, ◌<◌, ◌^◌, ◌||◌, ◌∙◌, ◌≡◌, ◌≤◌, ◌⊎◌, All, all_within, among_at, ap}
+use Common.{AreRisingBelow, AreValuesOf, arith, assigned_of, became_true, Bool, cases_Bool}
+use Common.{condition_at, Conditions, conditions, detector_at, DetectorView, discrete_count, eqb}
+use Common.{false, filter, firing_flags, first_exceeding, flag_at, flags_of, get_or}
+use Common.{get_or-map-range_with_len, get_or_default, HandlerState, handling_from}
+use Common.{handling_of_fired, holds_at, if◌then◌else◌, inl, inr, int_at, int_at-states_at}
+use Common.{int_at-tabulate, is_listed, is_reinitialized, IsHandlerEffect, IsWithin, IsWritten}
+use Common.{length, length-map-range_with_len, Line, line_at, List, Machine, None, not, Option}
+use Common.{or_cases, or_parts, pos, refl, row_room, rows_clauses, run_clauses, same_lists}
+use Common.{state_at, state_count, states_at, states_with, subst, sym, true, truth, truths}
+use Common.{truths_are, Values}
+use Rattle.std.proofs.lemmas.Bool.{eqb-true}
 use Rattle.std.proofs.lemmas.List.Elements.{All-filter}
-use Rattle.std.proofs.lemmas.List.FromFn.{length-map-range_with_len, get_or-map-range_with_len}
 use Rattle.std.proofs.lemmas.List.Kept.{IsStrictlyIncreasing-filter}
 use Rattle.std.proofs.lemmas.Map.Views.{any-filter_same}
-use Rattle.std.specs.List.{filter}
-use Rattle.std.specs.Prelude.{not, Option, None, All, if◌then◌else◌}
-use Rattle.mu_num.specs.Sizes.{IsWithin}
-use Rattle.qss_machine.specs.declared.compiled_machine.Machine.{Machine}
-use Rattle.mu_num.specs.ListedPlaces.{flag_at, is_listed, AreRisingBelow}
-use Rattle.qss_machine.specs.Handlers.{HandlerState, conditions, truths, firing_flags, run_clauses}
-use Rattle.qss_machine.specs.Machines.{state_count, discrete_count, truth}
-use Rattle.mu_num.specs.IndexedSums.{int_at, first_exceeding}
-use Rattle.qss_quant.specs.IntegratorLines.{Line, state_at}
-use Rattle.qss_cross.specs.Crossing.{DetectorView, holds_at}
-use Rattle.qss_hand.specs.Values.{Values}
-use Rattle.qss_hand.specs.Works.{AreValuesOf, row_room}
-use Rattle.qss_run.specs.declared.run_conditions.Conditions.{Conditions}
 use Rattle.qss_run.specs.declared.run_conditions.ChangedConditions.{ChangedConditions}
-use Rattle.qss_run.specs.HandlerResults.{flags_of, handling_of_fired, is_reinitialized}
-use Rattle.qss_run.specs.HandlerResults.{IsHandlerEffect, handling_from}
-use Rattle.qss_states.specs.StateLines.{states_with, line_at, states_at}
 use Rattle.qss_run.specs.ConditionContexts.{AreSmallAt, MayBeRead, KnowsArrival}
-use Rattle.qss_run.specs.ConditionPlaces.{detector_at}
-use Rattle.qss_events.specs.HandlerRows.{assigned_of}
-use Rattle.qss_events.specs.Schedules.{condition_at, became_true}
-use Rattle.mu_num.specs.Writes.{IsWritten}
 use Rattle.qss_run.proofs.Reported.{AreLogged, among_assigned, logged, small_after}
-use Rattle.qss_states.proofs.DueLevels.{int_at-states_at}
-use Rattle.qss_events.proofs.Firsts.{same_lists}
-use Rattle.qss_events.proofs.Flags.{due_flags_are, truths_are}
-use Rattle.mu_num.proofs.Tables.{int_at-tabulate}
-use Rattle.qss_hand.proofs.Turns.{rows_clauses}
-use Rattle.mu_num.proofs.Writes.{among_at}
-use Rattle.qss_events.proofs.Overs.{all_within}
+use Rattle.qss_events.proofs.Flags.{due_flags_are}
 
 -- a flag that is known at once
 known_flag : (looked holds after_handlers : Bool) → (looked ≡ false → holds ≡ after_handlers) → (if looked then holds else after_handlers) ≡ holds

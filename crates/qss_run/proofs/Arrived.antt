@@ -1,22 +1,13 @@
 -- Numbers that arrive one after another.
-use Rattle.std.proofs.Common.{◌≡◌, ℕ, ◌+◌, ◌<◌, ◌≤◌, Bool, ◌||◌, List, length, get_or, set, take, ℤ}
-use Rattle.std.proofs.Common.{pos, refl, sym, ◌∙◌, ap, subst, arith, inl, inr, ◌==◌, to_z, of_z}
-use Rattle.std.proofs.lemmas.Bool.{cases_Bool, or_parts, or_cases}
-use Rattle.std.proofs.lemmas.Int.{to_z-of_z}
-use Rattle.std.proofs.lemmas.List.{length-set, get_or-set_same, get_or-set_other, get_or_past}
-use Rattle.std.proofs.lemmas.List.{get_or_default}
-use Rattle.std.proofs.lemmas.List.Folds.{list_any_more}
-use Rattle.std.specs.Int.RustNames.{FitsSigned}
-use Rattle.std.specs.List.{list_any, All}
-use Rattle.mu_num.specs.Sizes.{IsWithin}
-use Rattle.mu_num.proofs.Tests.{eqb-true, eqb-false}
-use Rattle.mu_num.specs.IndexedSums.{int_at}
-use Rattle.qss_quant.specs.IntegratorLines.{Line, state_at}
+use Rattle.qss_run.proofs.Common
+use Common.{ℕ, ℤ, ◌+◌, ◌<◌, ◌==◌, ◌||◌, ◌∙◌, ◌≡◌, ◌≤◌, ap, AreArrived, arith, Bool, cases_Bool}
+use Common.{eqb-true, FitsSigned, get_or, get_or-set_other, get_or-set_same, get_or_default}
+use Common.{get_or_past, inl, inr, int_at, int_at-states_at, IsWithin, length, length-set, Line}
+use Common.{List, list_any, list_any_more, of_z, or_cases, or_parts, pos, refl, set, state_at}
+use Common.{states_at, subst, sym, take, to_z, to_z-of_z, w128}
+use Rattle.std.specs.List.{All}
+use Rattle.mu_num.proofs.Tests.{eqb-false}
 use Rattle.qss_events.specs.Schedules.{no_line}
-use Rattle.qss_run.specs.HandlerReads.{AreArrived}
-use Rattle.qss_states.specs.StateLines.{states_at}
-use Rattle.qss_states.proofs.DueLevels.{int_at-states_at}
-use mir.Syntax.{w128}
 
 -- some arrive, then others
 pub arrived_then : (first then both : ℕ → Bool) (states old mid new : List ℤ) → ((j : ℕ) → both j ≡ (first j || then j)) →

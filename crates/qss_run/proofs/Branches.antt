@@ -1,22 +1,14 @@
 -- The branches of conditions, clause by clause.
-use Rattle.std.proofs.Common.{◌≡◌, ℕ, ◌+◌, ◌-◌, ◌<◌, ◌≤◌, List, [], ◌∷◌, ◌++◌, length, map, take}
-use Rattle.std.proofs.Common.{pos, refl, sym, ◌∙◌, ap, subst, arith, inl, inr}
-use Rattle.std.proofs.lemmas.Bool.{cases_lt}
-use Rattle.std.proofs.lemmas.List.{get_or_append_left, get_or-append_right, length-append}
+use Rattle.qss_run.proofs.Common
+use Common.{[], ℕ, ◌++◌, ◌+◌, ◌-◌, ◌<◌, ◌∙◌, ◌∷◌, ◌≡◌, ◌≤◌, ap, arith, BranchPlace, cases_lt}
+use Common.{clause_at, condition_at, conditions_few, get_or as slice_index_or, get_or-append_right}
+use Common.{get_or-map-range_with_len, get_or_append_left, inl, inr, IsBranchOf, length}
+use Common.{length-append, length-conditions, length-map-range_with_len, Less, List, Machine, map}
+use Common.{map-range_with_len_more, no_branch, pos, range_with_len, refl, subst, sum_by}
+use Common.{sum_by_more, sym, take, width_of}
 use Rattle.std.proofs.lemmas.List.{append_assoc}
-use Rattle.std.proofs.lemmas.List.FromFn.{length-map-range_with_len, get_or-map-range_with_len}
-use Rattle.std.proofs.lemmas.List.FromFn.{map-range_with_len_more}
-use Rattle.std.proofs.lemmas.List.Sums.{sum_by_more, sum_by-take-le}
-use Rattle.std.specs.List.{sum_by, range_with_len}
-use Rattle.std.specs.Prelude.{slice_index_or}
-use Rattle.qss_machine.specs.declared.machine_parts.Rel.TheVariants.{Less}
-use Rattle.qss_machine.specs.declared.compiled_machine.Machine.{Machine}
-use Rattle.qss_hand.specs.Works.{clause_at}
-use Rattle.qss_run.specs.declared.run_conditions.BranchPlace.{BranchPlace}
-use Rattle.qss_run.specs.ConditionPlaces.{IsBranchOf}
-use Rattle.qss_events.specs.Schedules.{condition_at}
-use Rattle.qss_hand.proofs.Turns.{length-conditions, conditions_few}
-use Rattle.qss_hand.proofs.Branches.{width_of, condition_by, no_branch}
+use Rattle.std.proofs.lemmas.List.Sums.{sum_by-take-le}
+use Rattle.qss_hand.proofs.Branches.{condition_by}
 
 abbrev pub place_of : ℕ → ℕ → BranchPlace
 place_of clause branch = record { clause = clause; branch = branch }

@@ -1,14 +1,11 @@
 -- Conditions that became true during the handlers, scheduled for a tick.
-use Rattle.std.proofs.Common.{◌≡◌, ◌≢◌, ℕ, ◌+◌, ◌<◌, ◌≤◌, Bool, true, false, List, [], length}
-use Rattle.std.proofs.Common.{get_or, take, set, refl, sym, ◌∙◌, ap, inl, inr, ◌⊎◌, arith, eqb}
-use Rattle.std.proofs.lemmas.Bool.{cases_Bool, cases_eq, or_cases, eqb-true}
-use Rattle.std.proofs.lemmas.List.{length-set, get_or-set_same, get_or-set_other, take_all}
-use Rattle.std.specs.Prelude.{Option, Some, None, not, ◌&&◌}
-use Rattle.mu_num.specs.ListedPlaces.{flag_at, is_listed}
-use Rattle.qss_sched.specs.Ranks.{due_at}
-use Rattle.qss_events.specs.Schedules.{became_true}
-use Rattle.qss_run.specs.DueLists.{AreAlikeBut, AreRisenDue}
-use Rattle.mu_num.proofs.Writes.{among_more, index_of}
+use Rattle.qss_run.proofs.Common
+use Common.{[], ℕ, ◌&&◌, ◌+◌, ◌<◌, ◌∙◌, ◌≡◌, ◌≢◌, ◌≤◌, ◌⊎◌, ap, AreAlikeBut, AreRisenDue, arith}
+use Common.{became_true, Bool, cases_Bool, cases_eq, due_at, eqb, false, flag_at, get_or}
+use Common.{get_or-set_other, get_or-set_same, index_of, inl, inr, is_listed, length, length-set}
+use Common.{List, None, not, Option, or_cases, refl, set, Some, sym, take, take_all, true}
+use Rattle.std.proofs.lemmas.Bool.{eqb-true}
+use Rattle.mu_num.proofs.Writes.{among_more}
 
 not_risen : (at_arrival after_handlers : Bool) → at_arrival ≡ after_handlers → (after_handlers && not at_arrival) ≡ false
 not_risen true true e = refl

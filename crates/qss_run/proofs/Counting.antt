@@ -1,30 +1,22 @@
 -- A run whose levels are counted as it goes.
-use Rattle.std.proofs.Common.{◌≡◌, ℕ, ◌+◌, ◌*◌, ◌^◌, ◌≤◌, ◌<◌, List, [], ◌++◌, ℤ, refl, sym, ap}
-use Rattle.std.proofs.Common.{◌∙◌, subst, arith, append-nil}
-use Rattle.std.specs.Prelude.{None}
-use Rattle.std.proofs.lemmas.Int.{ints}
-use Rattle.qss_machine.specs.declared.machine_parts.Row.{Row}
-use Rattle.qss_machine.specs.declared.machine_parts.RowKind.TheVariants as kind
-use Rattle.qss_machine.specs.declared.compiled_machine.Machine.{Machine}
-use Rattle.qss_machine.specs.Machines.{state_count, discrete_count}
-use Rattle.qss_machine.specs.Runs.{last_snapshot, run_rows, snapshot_rows}
+use Rattle.qss_run.proofs.Common
+use Common.{[], ℕ, ℤ, ◌*◌, ◌++◌, ◌+◌, ◌<◌, ◌^◌, ◌∙◌, ◌≡◌, ◌≤◌, ap, append-nil, arith}
+use Common.{discrete_count, Done, end_sum, Events, Floor, ints, IsCountFrom, last_snapshot}
+use Common.{level_by, level_count, List, Machine, None, Outcome, Over, refl, Row, rows_left}
+use Common.{RunView, snapshot_rows, state_count, subst, sym}
+use Rattle.qss_machine.specs.Runs.{run_rows}
 use Rattle.qss_machine.specs.Ticks.{start_snapshot}
-use Rattle.qss_quant.specs.declared.quantizer.Rule.TheVariants.{Floor}
-use Rattle.qss_quant.specs.LevelRules.{level_by}
-use Rattle.qss_events.specs.declared.event_outcome.Outcome.{Outcome}
-use Rattle.qss_events.specs.declared.event_outcome.Outcome.TheVariants.{Events, Done, Over}
-use Rattle.qss_events.specs.Events.{rows_left}
-use Rattle.qss_events.specs.RunViews.{RunView}
 use Rattle.qss_rows.specs.RowTexts.{name_of}
 use Rattle.qss_events.specs.RemainingRows.{first_view as first_of, remaining_run, EndsFrom, IsEndOf}
 use Rattle.qss_events.specs.RunTexts.{run_by_rule}
-use Rattle.qss_run.specs.RunSummaries.{level_count, end_sum, IsSummary, IsCountFrom}
+use Rattle.qss_run.specs.RunSummaries.{IsSummary}
 use Rattle.qss_run.specs.declared.run_summary.RunSummary.{RunSummary}
-use Rattle.qss_run.specs.declared.run_summary.RunSummary.TheVariants as tallied
 use Rattle.qss_run.proofs.Sums.{level_count-append, end_sum-append, AddsNothing, tick_nothing}
 use Rattle.qss_run.proofs.Sums.{start_nothing, start_levels}
 use Rattle.qss_events.proofs.FromStart.{rows_are, run_is, variable_known}
 use Rattle.qss_events.proofs.RunEnds.{end_of, same_end, IsCall, event_end}
+use Rattle.qss_machine.specs.declared.machine_parts.RowKind.TheVariants as kind
+use Rattle.qss_run.specs.declared.run_summary.RunSummary.TheVariants as tallied
 
 abbrev left : RunView → List Row
 left s = rows_left (level_by Floor) s

@@ -1,45 +1,22 @@
 -- A tick at which few states are due and few conditions change.
-use Rattle.std.proofs.Common.{◌≡◌, ◌≢◌, ℕ, ◌+◌, ◌-◌, ◌≤◌, ◌<◌, Bool, true, false, not, List, length}
-use Rattle.std.proofs.Common.{ℤ, refl, sym, ◌∙◌, ap, subst, arith, inl, inr}
-use Rattle.std.proofs.lemmas.Bool.{cases_Bool, cases_lt, or_parts, or_right}
-use Rattle.std.proofs.lemmas.List.{get_or_past}
-use Rattle.std.specs.Prelude.{Option, Some, None, All}
-use Rattle.mu_num.proofs.Tests.{if-true}
-use Rattle.mu_num.specs.Sizes.{IsWithin}
-use Rattle.qss_machine.specs.declared.compiled_machine.Machine.{Machine}
-use Rattle.mu_num.specs.IndexedSums.{int_at, first_exceeding}
-use Rattle.qss_machine.specs.Machines.{state_count, level_unit, quantum_of, value_of, speed_of}
-use Rattle.qss_machine.specs.Machines.{compares, truth}
-use Rattle.qss_machine.specs.Handlers.{HandlerState, conditions}
-use Rattle.mu_num.specs.ListedPlaces.{flag_at, is_listed}
-use Rattle.qss_machine.specs.Ticks.{is_within_quantum, AreNextLevels}
-use Rattle.qss_quant.specs.declared.quantizer.Rule.{Rule}
-use Rattle.qss_quant.specs.IntegratorLines.{state_at, IsLineWithinQuantum}
-use Rattle.qss_cross.specs.Crossing.{IsSmall, value_at, holds_at}
-use Rattle.qss_hand.specs.Values.{Values}
-use Rattle.qss_sched.specs.Ranks.{due_at}
-use Rattle.qss_run.specs.declared.run_start.Store.{Store}
-use Rattle.qss_states.specs.StateLines.{states_with, line_at, states_at}
-use Rattle.qss_run.specs.HandlerResults.{is_reinitialized, IsHandlerEffect, handling_from}
-use Rattle.qss_states.specs.EventContexts.{AreMovedTo}
-use Rattle.qss_run.specs.DueLists.{IsWithout}
-use Rattle.qss_run.specs.ConditionPlaces.{detector_at, IsDetectorAt}
-use Rattle.qss_events.specs.AllowedLevels.{IsAllowedLevel}
-use Rattle.qss_events.specs.Schedules.{condition_at, IsDue, IsChange, IsScheduleOf}
-use Rattle.qss_events.specs.Schedules.{HasNoEventBefore, became_true}
-use Rattle.qss_run.specs.Stores.{snapshot_of, HasDueRemovedFrom}
+use Rattle.qss_run.proofs.Common
+use Common.{ℕ, ℤ, ◌+◌, ◌-◌, ◌<◌, ◌∙◌, ◌≡◌, ◌≢◌, ◌≤◌, All, ap, AreMovedTo, AreNextLevels, arith}
+use Common.{became_true, Bool, cases_Bool, cases_lt, compares, condition_at, conditions}
+use Common.{detector_at, due_at, false, first_exceeding, flag_at, flag_still, from_later}
+use Common.{get_or_past, HandlerState, handling_from, HasDueRemovedFrom, HasNoEventBefore, holds_at}
+use Common.{if-true, index_of, inl, inr, int_at, is_listed, is_reinitialized, is_within_quantum}
+use Common.{IsAllowedLevel, IsChange, IsDetectorAt, IsDue, IsHandlerEffect, IsLineWithinQuantum}
+use Common.{IsScheduleOf, IsSmall, IsWithin, IsWithout, length, level_unit, line_at, List, Machine}
+use Common.{moved_is, next_is_near, None, not, Option, or_parts, or_right, quantum_of, refl, Rule}
+use Common.{snapshot_of, Some, speed_of, state_at, state_count, states_at, states_with, Store}
+use Common.{subst, sym, tick_limit, true, truth, value_at, value_of, Values, watch_value_at}
 use Rattle.qss_run.proofs.AfterHandlers.{length-states_with, int_at-states_with, other_state}
 use Rattle.qss_run.proofs.Handled.{over_early}
 use Rattle.qss_run.proofs.Jumps.{dues_later}
-use Rattle.qss_events.proofs.Quiet.{moved_is}
 use Rattle.qss_run.proofs.QuietTick.{value_small, condition_bounded}
 use Rattle.qss_run.proofs.QuietVisits.{rest_near, at_arrival}
 use Rattle.qss_run.proofs.Takes.{not_among}
-use Rattle.qss_events.proofs.Silence.{from_later, watch_value_at, flag_still}
 use Rattle.qss_run.proofs.Visits.{due_stays}
-use Rattle.mu_num.proofs.Writes.{index_of}
-use Rattle.mu_num.specs.Limits.{tick_limit}
-use Rattle.qss_events.proofs.NextLevels.{next_is_near}
 
 -- where handlers overflow nowhere, no state exceeded its limit on arrival
 pub none_early : (m : Machine) (tick : ℕ) (x d : List ℤ) (at_arrival after_handlers : List Bool) → (handling_from m tick x d at_arrival after_handlers).overflow ≡ None → first_exceeding 88 x ≡ None

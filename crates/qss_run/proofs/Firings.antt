@@ -1,28 +1,18 @@
 -- Branches that are due, by their places.
-use Rattle.std.proofs.Common.{◌≡◌, ℕ, zero, suc, ◌+◌, ◌-◌, ◌<◌, ◌≤◌, Bool, true, false, List, []}
-use Rattle.std.proofs.Common.{length, get_or, take, drop, ℤ, sym, ◌∙◌, ap, arith, inl, inr}
-use Rattle.std.proofs.lemmas.Bool.{cases_lt, false_from_ne_true}
-use Rattle.std.proofs.lemmas.List.{get_or-take, get_or-drop, get_or_past, length-take, drop_all}
-use Rattle.std.proofs.lemmas.List.FromFn.{length-map-range_with_len, get_or-map-range_with_len}
+use Rattle.qss_run.proofs.Common
+use Common.{[], ℕ, ℤ, ◌+◌, ◌-◌, ◌<◌, ◌∙◌, ◌≡◌, ◌≤◌, among_at, ap, AreBranches, AreRisingBelow}
+use Common.{arith, Bool, branch_at, BranchInfo, BranchPlace, cases_lt, clause_at, ClauseInfo, drop}
+use Common.{false, false_from_ne_true, first_place, flag_at, flags_of, get_or, get_or-drop}
+use Common.{get_or-map-range_with_len, get_or-take, get_or_past, HandlerState, index_of, inl, inr}
+use Common.{is_listed, IsBranchOf, length, length-map-range_with_len, List, Machine, no_branch}
+use Common.{None, row_room, run_branch, run_clauses, run_first_due, suc, sum_by, sum_by_more, sym}
+use Common.{take, true, width_of, zero}
+use Rattle.std.proofs.lemmas.List.{length-take, drop_all}
 use Rattle.std.proofs.lemmas.List.Kept.{AllPairs-from_increasing}
-use Rattle.std.proofs.lemmas.List.Sums.{sum_by_more, sum_by-take-drop, get_or-le-sum_by}
-use Rattle.std.specs.List.{sum_by}
+use Rattle.std.proofs.lemmas.List.Sums.{sum_by-take-drop, get_or-le-sum_by}
 use Rattle.std.specs.List.Sorted.{IsStrictlyIncreasing}
-use Rattle.std.specs.Prelude.{None}
-use Rattle.qss_machine.specs.declared.machine_parts.BranchInfo.{BranchInfo}
-use Rattle.qss_machine.specs.declared.machine_parts.ClauseInfo.{ClauseInfo}
-use Rattle.qss_machine.specs.declared.compiled_machine.Machine.{Machine}
-use Rattle.qss_machine.specs.Firing.{first_place}
-use Rattle.mu_num.specs.ListedPlaces.{flag_at, is_listed, AreRisingBelow}
-use Rattle.qss_machine.specs.Handlers.{HandlerState, run_branch, run_first_due, run_clauses}
-use Rattle.qss_hand.specs.Works.{clause_at, branch_at, row_room}
-use Rattle.qss_run.specs.HandlerResults.{flags_of}
-use Rattle.qss_run.specs.declared.run_conditions.BranchPlace.{BranchPlace}
-use Rattle.qss_run.specs.ConditionPlaces.{IsBranchOf, AreBranches}
 use Rattle.qss_hand.specs.Rooms.{clause_room}
 use Rattle.qss_hand.proofs.Turns.{next_turn, none_due, first_fires, room-drop}
-use Rattle.qss_hand.proofs.Branches.{width_of, no_branch}
-use Rattle.mu_num.proofs.Writes.{index_of, among_at}
 use Rattle.qss_run.proofs.Branches.{place_at}
 
 abbrev pub no_clause : ClauseInfo

@@ -1,14 +1,8 @@
 -- What the handlers of a tick did.
-use Rattle.std.proofs.Common.{◌≡◌, ℕ, ◌≤◌, Bool, true, List, [], length, ℤ, sym, ◌∙◌, ap, arith}
-use Rattle.std.specs.Prelude.{Option, Some, None, is_some}
-use Rattle.qss_machine.specs.declared.machine_parts.Row.{Row}
-use Rattle.qss_machine.specs.declared.compiled_machine.Machine.{Machine}
-use Rattle.mu_num.specs.IndexedSums.{first_exceeding}
-use Rattle.qss_machine.specs.Handlers.{HandlerState, truths, firing_flags, run_clauses}
-use Rattle.qss_hand.specs.Values.{Values}
-use Rattle.qss_hand.specs.Works.{handling_of, row_room}
-use Rattle.qss_run.specs.HandlerResults.{handling_from}
-use Rattle.qss_hand.proofs.Turns.{clauses_stay, rows_clauses}
+use Rattle.qss_run.proofs.Common
+use Common.{[], ℕ, ℤ, ◌∙◌, ◌≡◌, ◌≤◌, ap, arith, Bool, clauses_stay, firing_flags, first_exceeding}
+use Common.{HandlerState, handling_from, handling_of, is_some, length, List, Machine, None, Option}
+use Common.{Row, row_room, rows_clauses, run_clauses, Some, sym, true, truths, Values}
 
 module _ (m : Machine) (tick : ℕ) (x d : List ℤ) (at_arrival after_handlers : List Bool) where
   -- a state that exceeded its limit on arrival

@@ -1,34 +1,16 @@
 -- A store just before its next event step.
-use Rattle.std.proofs.Common.{◌≡◌, ℕ, zero, suc, ◌+◌, ◌-◌, ◌≤◌, ◌<◌, Bool, true, false, List}
-use Rattle.std.proofs.Common.{length, ℤ, pos, ◌+ℤ◌, ◌*ℤ◌, refl, sym, ◌∙◌, ap, subst, arith, inl}
-use Rattle.std.proofs.Common.{inr, Vec, Global}
-use Rattle.std.proofs.lemmas.Bool.{cases_lt}
-use Rattle.std.proofs.lemmas.List.{get_or_past}
-use Rattle.std.specs.List.{list_any}
-use Rattle.std.specs.Prelude.{Option, Some, None, if◌then◌else◌}
-use Rattle.mu_num.specs.Ticks.{FirstAfter}
-use Rattle.qss_machine.specs.declared.compiled_machine.Machine.{Machine}
-use Rattle.mu_num.specs.IndexedSums.{int_at, tabulate}
-use Rattle.qss_machine.specs.Machines.{state_count, slope_at}
-use Rattle.qss_machine.specs.Handlers.{conditions, firing_flags}
-use Rattle.qss_machine.specs.Ticks.{Snapshot}
-use Rattle.qss_quant.specs.declared.quantizer.Rule.{Rule}
-use Rattle.qss_quant.specs.IntegratorLines.{state_at}
-use Rattle.qss_sched.specs.Ranks.{due_at}
-use Rattle.qss_run.specs.declared.run_start.Store.{Store}
-use Rattle.qss_run.specs.DueLists.{AreAlikeBut}
-use Rattle.qss_states.specs.StateLines.{line_at, states_at}
-use Rattle.qss_run.specs.ConditionPlaces.{detector_at}
-use Rattle.qss_sched.specs.PlaceSets.{PlaceList}
-use Rattle.qss_events.specs.Schedules.{IsScheduleOf, rises}
+use Rattle.qss_run.proofs.Common
+use Common.{ℕ, ℤ, ◌*ℤ◌, ◌+ℤ◌, ◌+◌, ◌-◌, ◌<◌, ◌∙◌, ◌≡◌, ◌≤◌, ap, AreAlikeBut, AreEventFree, arith}
+use Common.{arrived_then, Bool, cases_lt, conditions, detector_at, due_at, false, firing_flags}
+use Common.{FirstAfter, FitsMachine, get_or_past, Global, if◌then◌else◌, inl, inr, int_at}
+use Common.{int_at-tabulate, IsScheduleOf, IsStoreAt, length, line_at, line_state_at, List}
+use Common.{list_any, Machine, None, Option, PlaceList, pos, quiet_worlds, refl, rises, Rule}
+use Common.{settled_twice, slope_at, Snapshot, snapshot_of, Some, state_at, state_count, states_at}
+use Common.{Store, subst, suc, sym, tabulate, tabulate-same, true, Vec, zero}
 use Rattle.qss_events.specs.EventFreeTicks.{states_after, snapshot_after}
-use Rattle.qss_run.specs.Stores.{snapshot_of, FitsMachine, IsStoreAt}
-use Rattle.qss_events.specs.EventFreeRuns.{AreEventFree}
 use Rattle.qss_run.proofs.OwnConditions.{arrived_anew}
-use Rattle.mu_num.proofs.Tables.{int_at-tabulate, tabulate-same}
-use Rattle.qss_events.proofs.Silence.{line_state_at, none_rises, silence, stands_still}
-use Rattle.qss_events.proofs.Silences.{quiet_worlds, quiet_leads, arrived_then}
-use Rattle.qss_events.proofs.Skipped.{settled_twice}
+use Rattle.qss_events.proofs.Silence.{none_rises, silence, stands_still}
+use Rattle.qss_events.proofs.Silences.{quiet_leads}
 
 later_of : (P : ℕ → Type 0) (from t : ℕ) (found : Option ℕ) → FirstAfter P from found → found ≡ Some t → from < t
 later_of P from t None first e = absurd (cc)

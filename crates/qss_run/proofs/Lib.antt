@@ -1,3 +1,4 @@
+mod Common
 mod Visits
 mod Jumps
 mod Takes

@@ -1,22 +1,14 @@
 -- Under a rule with a name the touches of a call are the first of those that were to come.
-use Rattle.std.proofs.Common.{◌≡◌, ℕ, suc, ◌+◌, ◌-◌, ◌≤◌, List, [], ◌∷◌, ◌++◌, length, ℤ, sym, ◌∙◌}
-use Rattle.std.proofs.Common.{ap, arith, add-one}
-use Rattle.std.specs.Prelude.{Option, Some, None, Result, Ok, Err}
-use Rattle.qss_machine.specs.EventCounts.{touches_after}
-use Rattle.qss_machine.specs.declared.machine_parts.Row.{Row}
-use Rattle.qss_machine.specs.declared.compiled_machine.Machine.{Machine}
-use Rattle.qss_machine.specs.Machines.{state_count}
-use Rattle.qss_machine.specs.Runs.{last_snapshot, run_from, run_with}
-use Rattle.qss_machine.specs.Ticks.{Snapshot, IsStep, step}
-use Rattle.qss_quant.specs.declared.quantizer.Rule.{Rule}
-use Rattle.qss_quant.specs.LevelRules.{level_by}
-use Rattle.qss_events.specs.declared.event_outcome.Outcome.{Outcome}
-use Rattle.qss_events.specs.declared.event_outcome.Outcome.TheVariants.{Events, Done, Over}
+use Rattle.qss_run.proofs.Common
+use Common.{[], ℕ, ℤ, ◌++◌, ◌+◌, ◌-◌, ◌∙◌, ◌∷◌, ◌≡◌, ◌≤◌, ap, arith, Done, Err, Events}
+use Common.{IsAllowedLevel, IsNext, IsStep, last_snapshot, length, level_by, List, Machine}
+use Common.{MovesTouched, None, Ok, Option, Outcome, Over, Result, Row, Rule, Snapshot, Some}
+use Common.{state_count, suc, sym, touches_after, touches_at, touches_left}
+use Rattle.std.proofs.Common.{add-one}
+use Rattle.qss_machine.specs.Runs.{run_from, run_with}
+use Rattle.qss_machine.specs.Ticks.{step}
 use Rattle.qss_events.specs.EventFreeRuns.{IsEventFreeExecution}
-use Rattle.qss_events.specs.Events.{IsNext}
-use Rattle.qss_events.specs.AllowedLevels.{IsAllowedLevel}
-use Rattle.qss_run.specs.TouchCounts.{touches_at, MovesTouched, touches_from, none_if_ended}
-use Rattle.qss_run.specs.TouchCounts.{touches_left}
+use Rattle.qss_run.specs.TouchCounts.{touches_from, none_if_ended}
 use Rattle.qss_events.proofs.NamedRows.{at}
 use Rattle.qss_events.proofs.Silences.{named_step}
 use Rattle.qss_run.proofs.Spans.{touches_push, touches_over}

@@ -1,21 +1,12 @@
 -- Conditions that go on, or of which some settle, are a machine's conditions still.
-use Rattle.std.proofs.Common.{◌≡◌, ℕ, List, [], ◌++◌, length, ℤ, Vec, Global, refl, sym, ◌∙◌, ap}
-use Rattle.std.proofs.Common.{subst, arith}
-use Rattle.std.proofs.lemmas.List.Elements.{All-append}
-use Rattle.std.specs.Prelude.{Bool, Option, All}
-use Rattle.qss_machine.specs.declared.compiled_machine.Machine.{Machine}
-use Rattle.qss_machine.specs.Handlers.{conditions}
-use Rattle.qss_quant.specs.IntegratorLines.{Line}
-use Rattle.qss_cross.specs.Crossing.{IsSmall}
-use Rattle.qss_run.specs.declared.run_conditions.Conditions.{Conditions}
+use Rattle.qss_run.proofs.Common
+use Common.{[], ℕ, ℤ, ◌++◌, ◌∙◌, ◌≡◌, All, All-append, ap, AreBranches, AreDetectorsUpdated}
+use Common.{AreSettled, AreSettledAlong, arith, Bool, CanSettle, Conditions, conditions}
+use Common.{detector_states_of, DetectorStates, Global, HasSpeed, IsSmall, length, Line, List}
+use Common.{Machine, Option, PlaceList, refl, states_at, subst, sym, touched_after, Vec}
 use Rattle.qss_run.specs.declared.run_conditions.ConditionContext.{ConditionContext}
-use Rattle.qss_run.specs.ConditionContexts.{CanUpdateDetectors, CanSettle}
-use Rattle.qss_run.specs.ConditionPlaces.{AreBranches, AreConditionsOf}
-use Rattle.qss_sched.specs.PlaceSets.{PlaceList}
-use Rattle.qss_run.specs.DetectorUpdates.{DetectorStates, AreSettled, AreSettledAlong}
-use Rattle.qss_run.specs.DetectorUpdates.{detector_states_of, touched_after}
-use Rattle.qss_run.specs.SpeedUpdates.{HasSpeed, AreDetectorsUpdated}
-use Rattle.qss_states.specs.StateLines.{states_at}
+use Rattle.qss_run.specs.ConditionContexts.{CanUpdateDetectors}
+use Rattle.qss_run.specs.ConditionPlaces.{AreConditionsOf}
 use Rattle.qss_run.proofs.Apart.{none_noted, noted_then}
 use Rattle.qss_run.proofs.Rewatching.{none_settled, settled_then}
 use Rattle.qss_run.proofs.Settling.{none_arrived, arrived_on}

@@ -1,42 +1,20 @@
 -- A tick at which nothing but states is due.
-use Rattle.std.proofs.Common.{◌≡◌, ◌≢◌, ℕ, ◌+◌, ◌*◌, ◌^◌, ◌<◌, ◌≤◌, false, List, [], ◌∷◌, length}
-use Rattle.std.proofs.Common.{get_or, map, ℤ, pos, ◌*ℤ◌, sym, ◌∙◌, ap, subst, arith, inl, inr}
-use Rattle.std.proofs.lemmas.Int.{ints, unsigned_abs-mul}
-use Rattle.std.proofs.lemmas.Bool.{cases_lt}
-use Rattle.std.proofs.lemmas.List.{length-map, get_or_past}
-use Rattle.std.proofs.lemmas.List.Elements.{All-append, All-map}
-use Rattle.std.proofs.lemmas.List.Sums.{sum_by-cons}
+use Rattle.qss_run.proofs.Common
+use Common.{[], ℕ, ℤ, ◌*ℤ◌, ◌*◌, ◌+◌, ◌<◌, ◌^◌, ◌∙◌, ◌∷◌, ◌≡◌, ◌≢◌, ◌≤◌, All, All-append, ap}
+use Common.{AreBranches, arith, BranchPlace, cases_lt, Condition, condition_at, conditions}
+use Common.{DetectorView, due_at, Entry, false, firing_flags, first_exceeding, flag_at, flag_still}
+use Common.{Form, from_later, get_or, get_or_past, handlers_at, holds_at, if◌then◌else◌, inl}
+use Common.{inputs, inr, int_at, ints, IsBounded, IsChange, IsDetectorAt, IsScheduleOf, IsSmall}
+use Common.{IsWithin, length, length-map, Less, level_unit, Line, List, list_any, Machine, map}
+use Common.{moved_is, moved_states, None, NoneRises, Option, pos, product_bound, rises}
+use Common.{settled_twice, slopes_of, Snapshot, Some, state_count, subst, sum_by, sum_by-cons}
+use Common.{sum_over, sym, tick_limit, truth, truths, truths_are, unsigned_abs, value_at, value_of}
+use Common.{watch_value_at, weighted_sum-entries}
+use Rattle.std.proofs.lemmas.Int.{unsigned_abs-mul}
+use Rattle.std.proofs.lemmas.List.Elements.{All-map}
 use Rattle.std.proofs.Math.Pow.{pow_mono}
-use Rattle.std.specs.Int.RustNames.{unsigned_abs}
-use Rattle.std.specs.List.{list_any, sum_by}
-use Rattle.std.specs.Prelude.{Option, Some, None, All, if◌then◌else◌}
-use Rattle.mu_num.specs.Sizes.{IsWithin}
-use Rattle.qss_machine.specs.declared.machine_parts.Condition.{Condition}
-use Rattle.qss_machine.specs.declared.machine_parts.Entry.{Entry}
-use Rattle.qss_machine.specs.declared.machine_parts.Form.{Form}
-use Rattle.qss_machine.specs.declared.machine_parts.Rel.TheVariants.{Less}
-use Rattle.qss_machine.specs.declared.compiled_machine.Machine.{Machine}
-use Rattle.qss_machine.specs.MachineLimits.{IsBounded}
-use Rattle.mu_num.specs.IndexedSums.{int_at, sum_over, first_exceeding}
-use Rattle.qss_machine.specs.Machines.{state_count, level_unit, value_of, truth, inputs}
-use Rattle.qss_machine.specs.Handlers.{conditions, truths, firing_flags}
-use Rattle.mu_num.specs.ListedPlaces.{flag_at}
-use Rattle.mu_num.specs.Limits.{tick_limit}
-use Rattle.qss_machine.specs.Ticks.{Snapshot, handlers_at, moved_states}
-use Rattle.qss_machine.proofs.Loops.{product_bound}
-use Rattle.qss_machine.proofs.SumLaws.{weighted_sum-entries}
-use Rattle.qss_quant.specs.IntegratorLines.{Line}
-use Rattle.qss_cross.specs.Crossing.{DetectorView, IsSmall, value_at, holds_at}
-use Rattle.qss_sched.specs.Ranks.{due_at}
-use Rattle.qss_run.specs.declared.run_conditions.BranchPlace.{BranchPlace}
-use Rattle.qss_run.specs.ConditionPlaces.{AreBranches, IsDetectorAt}
-use Rattle.qss_events.specs.EventFreeTicks.{NoneRises}
-use Rattle.qss_events.specs.Schedules.{slopes_of, condition_at, rises, IsChange, IsScheduleOf}
 use Rattle.qss_run.proofs.Branches.{place_at}
-use Rattle.qss_events.proofs.Quiet.{clauses-idle, moved_is}
-use Rattle.qss_events.proofs.Flags.{truths_are}
-use Rattle.qss_events.proofs.Silence.{from_later, watch_value_at, flag_still}
-use Rattle.qss_events.proofs.Skipped.{settled_twice}
+use Rattle.qss_events.proofs.Quiet.{clauses-idle}
 
 -- no condition changes at the next tick
 abbrev pub NoneChanges : Machine → ℕ → List (Option ℕ) → Type 0

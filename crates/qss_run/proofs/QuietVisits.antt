@@ -1,46 +1,21 @@
 -- A store after a tick at which nothing but states was due.
-use Rattle.std.proofs.Common.{◌≡◌, ◌≢◌, ℕ, ◌+◌, ◌≤◌, ◌<◌, true, false, List, [], ◌++◌, length, ℤ}
-use Rattle.std.proofs.Common.{pos, refl, sym, ◌∙◌, ap, subst, arith, inl, inr}
-use Rattle.std.proofs.lemmas.Bool.{cases_Bool}
-use Rattle.std.proofs.lemmas.Int.{ints}
-use Rattle.std.proofs.lemmas.List.{get_or_default}
-use Rattle.std.specs.Option.{option_or}
-use Rattle.std.specs.Prelude.{Option, Some, None, position, if◌then◌else◌}
-use Rattle.mu_num.specs.Sizes.{IsWithin}
-use Rattle.qss_machine.specs.declared.compiled_machine.Machine.{Machine}
-use Rattle.mu_num.specs.IndexedSums.{int_at, tabulate, first_exceeding}
-use Rattle.qss_machine.specs.Machines.{state_count, level_unit, slope_at, quantum_of, row_at}
-use Rattle.qss_machine.specs.Handlers.{HandlerState, conditions, truths}
-use Rattle.qss_machine.specs.Ticks.{Snapshot, moved_states, handlers_at, is_within_quantum}
-use Rattle.qss_machine.specs.Ticks.{exceeds_row_limits, AreNextLevels, snapshot_unless, finish_tick}
-use Rattle.qss_machine.specs.Ticks.{IsStep}
-use Rattle.qss_machine.specs.Runs.{level_rows, tick_rows}
-use Rattle.qss_quant.specs.declared.quantizer.Rule.{Rule}
-use Rattle.qss_quant.specs.IntegratorLines.{state_at, IsLineWithinQuantum}
-use Rattle.qss_sched.specs.Ranks.{due_at}
-use Rattle.qss_states.specs.RowSums.{AreSumsBefore}
-use Rattle.qss_states.specs.declared.row_sum_changes.RowSum.TheVariants.{Slope}
-use Rattle.qss_run.specs.declared.run_start.Store.{Store}
-use Rattle.mu_num.specs.ListedPlaces.{is_listed, DiffersOnlyAt}
-use Rattle.qss_events.specs.EventFreeTicks.{NoneRises}
-use Rattle.qss_states.specs.StateLines.{line_at, states_at, AreLinesAt}
-use Rattle.qss_run.specs.ConditionPlaces.{detector_at, IsDetectorAt}
-use Rattle.qss_events.specs.AllowedLevels.{IsAllowedLevel}
-use Rattle.qss_events.specs.Schedules.{IsDue, IsScheduleOf, HasNoEventBefore, became_true}
-use Rattle.qss_states.specs.Variables.{reads_moved}
-use Rattle.qss_run.specs.Stores.{snapshot_of, HasDueRemovedFrom}
-use Rattle.qss_states.specs.EventContexts.{HasLeft}
-use Rattle.mu_num.proofs.Tables.{int_at-tabulate}
-use Rattle.qss_events.proofs.Overs.{all_within}
-use Rattle.qss_events.proofs.Silence.{line_state_at, still_near}
+use Rattle.qss_run.proofs.Common
+use Common.{[], ℕ, ℤ, ◌++◌, ◌+◌, ◌<◌, ◌∙◌, ◌≡◌, ◌≢◌, ◌≤◌, all_within, ap, AreLinesAt, AreNextLevels}
+use Common.{AreSumsBefore, arith, became_true, cases_Bool, conditions, detector_at, DiffersOnlyAt}
+use Common.{due_at, exceeds_row_limits, false, finish_tick, first_exceeding, get_or_default}
+use Common.{handlers_at, HandlerState, HasDueRemovedFrom, HasLeft, HasNoEventBefore, if◌then◌else◌}
+use Common.{index_of, inl, inr, int_at, int_at-tabulate, ints, is_listed, is_within_quantum}
+use Common.{IsAllowedLevel, IsDetectorAt, IsDue, IsLineWithinQuantum, IsScheduleOf, IsStep}
+use Common.{IsWithin, length, level_rows, level_unit, line_at, line_state_at, List, Machine}
+use Common.{moved_states, next_is_near, None, none_due, NoneRises, Option, option_or, pos, position}
+use Common.{quantum_of, reads_moved, refl, row_at, Rule, Slope, slope_at, Snapshot, snapshot_of}
+use Common.{snapshot_unless, Some, state_at, state_count, states_at, Store, subst, sym, tabulate}
+use Common.{tick_limit, tick_rows, true, truths, unread_at}
+use Rattle.qss_events.proofs.Silence.{still_near}
 use Rattle.qss_events.proofs.NextVisit.{only_due_states_pass}
 use Rattle.qss_run.proofs.Jumps.{dues_later}
 use Rattle.qss_run.proofs.QuietTick.{NoneChanges, only_moves, quiet_truths, watched_then}
-use Rattle.mu_num.proofs.Writes.{index_of}
-use Rattle.mu_num.specs.Limits.{tick_limit}
-use Rattle.qss_machine.proofs.Unread.{unread_at, unread_slope}
-use Rattle.qss_events.proofs.NextLevels.{next_is_near}
-use Rattle.qss_events.proofs.Risen.{none_due}
+use Rattle.qss_machine.proofs.Unread.{unread_slope}
 use Rattle.qss_run.proofs.Visits.{arrives, due_stays, end_of}
 
 -- a step, where its overflow is known, and without one the snapshot

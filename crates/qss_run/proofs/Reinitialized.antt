@@ -1,22 +1,14 @@
 -- What the rows of a tick say of states.
-use Rattle.std.proofs.Common.{◌≡◌, ◌≢◌, ℕ, ◌+◌, ◌<◌, Bool, true, false, ◌&&◌, ◌||◌, List, [], ◌∷◌}
-use Rattle.std.proofs.Common.{◌++◌, length, get_or, set, take, map, cond, refl, sym, ◌∙◌, ap, subst}
-use Rattle.std.proofs.Common.{inl, inr, ◌⊎◌, arith, eqb, append-nil, ◌==◌}
-use Rattle.std.proofs.lemmas.Bool.{eqb-true, eqb-false, eq-eqb, or_parts, or_cases, or_left}
-use Rattle.std.proofs.lemmas.Bool.{or_right, cases_eq, cases_Bool}
-use Rattle.std.proofs.lemmas.List.{map-append, length-set, get_or-set_same, get_or-set_other}
+use Rattle.qss_run.proofs.Common
+use Common.{[], ℕ, ◌&&◌, ◌++◌, ◌+◌, ◌<◌, ◌==◌, ◌||◌, ◌∙◌, ◌∷◌, ◌≡◌, ◌≢◌, ◌⊎◌, ap, append-nil}
+use Common.{AreDue, AreRisingBelow, arith, Bool, cases_Bool, cases_eq, cond, due_at, eqb, eqb-false}
+use Common.{false, filter, get_or, get_or-set_other, get_or-set_same, index_of, inl, inr, is_listed}
+use Common.{is_reinit, is_reinitialized, IsWithout, length, length-set, List, list_any, list_any_at}
+use Common.{list_any_more, map, Option, or_cases, or_left, or_parts, or_right, refl}
+use Common.{reinitialized_of, Row, set, Some, subst, sym, take, true}
+use Rattle.std.proofs.lemmas.Bool.{eqb-true, eq-eqb}
+use Rattle.std.proofs.lemmas.List.{map-append}
 use Rattle.std.proofs.lemmas.List.Elements.{filter_more}
-use Rattle.std.proofs.lemmas.List.Folds.{list_any_more, list_any_at}
-use Rattle.std.specs.List.{filter, list_any}
-use Rattle.std.specs.Prelude.{Option, Some}
-use Rattle.qss_machine.specs.EventCounts.{is_reinit}
-use Rattle.qss_machine.specs.declared.machine_parts.Row.{Row}
-use Rattle.qss_sched.specs.Ranks.{due_at}
-use Rattle.qss_run.specs.HandlerResults.{is_reinitialized}
-use Rattle.qss_events.specs.HandlerRows.{reinitialized_of}
-use Rattle.mu_num.specs.ListedPlaces.{is_listed, AreRisingBelow}
-use Rattle.qss_run.specs.DueLists.{AreDue, IsWithout}
-use Rattle.mu_num.proofs.Writes.{index_of}
 
 -- the states of these rows are due at a tick, and all else is due as before
 pub record AreGiven (tick : ℕ) (log : List Row) (old new : List (Option ℕ)) : Type 0 where

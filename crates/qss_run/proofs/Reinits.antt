@@ -1,10 +1,7 @@
 -- Handlers change a state only where they have a row of it.
-use Rattle.std.proofs.Common.{◌≡◌, ℕ, false}
-use Rattle.qss_machine.specs.declared.compiled_machine.Machine.{Machine}
-use Rattle.qss_machine.specs.Handlers.{truths, firing_flags}
-use Rattle.mu_num.specs.IndexedSums.{int_at, first_exceeding}
-use Rattle.qss_machine.specs.Ticks.{Snapshot, moved_states, handlers_at}
-use Rattle.qss_run.specs.HandlerResults.{is_reinitialized}
+use Rattle.qss_run.proofs.Common
+use Common.{ℕ, ◌≡◌, false, firing_flags, first_exceeding, handlers_at, int_at, is_reinitialized}
+use Common.{Machine, moved_states, Snapshot, truths}
 use Rattle.qss_run.proofs.Reported.{logged}
 
 -- a state that the handlers do not reinitialize is as on arrival

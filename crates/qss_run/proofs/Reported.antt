@@ -1,32 +1,19 @@
 -- Handlers change what their rows say, and no more.
-use Rattle.std.proofs.Common.{◌≡◌, ◌≢◌, ℕ, ◌+◌, ◌-◌, ◌<◌, ◌≤◌, Bool, true, false, cond, ◌&&◌, ◌||◌}
-use Rattle.std.proofs.Common.{List, [], ◌∷◌, ◌++◌, ℤ, pos, refl, sym, ap, ◌∙◌, inl, inr, ◌⊎◌, set}
-use Rattle.std.proofs.Common.{map, subst, arith, eqb}
-use Rattle.std.proofs.lemmas.Bool.{or_parts, or_cases, eqb-true, eqb-false}
-use Rattle.std.proofs.lemmas.Bool.Decides.{nat_tests}
-use Rattle.std.proofs.lemmas.List.{get_or-set_other}
+use Rattle.qss_run.proofs.Common
+use Common.{[], ℕ, ℤ, ◌&&◌, ◌++◌, ◌+◌, ◌-◌, ◌<◌, ◌||◌, ◌∙◌, ◌∷◌, ◌≡◌, ◌≢◌, ◌≤◌, ◌⊎◌, Action, All}
+use Common.{ap, arith, assign, assigned_of, Bool, cond, discrete_count, eqb, eqb-false, exceeds}
+use Common.{false, filter, fire_row, Form, get_or-set_other, HandlerState, if_cases, inl, inr}
+use Common.{int_at, is_listed, is_reinit, is_reinitialized, IsWithin, List, list_any}
+use Common.{list_any-append, Machine, map, nat_tests, Option, or_cases, or_parts, pos, refl, Reinit}
+use Common.{Row, run_clauses, Set, set, Some, state_count, subst, sym, true}
+use Rattle.std.proofs.lemmas.Bool.{eqb-true}
 use Rattle.std.proofs.lemmas.List.Elements.{All-set}
-use Rattle.std.proofs.lemmas.List.Folds.{list_any-append}
-use Rattle.std.specs.List.{list_any, filter}
-use Rattle.std.specs.Prelude.{All, Option, Some, IsTrue}
-use Rattle.mu_num.proofs.Tests.{if_cases}
-use Rattle.mu_num.specs.Sizes.{IsWithin, exceeds}
-use Rattle.qss_machine.specs.EventCounts.{is_reinit}
-use Rattle.qss_machine.specs.declared.machine_parts.Action.{Action}
-use Rattle.qss_machine.specs.declared.machine_parts.Action.TheVariants.{Set, Reinit}
-use Rattle.qss_machine.specs.declared.machine_parts.Form.{Form}
-use Rattle.qss_machine.specs.declared.machine_parts.Row.{Row}
-use Rattle.qss_machine.specs.declared.machine_parts.RowKind.TheVariants as kind
-use Rattle.qss_machine.specs.declared.compiled_machine.Machine.{Machine}
-use Rattle.qss_machine.specs.Handlers.{HandlerState, assign, fire_row, run_clauses}
+use Rattle.std.specs.Prelude.{IsTrue}
 use Rattle.qss_machine.specs.MachineLimits.{IsAction, has_target}
-use Rattle.qss_machine.specs.Machines.{state_count, discrete_count}
-use Rattle.mu_num.specs.IndexedSums.{int_at}
 use Rattle.qss_hand.proofs.Targets.{target_set, target_reinit}
-use Rattle.qss_run.specs.HandlerResults.{is_reinitialized}
-use Rattle.mu_num.specs.ListedPlaces.{is_listed}
-use Rattle.qss_events.specs.HandlerRows.{is_set, assigned_of}
+use Rattle.qss_events.specs.HandlerRows.{is_set}
 use Rattle.qss_events.proofs.Kept.{after_clauses}
+use Rattle.qss_machine.specs.declared.machine_parts.RowKind.TheVariants as kind
 
 -- whether rows say that this variable was assigned
 abbrev pub is_assigned : List Row → ℕ → Bool

@@ -1,22 +1,13 @@
 -- Conditions of which some settle at a tick, step by step.
-use Rattle.std.proofs.Common.{◌≡◌, ℕ, ◌+◌, ◌<◌, true, false, List, [], ◌∷◌, ◌++◌, length, set, ℤ}
-use Rattle.std.proofs.Common.{refl, sym, ◌∙◌, ap, subst, arith, inl, inr, ◌==◌}
-use Rattle.std.proofs.lemmas.Bool.{or_parts, or_cases, or_left, cases_Bool}
-use Rattle.std.proofs.lemmas.List.{length-set, get_or-set_other, get_or-set_same}
-use Rattle.std.proofs.lemmas.List.Folds.{list_any-append, list_any_at}
-use Rattle.std.proofs.lemmas.List.FromFn.{length-map-range_with_len, get_or-map-range_with_len}
-use Rattle.std.proofs.lemmas.List.FromFn.{map-range_with_len_more}
-use Rattle.std.specs.Prelude.{Bool, Option, None}
-use Rattle.mu_num.proofs.Tests.{eqb-true, eqb-yes}
-use Rattle.qss_machine.specs.declared.compiled_machine.Machine.{Machine}
-use Rattle.qss_machine.specs.Machines.{state_count, value_of, speed_of, compares, truth}
-use Rattle.mu_num.specs.ListedPlaces.{flag_at, is_listed}
-use Rattle.mu_num.specs.IndexedSums.{tabulate}
-use Rattle.qss_cross.specs.Crossing.{DetectorView}
-use Rattle.qss_sched.specs.Ranks.{due_at}
-use Rattle.qss_run.specs.ConditionPlaces.{detector_at, IsDetectorAt}
-use Rattle.qss_events.specs.Schedules.{condition_at, IsChange, no_detector}
-use Rattle.qss_run.specs.DetectorUpdates.{DetectorStates, IsKept, IsSettled, AreSettled}
+use Rattle.qss_run.proofs.Common
+use Common.{[], ℕ, ℤ, ◌++◌, ◌+◌, ◌<◌, ◌==◌, ◌∙◌, ◌∷◌, ◌≡◌, ap, AreSettled, arith, Bool, cases_Bool}
+use Common.{compares, condition_at, detector_at, DetectorStates, DetectorView, due_at, eqb-true}
+use Common.{eqb-yes, false, flag_at, get_or-map-range_with_len, get_or-set_other, get_or-set_same}
+use Common.{inl, inr, is_listed, IsChange, IsDetectorAt, IsSettled, length}
+use Common.{length-map-range_with_len, length-set, List, list_any-append, list_any_at, Machine}
+use Common.{map-range_with_len_more, no_detector, None, Option, or_cases, or_left, or_parts, refl}
+use Common.{set, speed_of, state_count, subst, sym, tabulate, true, truth, value_of}
+use Rattle.qss_run.specs.DetectorUpdates.{IsKept}
 
 -- a condition that is as it was is settled as it was
 pub still_settled : (m : Machine) (tick : ℕ) (x d slopes : List ℤ) (place : ℕ) (old new : DetectorStates) → IsKept m place old new → IsSettled m tick x d slopes place old →

@@ -1,25 +1,14 @@
 -- Which conditions settle after handlers.
-use Rattle.std.proofs.Common.{◌≡◌, ℕ, ◌+◌, ◌<◌, Bool, true, false, ◌||◌, List, [], ◌∷◌, ◌++◌}
-use Rattle.std.proofs.Common.{length, flat_map, ℤ, pos, refl, sym, ◌∙◌, ap, inl, inr, append-nil}
-use Rattle.std.proofs.Common.{◌==◌}
+use Rattle.qss_run.proofs.Common
+use Common.{[], ℕ, ℤ, ◌++◌, ◌+◌, ◌<◌, ◌==◌, ◌||◌, ◌∙◌, ◌∷◌, ◌≡◌, among_conditions}
+use Common.{Any-from_list_any, ap, append-nil, AreArrived, Bool, cases_lt, Condition, condition_at}
+use Common.{condition_reads, conditions, discrete_count, eqb-yes, false, false_from_ne_true}
+use Common.{flat_map, get_or_past, inl, inr, is_listed, length, Less, List, list_any}
+use Common.{list_any-append, list_any_at, Machine, one_reads, pos, readers_before, readers_of}
+use Common.{reading_conditions, reading_rows, refl, sym, touched_after, touched_by, touched_of}
+use Common.{true}
 use Rattle.std.proofs.lemmas.Grind.{flat_map-append}
-use Rattle.std.proofs.lemmas.Bool.{cases_lt, false_from_ne_true}
-use Rattle.std.proofs.lemmas.List.{get_or_past}
-use Rattle.std.proofs.lemmas.List.Folds.{Any-from_list_any, list_any-append, list_any_at}
-use Rattle.std.specs.List.{list_any}
-use Rattle.mu_num.proofs.Tests.{eqb-yes}
-use Rattle.qss_machine.specs.declared.machine_parts.Condition.{Condition}
-use Rattle.qss_machine.specs.declared.machine_parts.Rel.TheVariants.{Less}
-use Rattle.qss_machine.specs.declared.compiled_machine.Machine.{Machine}
-use Rattle.qss_machine.specs.Machines.{discrete_count}
-use Rattle.qss_machine.specs.Handlers.{conditions}
-use Rattle.qss_machine.specs.Readers.{condition_reads, reading_rows, reading_conditions}
-use Rattle.mu_num.specs.ListedPlaces.{is_listed}
-use Rattle.qss_run.specs.HandlerReads.{AreArrived}
-use Rattle.qss_run.specs.DetectorUpdates.{readers_of, touched_of, touched_by, readers_before}
-use Rattle.qss_run.specs.DetectorUpdates.{touched_after, depends_on, settles_after, one_reads}
-use Rattle.qss_events.specs.Schedules.{condition_at}
-use Rattle.qss_events.proofs.Readers.{among_conditions}
+use Rattle.qss_run.specs.DetectorUpdates.{depends_on, settles_after}
 use Rattle.qss_run.proofs.Arrived.{arrived_then}
 
 in_two : (xs ys : List ℕ) (place : ℕ) → is_listed (xs ++ ys) place ≡ (is_listed xs place || is_listed ys place)

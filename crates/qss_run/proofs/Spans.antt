@@ -1,12 +1,8 @@
 -- How many states the ticks of a span affect, one tick after another.
-use Rattle.std.proofs.Common.{◌≡◌, ℕ, ◌+◌, ◌-◌, ◌≤◌, List, [], ◌∷◌, ◌++◌, length, ℤ, ap, arith}
-use Rattle.std.specs.Prelude.{Some, None, Result, Ok, Err}
-use Rattle.qss_machine.specs.EventCounts.{touches_after}
-use Rattle.qss_machine.specs.declared.compiled_machine.Machine.{Machine}
-use Rattle.qss_machine.specs.Runs.{last_snapshot}
-use Rattle.qss_machine.specs.Ticks.{Snapshot}
-use Rattle.qss_events.specs.EventFreeRuns.{AreEventFree, IsVisit}
-use Rattle.qss_run.specs.TouchCounts.{touches_at}
+use Rattle.qss_run.proofs.Common
+use Common.{[], ℕ, ℤ, ◌++◌, ◌+◌, ◌-◌, ◌∷◌, ◌≡◌, ◌≤◌, ap, AreEventFree, arith, Err, IsVisit}
+use Common.{last_snapshot, length, List, Machine, None, Ok, Result, Snapshot, Some, touches_after}
+use Common.{touches_at}
 use Rattle.qss_events.proofs.Goings.{more_last}
 
 -- more ticks affect no fewer states

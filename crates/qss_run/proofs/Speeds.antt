@@ -1,36 +1,17 @@
 -- Detectors that go on at new speeds.
-use Rattle.std.proofs.Common.{◌≡◌, ◌≢◌, ℕ, zero, suc, ◌+◌, ◌-◌, ◌<◌, ◌≤◌, ◌^◌, Bool, true, false}
-use Rattle.std.proofs.Common.{◌&&◌, List, [], ◌∷◌, ◌++◌, length, get_or, set, ℤ, pos, ◌+ℤ◌, ◌*ℤ◌}
-use Rattle.std.proofs.Common.{refl, sym, ◌∙◌, ap, subst, arith, inl, inr, ◌==◌, nat_lt}
-use Rattle.std.proofs.Math.IntN.{zero-*ℤ}
-use Rattle.std.proofs.lemmas.Int.{ints}
-use Rattle.std.proofs.lemmas.Bool.{cases_Bool, cases_lt, cases_eq, lt-ltb}
-use Rattle.std.proofs.lemmas.Bool.Decides.{nat_tests}
-use Rattle.std.proofs.lemmas.List.{length-set, get_or-set_other, get_or-set_same, get_or_past}
-use Rattle.std.proofs.lemmas.List.Elements.{All-nil, All-cons, All-head, All-tail}
-use Rattle.std.proofs.lemmas.List.Folds.{Any-from_list_any, list_any_at}
-use Rattle.std.specs.List.{list_any}
-use Rattle.std.specs.Prelude.{Option, All, flat_map, if◌then◌else◌}
-use Rattle.mu_num.specs.Ticks.{FirstAfter}
-use Rattle.mu_num.proofs.Tests.{eqb-yes}
-use Rattle.qss_machine.specs.declared.machine_parts.Condition.{Condition}
-use Rattle.qss_machine.specs.declared.machine_parts.Entry.{Entry}
-use Rattle.qss_machine.specs.declared.machine_parts.Form.{Form}
-use Rattle.qss_machine.specs.declared.machine_parts.Rel.TheVariants.{Less}
-use Rattle.qss_machine.specs.declared.compiled_machine.Machine.{Machine}
-use Rattle.mu_num.specs.IndexedSums.{int_at, sum_over}
-use Rattle.qss_machine.specs.Machines.{state_count, row_at, speed_of, compares, truth}
-use Rattle.qss_machine.specs.Handlers.{conditions}
-use Rattle.qss_machine.specs.Readers.{row_reads, condition_reads, places_from, reading_rows}
-use Rattle.qss_machine.specs.Readers.{reading_conditions}
-use Rattle.qss_machine.proofs.SumLaws.{weighted_sum-entries}
-use Rattle.qss_cross.specs.Crossing.{DetectorView, value_at, holds_at}
-use Rattle.qss_sched.specs.Ranks.{due_at}
-use Rattle.qss_events.specs.Schedules.{condition_at, IsChange, no_detector, no_row}
-use Rattle.qss_run.specs.ConditionPlaces.{detector_at, IsDetectorAt}
-use Rattle.qss_states.specs.Variables.{reads_moved}
-use Rattle.qss_run.specs.DetectorUpdates.{readers_of}
-use Rattle.qss_run.specs.SpeedUpdates.{AreSlopesBefore, HasSpeed, GoesOn, AreSpeedsUpdated}
+use Rattle.qss_run.proofs.Common
+use Common.{[], ℕ, ℤ, ◌&&◌, ◌*ℤ◌, ◌++◌, ◌+ℤ◌, ◌+◌, ◌-◌, ◌<◌, ◌==◌, ◌^◌, ◌∙◌, ◌∷◌, ◌≡◌, ◌≢◌, ◌≤◌}
+use Common.{All, All-cons, All-nil, Any-from_list_any, ap, AreSlopesBefore, AreSpeedsUpdated, arith}
+use Common.{Bool, cases_Bool, cases_eq, cases_lt, compares, Condition, condition_at}
+use Common.{condition_reads, conditions, detector_at, DetectorView, due_at, Entry, eqb-yes, false}
+use Common.{FirstAfter, flat_map, Form, get_or, get_or-set_other, get_or-set_same, get_or_past}
+use Common.{GoesOn, HasSpeed, holds_at, if◌then◌else◌, inl, inr, int_at, ints, IsChange}
+use Common.{IsDetectorAt, length, length-set, Less, List, list_any, list_any_at, lt-ltb, Machine}
+use Common.{nat_lt, nat_tests, no_detector, no_row, Option, pos, readers_of, reading_conditions}
+use Common.{reading_rows, reads_moved, refl, row_at, row_reads, set, speed_of, state_count, subst}
+use Common.{suc, sum_over, sym, true, truth, value_at, weighted_sum-entries, zero, zero-*ℤ}
+use Rattle.std.proofs.lemmas.List.Elements.{All-head, All-tail}
+use Rattle.qss_machine.specs.Readers.{places_from}
 
 -- ---- places of elements that pass a test
 

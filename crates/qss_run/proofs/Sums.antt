@@ -1,28 +1,17 @@
 -- Counts of rows, and sums of rows at the end of a run.
-use Rattle.std.proofs.Common.{◌≡◌, ℕ, zero, suc, ◌+◌, Bool, true, false, List, [], ◌∷◌, ◌++◌}
-use Rattle.std.proofs.Common.{length, map, fold, ℤ, pos, ◌+ℤ◌, refl, arith}
-use Rattle.std.specs.List.{range_with_len, flat_map}
-use Rattle.std.specs.Ordering.{int_eq}
-use Rattle.std.specs.Prelude.{is_some}
-use Rattle.std.proofs.lemmas.Int.{ints}
+use Rattle.qss_run.proofs.Common
+use Common.{[], ℕ, ℤ, ◌++◌, ◌+ℤ◌, ◌+◌, ◌∷◌, ◌≡◌, Action, arith, assign, assigned_value, Bool}
+use Common.{BranchInfo, ClauseInfo, discrete_rows, end_level, end_sum, exceeds, false, fire_row}
+use Common.{fold, handlers_at, HandlerState, if_cases, int_at, int_eq, ints, is_some, length}
+use Common.{level_count, level_rows, List, Machine, map, pos, range_with_len, refl, Reinit, Row}
+use Common.{run_action, run_clauses, run_first_due, Set, Snapshot, snapshot_rows, state_row}
+use Common.{state_rows, suc, tick_rows, true, zero}
+use Rattle.std.specs.List.{flat_map}
 use Rattle.std.proofs.lemmas.List.Sums.{sum_by-append}
-use Rattle.mu_num.proofs.Tests.{if_cases}
-use Rattle.mu_num.specs.Sizes.{exceeds}
-use Rattle.qss_machine.specs.declared.machine_parts.Action.{Action}
-use Rattle.qss_machine.specs.declared.machine_parts.Action.TheVariants.{Set, Reinit}
-use Rattle.qss_machine.specs.declared.machine_parts.BranchInfo.{BranchInfo}
-use Rattle.qss_machine.specs.declared.machine_parts.ClauseInfo.{ClauseInfo}
-use Rattle.qss_machine.specs.declared.machine_parts.Row.{Row}
-use Rattle.qss_machine.specs.declared.machine_parts.RowKind.TheVariants as kind
-use Rattle.qss_machine.specs.declared.compiled_machine.Machine.{Machine}
-use Rattle.mu_num.specs.IndexedSums.{int_at}
-use Rattle.qss_machine.specs.Handlers.{HandlerState, assigned_value, assign, run_action, fire_row}
-use Rattle.qss_machine.specs.Handlers.{run_first_due, run_clauses}
-use Rattle.qss_machine.specs.Ticks.{Snapshot, handlers_at}
-use Rattle.qss_machine.specs.Runs.{state_rows, discrete_rows, snapshot_rows, level_rows, tick_rows}
-use Rattle.qss_events.proofs.EndRows.{state_row, discrete_row}
+use Rattle.qss_events.proofs.EndRows.{discrete_row}
 use Rattle.qss_events.proofs.LevelRows.{level_row}
-use Rattle.qss_run.specs.RunSummaries.{is_level, level_count, end_level, end_sum}
+use Rattle.qss_run.specs.RunSummaries.{is_level}
+use Rattle.qss_machine.specs.declared.machine_parts.RowKind.TheVariants as kind
 
 pub level_count-append : (xs ys : List Row) → level_count (xs ++ ys) ≡ level_count xs + level_count ys
 level_count-append xs ys = sum_by-append _ xs ys

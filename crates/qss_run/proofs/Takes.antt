@@ -1,24 +1,14 @@
 -- What is to be evaluated at a tick, removed from an event queue: conditions that became true are
 -- scheduled, then due states are removed, and then conditions.
-use Rattle.std.proofs.Common.{◌≡◌, ◌≢◌, ℕ, ◌+◌, ◌-◌, ◌<◌, ◌≤◌, Bool, true, false, List, length, sym}
-use Rattle.std.proofs.Common.{◌∙◌, ap, subst, arith, inl, inr, ◌⊎◌}
-use Rattle.std.proofs.lemmas.Bool.{cases_Bool, cases_lt}
-use Rattle.std.proofs.lemmas.List.{get_or_past}
-use Rattle.std.proofs.Common.{Vec, Global}
-use Rattle.std.specs.Prelude.{Option, Some, None, vec_capacity, if◌then◌else◌}
-use Rattle.qss_machine.specs.declared.compiled_machine.Machine.{Machine}
-use Rattle.qss_machine.specs.Machines.{state_count}
-use Rattle.qss_machine.specs.Handlers.{conditions}
-use Rattle.qss_machine.specs.Ticks.{Snapshot}
-use Rattle.qss_sched.specs.Ranks.{due_at}
-use Rattle.mu_num.specs.ListedPlaces.{is_listed, AreRisingBelow}
-use Rattle.qss_events.specs.Schedules.{became_true}
-use Rattle.qss_run.specs.DueLists.{AreDue, AreChanging, AreConditionsToEvaluate, AreRisenDue}
-use Rattle.qss_run.specs.DueLists.{IsWithout, IsTakenAfter, AreDueRemoved}
-use Rattle.qss_run.specs.declared.run_start.Store.{Store}
-use Rattle.qss_run.specs.Stores.{snapshot_of, IsStoreAt, HasDueRemovedFrom}
+use Rattle.qss_run.proofs.Common
+use Common.{ℕ, ◌+◌, ◌-◌, ◌<◌, ◌∙◌, ◌≡◌, ◌≢◌, ◌≤◌, ◌⊎◌, ap, AreDue, AreRisenDue, AreRisingBelow}
+use Common.{arith, became_true, Bool, cases_Bool, cases_lt, conditions, due_at, false, get_or_past}
+use Common.{Global, HasDueRemovedFrom, if◌then◌else◌, index_of, inl, inr, is_listed, IsStoreAt}
+use Common.{IsWithout, length, List, Machine, None, Option, Snapshot, snapshot_of, Some}
+use Common.{state_count, Store, subst, sym, true, Vec, vec_capacity}
+use Rattle.qss_run.specs.DueLists.{AreChanging, AreConditionsToEvaluate, IsTakenAfter}
+use Rattle.qss_run.specs.DueLists.{AreDueRemoved}
 use Rattle.qss_run.proofs.Visits.{stands_with}
-use Rattle.mu_num.proofs.Writes.{index_of}
 use Rattle.qss_events.proofs.Risen.{none_became}
 
 -- a place past all numbers is not among them

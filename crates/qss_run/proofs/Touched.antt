@@ -1,37 +1,23 @@
 -- Lines go on otherwise only where a tick affects their states.
-use Rattle.std.proofs.Common.{◌≡◌, ◌≢◌, ℕ, ◌+◌, ◌-◌, ◌<◌, ◌≤◌, Bool, true, false, not, ◌&&◌, List}
-use Rattle.std.proofs.Common.{length, get_or, count_by, flat_map, ℤ, zero-add, sym, ◌∙◌, ap, subst}
-use Rattle.std.proofs.Common.{arith, inl, inr, ◌==◌}
-use Rattle.std.proofs.lemmas.Bool.{cases_Bool, false_from_ne_true, lt-ltb, or_from, or_parts}
-use Rattle.std.proofs.lemmas.Bool.{and_from, not_from_true}
+use Rattle.qss_run.proofs.Common
+use Common.{ℕ, ℤ, ◌&&◌, ◌+◌, ◌-◌, ◌<◌, ◌==◌, ◌||◌, ◌∙◌, ◌≡◌, ◌≢◌, ◌≤◌, among_at, Any-from_list_any}
+use Common.{ap, AreRisingBelow, arith, Bool, cases_Bool, count_by, discrete_count, false}
+use Common.{false_from_ne_true, flat_map, get_or, get_or_default, handlers_at, has_changed, if-true}
+use Common.{inl, inr, int_at, int_at-tabulate, int_eq, is_listed, is_reinitialized, length, Line}
+use Common.{line_at, List, list_any, list_any_at, lt-ltb, Machine, nat_lt, not, Ok, or_parts}
+use Common.{range_with_len, reached, reading_rows, replaced_lines_from, row_at, row_reads, slope_at}
+use Common.{Snapshot, state_at, state_count, subst, sym, tabulate, touches_at, true}
+use Rattle.std.proofs.Common.{zero-add}
+use Rattle.std.proofs.lemmas.Bool.{or_from, and_from, not_from_true}
 use Rattle.std.proofs.lemmas.Bool.Decides.{Decides-int_eq}
-use Rattle.std.proofs.lemmas.List.{get_or_default}
-use Rattle.std.proofs.lemmas.List.Folds.{Any-from_list_any, list_any_at}
 use Rattle.std.proofs.lemmas.List.FromFn.{length-range_with_len, get_or-range_with_len}
-use Rattle.std.specs.List.{list_any, range_with_len}
-use Rattle.std.specs.Ordering.{int_eq}
-use Rattle.std.specs.Prelude.{Ok, ◌||◌, nat_lt}
-use Rattle.mu_num.proofs.Tests.{if-true}
-use Rattle.qss_machine.specs.EventCounts.{has_changed, reads_change, is_touched}
-use Rattle.qss_machine.specs.declared.compiled_machine.Machine.{Machine}
-use Rattle.qss_machine.specs.Machines.{state_count, discrete_count, row_at, slope_at}
-use Rattle.mu_num.specs.IndexedSums.{int_at, tabulate}
-use Rattle.qss_machine.specs.Ticks.{Snapshot, handlers_at}
-use Rattle.qss_machine.specs.Readers.{row_reads, reading_rows}
-use Rattle.qss_quant.specs.IntegratorLines.{Line, state_at}
-use Rattle.mu_num.specs.ListedPlaces.{is_listed, AreRisingBelow}
-use Rattle.qss_states.specs.Advancing.{reached}
-use Rattle.qss_run.specs.HandlerResults.{is_reinitialized}
-use Rattle.qss_states.specs.StateLines.{line_at}
-use Rattle.qss_states.specs.LineReplacements.{has_level_and_slope, goes_from, replaced_lines_from}
-use Rattle.qss_run.specs.TouchCounts.{touches_at}
+use Rattle.qss_machine.specs.EventCounts.{reads_change, is_touched}
+use Rattle.qss_states.specs.LineReplacements.{has_level_and_slope, goes_from}
 use Rattle.qss_states.proofs.Counting.{count_less}
 use Rattle.qss_states.proofs.Gathering.{among_reached}
 use Rattle.qss_machine.proofs.Among.{among_readers}
-use Rattle.mu_num.proofs.Tables.{int_at-tabulate}
 use Rattle.qss_states.proofs.Renewed.{goes_so}
 use Rattle.qss_events.proofs.SameSlopes.{level_stays, same_slope}
-use Rattle.mu_num.proofs.Writes.{among_at}
 
 -- a state that a tick does not affect
 record IsUntouched (m : Machine) (t : ℕ) (w next : Snapshot) (j : ℕ) : Type 0 where

@@ -1,33 +1,16 @@
 -- A condition that reads nothing that changed has its value, its speed and its truth.
-use Rattle.std.proofs.Common.{◌≡◌, ℕ, ◌+◌, ◌-◌, ◌<◌, ◌≤◌, Bool, true, false, List, [], ◌∷◌, ◌++◌}
-use Rattle.std.proofs.Common.{length, get_or, map, ℤ, pos, ◌*ℤ◌, refl, sym, ◌∙◌, ap, subst, arith}
-use Rattle.std.proofs.Common.{inl, inr, ◌==◌}
-use Rattle.std.proofs.lemmas.Bool.{or_parts, or_cases, cases_Bool, cases_lt, false_from_ne_true}
-use Rattle.std.proofs.lemmas.Int.{ints}
-use Rattle.std.proofs.lemmas.List.{get_or-map, length-map, get_or_append_left, get_or-append_right}
-use Rattle.std.proofs.lemmas.List.{get_or_past}
-use Rattle.std.proofs.lemmas.List.Folds.{Any-from_list_any, list_any-append, list_any_at}
-use Rattle.std.specs.Prelude.{flat_map}
-use Rattle.mu_num.proofs.Tests.{eqb-yes, eqb-true}
-use Rattle.qss_machine.specs.declared.machine_parts.Entry.{Entry}
-use Rattle.qss_machine.specs.declared.compiled_machine.Machine.{Machine}
-use Rattle.qss_machine.specs.Machines.{state_count, discrete_count, row_at, level_unit, inputs}
-use Rattle.qss_machine.specs.Machines.{value_of, compares, truth}
-use Rattle.mu_num.specs.IndexedSums.{int_at}
-use Rattle.qss_machine.specs.Handlers.{conditions}
-use Rattle.mu_num.specs.ListedPlaces.{flag_at, is_listed}
-use Rattle.qss_machine.specs.Readers.{row_reads, condition_reads, reading_rows, reading_conditions}
-use Rattle.qss_cross.specs.Crossing.{DetectorView}
-use Rattle.qss_sched.specs.Ranks.{due_at}
-use Rattle.qss_run.specs.HandlerResults.{AreDetectorsUpTo}
-use Rattle.qss_run.specs.ConditionPlaces.{detector_at, IsDetectorAt}
-use Rattle.qss_events.specs.Schedules.{condition_at}
-use Rattle.qss_states.specs.Variables.{reads_moved}
-use Rattle.qss_run.specs.SpeedUpdates.{AreSlopesBefore}
-use Rattle.qss_run.specs.DetectorUpdates.{DetectorStates, AreSettled, readers_of, touched_of}
-use Rattle.qss_run.specs.DetectorUpdates.{touched_by, readers_before, touched_after}
+use Rattle.qss_run.proofs.Common
+use Common.{[], ℕ, ℤ, ◌*ℤ◌, ◌++◌, ◌+◌, ◌-◌, ◌<◌, ◌==◌, ◌∙◌, ◌∷◌, ◌≡◌, ◌≤◌, among_conditions}
+use Common.{Any-from_list_any, ap, AreDetectorsUpTo, AreSettled, AreSlopesBefore, arith, Bool}
+use Common.{cases_Bool, cases_lt, compares, condition_at, condition_reads, conditions, detector_at}
+use Common.{DetectorStates, DetectorView, discrete_count, due_at, Entry, eqb-true, eqb-yes, false}
+use Common.{false_from_ne_true, flag_at, flat_map, get_or, get_or-append_right, get_or-map}
+use Common.{get_or_append_left, get_or_past, inl, inputs, inr, int_at, ints, is_listed}
+use Common.{IsDetectorAt, length, length-map, level_unit, List, list_any-append, list_any_at}
+use Common.{Machine, map, or_cases, or_parts, pos, readers_before, readers_of, reading_conditions}
+use Common.{reading_rows, reads_moved, refl, row_at, row_reads, state_count, subst, sym}
+use Common.{touched_after, touched_by, touched_of, true, truth, value_of}
 use Rattle.qss_machine.proofs.Among.{among_rows}
-use Rattle.qss_events.proofs.Readers.{among_conditions}
 use Rattle.qss_run.proofs.Rewatching.{watched_as}
 use Rattle.qss_run.proofs.Speeds.{speeds_same}
 

@@ -1,38 +1,18 @@
 -- A store after one tick.
-use Rattle.std.proofs.Common.{◌≡◌, ◌≢◌, ℕ, ◌+◌, ◌<◌, Bool, true, false, List, [], length, ℤ, pos}
-use Rattle.std.proofs.Common.{◌+ℤ◌, ◌*ℤ◌, refl, sym, ◌∙◌, ap, subst, arith, Vec, Global}
-use Rattle.std.proofs.lemmas.Int.{ints}
-use Rattle.std.proofs.lemmas.List.{get_or-map, get_or_default}
-use Rattle.std.proofs.lemmas.List.FromFn.{length-map-range_with_len}
-use Rattle.qss_run.specs.DueLists.{AreAlikeBut}
-use Rattle.std.specs.Option.{option_or}
-use Rattle.std.specs.Prelude.{Option, Some, None, Ok, All, is_some, position, vec_capacity}
-use Rattle.std.specs.Prelude.{if◌then◌else◌}
-use Rattle.mu_num.specs.Sizes.{IsWithin}
-use Rattle.qss_machine.specs.declared.machine_parts.Condition.{Condition}
-use Rattle.qss_machine.specs.declared.machine_parts.Rel.TheVariants.{Less}
-use Rattle.qss_machine.specs.declared.compiled_machine.Machine.{Machine}
-use Rattle.mu_num.specs.IndexedSums.{int_at, tabulate, first_exceeding}
-use Rattle.qss_machine.specs.Machines.{state_count, level_unit, slope_at, quantum_of, value_of}
-use Rattle.qss_machine.specs.Machines.{speed_of, truth}
-use Rattle.qss_machine.specs.Handlers.{HandlerState, conditions, truths}
-use Rattle.mu_num.specs.ListedPlaces.{flag_at}
-use Rattle.qss_machine.specs.Ticks.{Snapshot, moved_states, handlers_at, exceeds_row_limits}
-use Rattle.qss_machine.specs.Ticks.{AreNextLevels, snapshot_unless, finish_tick, IsStep}
-use Rattle.qss_quant.specs.declared.quantizer.Rule.{Rule}
-use Rattle.qss_quant.specs.IntegratorLines.{Line, state_at, IsLineWithinQuantum, IsAway}
-use Rattle.qss_sched.specs.Ranks.{due_at}
-use Rattle.qss_run.specs.declared.run_start.Store.{Store}
-use Rattle.qss_states.specs.KeptWeights.{AreWeights}
-use Rattle.qss_states.specs.StateLines.{line_at, IsRestartedFrom, states_at}
-use Rattle.qss_run.specs.ConditionPlaces.{detector_at, IsDetectorAt}
-use Rattle.qss_events.specs.Schedules.{slopes_of, condition_at, IsDue, IsChange, rises}
-use Rattle.qss_events.specs.Schedules.{IsScheduleOf}
-use Rattle.qss_run.specs.HandlerResults.{handling_from}
-use Rattle.qss_run.specs.Stores.{snapshot_of, FitsMachine, IsStoreAt}
-use Rattle.qss_events.proofs.Quiet.{moved_is}
-use Rattle.mu_num.proofs.Tables.{int_at-tabulate, tabulate-same, tabulate-int_at}
-use Rattle.qss_events.proofs.Silence.{from_later, line_state_at}
+use Rattle.qss_run.proofs.Common
+use Common.{[], ℕ, ℤ, ◌*ℤ◌, ◌+ℤ◌, ◌+◌, ◌<◌, ◌∙◌, ◌≡◌, ◌≢◌, All, ap, AreAlikeBut, AreNextLevels}
+use Common.{AreWeights, arith, Bool, Condition, condition_at, conditions, detector_at, due_at}
+use Common.{exceeds_row_limits, false, finish_tick, first_exceeding, FitsMachine, flag_at}
+use Common.{from_later, get_or-map, get_or_default, Global, handlers_at, HandlerState}
+use Common.{handling_from, if◌then◌else◌, int_at, int_at-tabulate, ints, is_some, IsChange}
+use Common.{IsDetectorAt, IsDue, IsLineWithinQuantum, IsRestartedFrom, IsScheduleOf, IsStep}
+use Common.{IsStoreAt, IsWithin, length, length-map-range_with_len, Less, level_unit, Line, line_at}
+use Common.{line_state_at, List, Machine, moved_is, moved_states, None, Ok, Option, option_or, pos}
+use Common.{position, quantum_of, refl, rises, Rule, slope_at, slopes_of, Snapshot, snapshot_of}
+use Common.{snapshot_unless, Some, speed_of, state_at, state_count, states_at, Store, subst, sym}
+use Common.{tabulate, tabulate-same, true, truth, truths, value_of, Vec, vec_capacity}
+use Rattle.qss_quant.specs.IntegratorLines.{IsAway}
+use Rattle.mu_num.proofs.Tables.{tabulate-int_at}
 
 -- ---- on arrival
 

@@ -1,15 +1,8 @@
 -- The detector of a condition at a value and a speed.
-use Rattle.std.proofs.Common.{◌≡◌, ◌≢◌, ℕ, ◌-◌, List, ℤ, pos, ◌+ℤ◌, ◌*ℤ◌, ◌∙◌, ap, subst, arith}
-use Rattle.std.proofs.Math.IntN.{zero-*ℤ}
-use Rattle.std.proofs.lemmas.Int.{ints}
-use Rattle.std.specs.Prelude.{Option}
-use Rattle.mu_num.specs.Ticks.{FirstAfter}
-use Rattle.qss_machine.specs.declared.machine_parts.Condition.{Condition}
-use Rattle.qss_machine.specs.declared.compiled_machine.Machine.{Machine}
-use Rattle.qss_machine.specs.Machines.{value_of, speed_of, compares, truth}
-use Rattle.qss_cross.specs.Crossing.{DetectorView, value_at, holds_at}
-use Rattle.qss_events.specs.Schedules.{condition_at}
-use Rattle.qss_run.specs.ConditionPlaces.{IsDetectorAt}
+use Rattle.qss_run.proofs.Common
+use Common.{ℕ, ℤ, ◌*ℤ◌, ◌+ℤ◌, ◌-◌, ◌∙◌, ◌≡◌, ◌≢◌, ap, arith, compares, Condition, condition_at}
+use Common.{DetectorView, FirstAfter, holds_at, ints, IsDetectorAt, List, Machine, Option, pos}
+use Common.{speed_of, subst, truth, value_at, value_of, zero-*ℤ}
 
 -- a detector of a condition, and the first tick at which it changes
 pub watch_is : (m : Machine) (tick : ℕ) (x d slopes : List ℤ) (place : ℕ) (condition : Condition) (detector : DetectorView) (found : Option ℕ) →

@@ -1,12 +1,12 @@
 -- The first of the near and far due ticks, also after a change of one of them.
-use Rattle.std.proofs.Common.{Bool, true, false, ◌≡◌, ℕ, zero, suc, ◌<◌, ◌≤◌, inl, inr, ◌⊎◌, List, [], ◌∷◌, Option, Some, None, length, refl, sym, ◌∙◌, ap, subst, arith}
-use Rattle.std.proofs.lemmas.Bool.{both_ways, cases_eq, cases_lt}
-use Rattle.std.proofs.lemmas.List.{get_or-set_same, get_or-set_other, set-get_or}
-use Rattle.std.proofs.Math.ListN.{length-set}
-use Rattle.std.specs.Option.{unwrap_or}
-use Rattle.std.specs.Prelude.{is_some, if◌then◌else◌, slice_set}
-use Rattle.qss_sched.specs.Ranks.{due_at, IsLeast, IsNextTick, HasNone}
-use Rattle.qss_sched.specs.Agendas.{nearer, joined, IsFirst, IsFirstAt, IsTaken, IsTakenAt, AreDisjointTicks, HasNoneAt, IsBefore}
+use Rattle.qss_sched.proofs.Common
+use Common.{[], ℕ, ◌<◌, ◌∙◌, ◌∷◌, ◌≡◌, ◌≤◌, ◌⊎◌, ap, AreDisjointTicks, arith, Bool, both_ways}
+use Common.{cases_eq, cases_lt, due_at, false, get_or-set_other, get_or-set_same, HasNone}
+use Common.{HasNoneAt, if◌then◌else◌, inl, inr, IsLeast, IsNextTick, joined, length, length-set}
+use Common.{List, nearer, None, Option, refl, set-get_or, slice_set, Some, subst, suc, sym, true}
+use Common.{unwrap_or, zero}
+use Rattle.std.specs.Prelude.{is_some}
+use Rattle.qss_sched.specs.Agendas.{IsFirst, IsFirstAt, IsTaken, IsTakenAt, IsBefore}
 use Rattle.qss_sched.proofs.Least.{has_place}
 
 pub length_joined : (near far : List (Option ℕ)) → length near ≡ length far → length (joined near far) ≡ length near

@@ -1,11 +1,10 @@
 -- A heap of due ticks at its start, and after a due tick of a place has changed.
-use Rattle.std.proofs.Common.{◌≡◌, ◌≢◌, ℕ, ◌+◌, ◌^◌, ◌<◌, inl, inr, ◌⊎◌, List, Option, Some, None, length, ap, sym, ◌∙◌, arith}
-use Rattle.std.proofs.lemmas.Bool.{cases_eq}
-use Rattle.std.proofs.lemmas.List.{get_or-set_same, get_or-set_other}
-use Rattle.std.proofs.Math.ListN.{length-set}
-use Rattle.std.specs.Prelude.{slice_index, slice_set}
-use Rattle.qss_sched.specs.Ranks.{due_at, rank_at, rank_of, place_of, AreTicks, HasNone}
-use Rattle.qss_sched.specs.Heaps.{parent_of, rank_of_place, IsIndexed, IsOrdered, IsDueHeap}
+use Rattle.qss_sched.proofs.Common
+use Common.{ℕ, ◌+◌, ◌<◌, ◌^◌, ◌∙◌, ◌≡◌, ◌≢◌, ◌⊎◌, ap, AreTicks, arith, cases_eq, due_at}
+use Common.{get_or-set_other, get_or-set_same, HasNone, inl, inr, IsDueHeap, IsIndexed, IsOrdered}
+use Common.{length, length-set, List, None, Option, parent_of, place_of, rank_at, rank_of}
+use Common.{slice_index, slice_set, Some, sym}
+use Rattle.qss_sched.specs.Heaps.{rank_of_place}
 
 pub place_of_rank : (tick : Option ℕ) (place : ℕ) → place < 2 ^ 32 → place_of (rank_of tick place) ≡ place
 unfolding place_of

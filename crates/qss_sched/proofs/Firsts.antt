@@ -1,11 +1,12 @@
 -- The first marked slot, and the first place at it.
-use Rattle.std.proofs.Common.{◌≡◌, ◌≢◌, ℕ, ◌+◌, ◌-◌, ◌*◌, ◌/◌, ◌%◌, ◌^◌, ◌<◌, ◌≤◌, inl, inr, ◌⊎◌, List, sym, ◌∙◌, ap, arith, w64}
-use Rattle.std.proofs.lemmas.Bool.{cases_eq, cases_lt}
+use Rattle.qss_sched.proofs.Common
+use Common.{ℕ, ◌%◌, ◌*◌, ◌+◌, ◌-◌, ◌/◌, ◌<◌, ◌^◌, ◌∙◌, ◌≡◌, ◌≢◌, ◌≤◌, ◌⊎◌, ap, AreMarks, arith}
+use Common.{bit_at, bit_at-trailing_zeros, bit_at-zero, cases_eq, cases_lt, HasNoPlace, inl, inr}
+use Common.{IsEarliest, IsFirstPlace, IsGrouped, List, place_bit, slice_index, sym, trailing_zeros}
+use Common.{w64}
 use Rattle.std.proofs.lemmas.Nat.{pow_pos, mod_below, div-add-mod', shr_le}
-use Rattle.std.proofs.lemmas.Nat.Bits.{bit_at-lt, bit_at-zero, bit_at-trailing_zeros, bit_at_above, bit_at_cat_high}
-use Rattle.std.specs.Prelude.{slice_index}
-use Rattle.std.specs.Int.{bit_at, trailing_zeros}
-use Rattle.qss_sched.specs.Wheels.{place_bit, AreMarks, HasNoPlace, IsEarliest, IsGrouped, IsFirstSlot, IsFirstPlace}
+use Rattle.std.proofs.lemmas.Nat.Bits.{bit_at-lt, bit_at_above, bit_at_cat_high}
+use Rattle.qss_sched.specs.Wheels.{IsFirstSlot}
 use Rattle.qss_sched.proofs.Places.{some_word}
 
 -- the bits of a number that is shifted down

@@ -1,11 +1,9 @@
 -- A rank in the hole of a heap is exchanged with another one.
-use Rattle.std.proofs.Common.{◌≡◌, ◌≢◌, ℕ, ◌<◌, ◌≤◌, List, length, refl, sym, ap, subst, ◌∙◌, arith}
-use Rattle.std.proofs.lemmas.Grind.{common_steps}
-use Rattle.std.proofs.lemmas.List.{get_or-set_same, get_or-set_other, set-get_or}
-use Rattle.std.proofs.Math.ListN.{length-set}
-use Rattle.std.specs.Prelude.{slice_index, slice_set}
-use Rattle.qss_sched.specs.Ranks.{place_of}
-use Rattle.qss_sched.specs.Heaps.{parent_of, IsIndexed, AreKept, IsOrderedBut, IsAboveOrdered, IsBelowOrdered, IsFirstBelow}
+use Rattle.qss_sched.proofs.Common
+use Common.{ℕ, ◌<◌, ◌∙◌, ◌≡◌, ◌≢◌, ◌≤◌, ap, arith, common_steps, get_or-set_other, get_or-set_same}
+use Common.{IsAboveOrdered, IsBelowOrdered, IsIndexed, length, length-set, List, parent_of}
+use Common.{place_of, refl, set-get_or, slice_index, slice_set, subst, sym}
+use Rattle.qss_sched.specs.Heaps.{AreKept, IsOrderedBut, IsFirstBelow}
 
 -- what two positions hold has changed places
 pub record IsExchange (old new : List ℕ) (i j : ℕ) : Type 0 where

@@ -1,15 +1,17 @@
 -- Sets of places: those are listed that are marked.
-use Rattle.std.proofs.Common.{◌≡◌, ◌≢◌, ℕ, zero, suc, ◌+◌, ◌<◌, ◌≤◌, Bool, true, false, ◌||◌, List, [], ◌∷◌, ◌++◌, length, get_or, set, replicate, refl, sym, ◌∙◌, ap, inl, inr, ◌⊎◌, arith, eqb}
-use Rattle.std.proofs.lemmas.Bool.{cases_Bool, cases_eq, cases_lt, or_left, or_right}
-use Rattle.std.proofs.lemmas.List.{length-set, length_push, length-replicate, get_or-set_same, get_or-set_other, get_or-replicate, get_or_past}
+use Rattle.qss_sched.proofs.Common
+use Common.{[], ℕ, ◌++◌, ◌+◌, ◌<◌, ◌||◌, ◌∙◌, ◌∷◌, ◌≡◌, ◌≢◌, ◌≤◌, ◌⊎◌, All, among_push, ap, arith}
+use Common.{Bool, cases_Bool, cases_eq, cases_lt, eqb, false, flag_at, get_or, get_or-set_other}
+use Common.{get_or-set_same, get_or_past, if◌then◌else◌, inl, inr, is_listed, IsPlaceSet, IsWritten}
+use Common.{length, length-replicate, length_push, List, PlaceList, refl, replicate}
+use Common.{slice_set as set, suc, sym, true, zero}
+use Rattle.std.proofs.lemmas.Bool.{or_left, or_right}
+use Rattle.std.proofs.lemmas.List.{length-set, get_or-replicate}
 use Rattle.std.proofs.lemmas.List.Elements.{All-from_get_or}
 use Rattle.std.proofs.lemmas.List.Sums.{sum_by-cons}
-use Rattle.std.specs.Prelude.{All, if◌then◌else◌}
 use Rattle.mu_num.proofs.Tests.{eqb-yes, eqb-no}
-use Rattle.mu_num.specs.ListedPlaces.{flag_at, is_listed}
-use Rattle.mu_num.specs.Writes.{IsWritten}
-use Rattle.qss_sched.specs.PlaceSets.{PlaceList, set_count, IsPlaceSet}
-use Rattle.mu_num.proofs.Writes.{among_push, among_at}
+use Rattle.qss_sched.specs.PlaceSets.{set_count}
+use Rattle.mu_num.proofs.Writes.{among_at}
 
 or_false : (b : Bool) → (b || false) ≡ b
 or_false true = refl

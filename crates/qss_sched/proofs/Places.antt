@@ -1,10 +1,11 @@
 -- Places are added to slots and removed from them.
-use Rattle.std.proofs.Common.{◌≡◌, ◌≢◌, ℕ, ◌+◌, ◌*◌, ◌/◌, ◌%◌, ◌^◌, ◌<◌, inl, inr, List, length, bit_and, bit_or, sym, ◌∙◌, ap, arith, w64}
-use Rattle.std.proofs.lemmas.Bool.{cases_eq}
-use Rattle.std.proofs.lemmas.Nat.Bits.{bit_at-zero, bit_at_set_same, bit_at_set_other, bit_at_clear_same, bit_at_clear_other}
-use Rattle.std.specs.Prelude.{slice_index}
-use Rattle.std.specs.Int.{bit_at, bit_not}
-use Rattle.qss_sched.specs.Wheels.{place_bit, AreMarks, AreOthersKept, IsBitPut, IsGrouped, IsSlotted}
+use Rattle.qss_sched.proofs.Common
+use Common.{ℕ, ◌%◌, ◌*◌, ◌+◌, ◌/◌, ◌<◌, ◌^◌, ◌∙◌, ◌≡◌, ◌≢◌, ap, AreMarks, AreOthersKept, arith}
+use Common.{bit_and, bit_at, bit_at-zero, bit_at_clear_other, bit_at_clear_same, bit_at_set_other}
+use Common.{bit_at_set_same, bit_not, cases_eq, inl, inr, IsBitPut, IsGrouped, length, List}
+use Common.{place_bit, slice_index, sym, w64}
+use Rattle.std.proofs.Common.{bit_or}
+use Rattle.qss_sched.specs.Wheels.{IsSlotted}
 
 -- a word with a bit is not zero
 pub some_word : (word bit : ℕ) → bit_at word bit ≡ 1 → word ≢ 0

@@ -1,16 +1,17 @@
 -- The entries that are due at one tick are removed from the event queue one after another.
-use Rattle.std.proofs.Common.{◌≡◌, ◌≢◌, ℕ, ◌+◌, ◌-◌, ◌<◌, ◌≤◌, true, false, eqb, ◌||◌, List, [], ◌∷◌, ◌++◌, length, get_or, set, refl, sym, ◌∙◌, ap, subst, inl, inr, ◌⊎◌, arith}
-use Rattle.std.proofs.lemmas.Bool.{eqb-true, eqb-false, or_parts, or_cases, cases_Bool, cases_lt, cases_eq, both_ways}
-use Rattle.std.proofs.lemmas.List.{length-set, get_or-set_same, get_or-set_other, get_or_append_left, get_or_push, length_push, get_or_past}
+use Rattle.qss_sched.proofs.Common
+use Common.{[], ℕ, ◌++◌, ◌+◌, ◌-◌, ◌<◌, ◌||◌, ◌∙◌, ◌∷◌, ◌≡◌, ◌≢◌, ◌≤◌, ◌⊎◌, among_push, ap}
+use Common.{AreDisjointTicks, ArePartTaken, AreTaken, arith, both_ways, cases_Bool, cases_eq}
+use Common.{cases_lt, due_at, eqb, eqb-false, false, get_or, get_or-set_other, get_or-set_same}
+use Common.{get_or_past, inl, inr, is_listed, IsLeast, joined, length, length_push, List, nearer}
+use Common.{None, Option, refl, slice_set as set, Some, subst, sym, true}
+use Rattle.std.proofs.lemmas.Bool.{eqb-true, or_parts, or_cases}
+use Rattle.std.proofs.lemmas.List.{length-set, get_or_append_left, get_or_push}
 use Rattle.std.proofs.lemmas.List.Elements.{All-push}
 use Rattle.std.specs.List.{All}
 use Rattle.std.specs.List.Sorted.{IsStrictlyIncreasing}
-use Rattle.std.specs.Prelude.{Option, Some, None}
-use Rattle.qss_sched.specs.Ranks.{due_at, IsLeast}
-use Rattle.qss_sched.specs.Agendas.{joined, nearer, AreDisjointTicks, ArePartTaken, AreTaken, IsWithout}
-use Rattle.mu_num.specs.ListedPlaces.{is_listed}
+use Rattle.qss_sched.specs.Agendas.{IsWithout}
 use Rattle.qss_sched.proofs.Agendas.{due_joined, length_joined, either_at, near_at}
-use Rattle.mu_num.proofs.Writes.{among_push}
 
 -- none is taken
 pub none_taken : (first n tick : ℕ) (due : List (Option ℕ)) → ((j : ℕ) → j < first → due_at due j ≡ Some tick → ⊥) → ArePartTaken first n 0 tick due due []

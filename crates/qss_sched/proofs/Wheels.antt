@@ -1,11 +1,10 @@
 -- A due tick is added to a wheel, and the first due tick of a wheel.
-use Rattle.std.proofs.Common.{◌≡◌, ◌≢◌, ℕ, ◌+◌, ◌-◌, ◌%◌, ◌<◌, ◌≤◌, inl, inr, List, Option, Some, None, ◌⊎◌, length, refl, sym, ◌∙◌, ap, arith}
-use Rattle.std.proofs.lemmas.Bool.{cases_eq, cases_lt}
-use Rattle.std.proofs.lemmas.List.{get_or-set_same, get_or-set_other}
-use Rattle.std.specs.Prelude.{slice_set}
-use Rattle.qss_sched.specs.Ranks.{due_at, AreTicks, IsLeast, HasNone}
-use Rattle.qss_sched.specs.Wheels.{place_bit, AreOthersKept, HasNoPlace, HasNoPlaceAt, IsEarliest, IsFirstPlace, IsWheel}
-use Rattle.qss_sched.specs.Agendas.{HasNoneAt}
+use Rattle.qss_sched.proofs.Common
+use Common.{ℕ, ◌%◌, ◌+◌, ◌-◌, ◌<◌, ◌∙◌, ◌≡◌, ◌≢◌, ◌≤◌, ◌⊎◌, ap, AreOthersKept, AreTicks, arith}
+use Common.{cases_eq, cases_lt, due_at, get_or-set_other, get_or-set_same, HasNone, HasNoneAt}
+use Common.{HasNoPlace, inl, inr, IsEarliest, IsFirstPlace, IsLeast, IsWheel, length, List, None}
+use Common.{Option, place_bit, refl, slice_set, Some, sym}
+use Rattle.qss_sched.specs.Wheels.{HasNoPlaceAt}
 use Rattle.qss_sched.proofs.Least.{has_place}
 
 pub came_in : (due new_due : List (Option ℕ)) (places new_places : List ℕ) (base place tick : ℕ) →

@@ -1,14 +1,15 @@
 -- The places of one word of the marks, and what is left of them.
-use Rattle.std.proofs.Common.{◌≡◌, ◌≢◌, ℕ, ◌+◌, ◌*◌, ◌/◌, ◌%◌, ◌^◌, ◌<◌, ◌≤◌, inl, inr, ◌⊎◌, List, Option, Some, None, bit_and, length, sym, ◌∙◌, ap, arith, w64}
-use Rattle.std.proofs.lemmas.Bool.{cases_eq, cases_lt}
-use Rattle.std.proofs.lemmas.List.{length-set, get_or-set_same, get_or-set_other, get_or_past}
+use Rattle.qss_sched.proofs.Common
+use Common.{ℕ, ◌%◌, ◌*◌, ◌+◌, ◌/◌, ◌<◌, ◌^◌, ◌∙◌, ◌≡◌, ◌≢◌, ◌≤◌, ◌⊎◌, ap, AreMarks, AreTicks, arith}
+use Common.{bit_and, bit_at, bit_at-trailing_zeros, bit_at_clear_other, bit_at_clear_same, bit_not}
+use Common.{cases_eq, cases_lt, due_at, get_or-set_other, get_or-set_same, get_or_past, inl, inr}
+use Common.{IsBitPut, IsFirstPlace, IsGrouped, IsWheel, length, List, None, Option, place_bit}
+use Common.{slice_index, slice_set, Some, sym, trailing_zeros, w64}
+use Rattle.std.proofs.lemmas.List.{length-set}
 use Rattle.std.proofs.lemmas.Nat.{and_le_l}
-use Rattle.std.proofs.lemmas.Nat.Bits.{bit_at-trailing_zeros, bit_at_clear_same, bit_at_clear_other}
-use Rattle.std.specs.Prelude.{slice_index, slice_set}
-use Rattle.std.specs.Int.{bit_at, bit_not, trailing_zeros}
-use Rattle.qss_sched.specs.Ranks.{due_at, AreTicks}
-use Rattle.qss_sched.specs.Wheels.{place_bit, AreMarks, IsBitPut, IsFirstGroup, IsFirstPlace, IsGrouped, IsLowest, IsWheel}
-use Rattle.qss_sched.proofs.Places.{kept_grouped, gone_grouped, left_slotted_some, left_slotted_none, others_kept, some_word}
+use Rattle.qss_sched.specs.Wheels.{IsFirstGroup, IsLowest}
+use Rattle.qss_sched.proofs.Places.{kept_grouped, gone_grouped, left_slotted_some}
+use Rattle.qss_sched.proofs.Places.{left_slotted_none, others_kept, some_word}
 use Rattle.qss_sched.proofs.Wheels.{went_out}
 
 pub lowest_bit : (word : ℕ) → 0 < word → word < 2 ^ 64 → IsLowest word (trailing_zeros w64 word)

@@ -1,37 +1,26 @@
 -- A row that allows a bound exceeds no limit up to it.
-use Rattle.std.proofs.Common.{◌≡◌, ℕ, ◌+◌, ◌-◌, ◌*◌, ◌^◌, ◌<◌, ◌≤◌, ◌≤ℤ◌, Bool, true, false, List}
-use Rattle.std.proofs.Common.{[], ◌∷◌, ◌++◌, length, map, get_or, ℤ, pos, ◌+ℤ◌, ◌-ℤ◌, ◌*ℤ◌, refl}
-use Rattle.std.proofs.Common.{sym, ◌∙◌, ap, subst, arith, inl, inr, ◌==◌}
-use Rattle.std.proofs.Math.IntN.{pos-*ℤ-pos, zero-*ℤ, *ℤ_comm}
-use Rattle.std.proofs.lemmas.Bool.{cases_lt}
-use Rattle.std.proofs.lemmas.Bool.Decides.{nat_tests}
-use Rattle.std.proofs.lemmas.Int.{ints, unsigned_abs-mul}
+use Rattle.qss_states.proofs.Common
+use Common.{[], ℕ, ℤ, ◌*ℤ◌, ◌*◌, ◌++◌, ◌+ℤ◌, ◌+◌, ◌-ℤ◌, ◌-◌, ◌<◌, ◌==◌, ◌^◌, ◌||◌, ◌∙◌, ◌∷◌, ◌≡◌}
+use Common.{◌≤ℤ◌, ◌≤◌, abs_of, add-mul, All, AllowsBound, ap, arith, Bool, cases_lt, discrete_count}
+use Common.{Entry, exceeds, excess, false, get_or, half_limit, if◌then◌else◌, inl, inr, int_at}
+use Common.{ints, IsRow, IsSafeBound, IsUpTo, length, length-map, List, Machine, mode_coefficient}
+use Common.{mode_fits, mul-le, nat_tests, not, pos, pos-*ℤ-pos, Product, refl, SlopeRow, Some}
+use Common.{state_count, subst, sum_by, sum_by-cons, sum_over, sym, true, unsigned_abs}
+use Common.{unsigned_abs-mul, zero-*ℤ}
+use Rattle.std.proofs.Common.{map}
+use Rattle.std.proofs.Math.IntN.{*ℤ_comm}
 use Rattle.std.proofs.Math.ListN.{get_or-map}
-use Rattle.std.proofs.lemmas.List.{length-map}
-use Rattle.std.proofs.lemmas.List.Sums.{sum_by-cons}
-use Rattle.std.proofs.lemmas.Nat.{mul-le, div-add-mod', mod_below}
-use Rattle.std.specs.Int.RustNames.{unsigned_abs}
-use Rattle.std.specs.List.{sum_by}
-use Rattle.std.specs.Prelude.{◌||◌, not, All, Some, if◌then◌else◌}
-use Rattle.mu_num.proofs.Integers.{add-mul, mul-sub, mul-nonneg}
+use Rattle.std.proofs.lemmas.Nat.{div-add-mod', mod_below}
+use Rattle.mu_num.proofs.Integers.{mul-sub, mul-nonneg}
 use Rattle.mu_num.proofs.Quotients.{nearest_meets}
 use Rattle.mu_num.specs.Rounding.{nearest_of}
-use Rattle.mu_num.specs.Sizes.{exceeds}
 use Rattle.qss_machine.proofs.ModeTests.{fits_true}
 use Rattle.qss_machine.proofs.Powers.{power_positive}
 use Rattle.qss_machine.proofs.SumLaws.{weighted_sum-entries}
 use Rattle.qss_machine.proofs.WeightLaws.{sizes_sum-entries, weight_parts, slope-within_weight}
-use Rattle.qss_machine.specs.declared.machine_parts.Entry.{Entry}
-use Rattle.qss_machine.specs.declared.machine_parts.Product.{Product}
-use Rattle.qss_machine.specs.declared.machine_parts.SlopeRow.{SlopeRow}
-use Rattle.qss_machine.specs.declared.compiled_machine.Machine.{Machine}
-use Rattle.qss_machine.specs.MachineLimits.{IsRow}
-use Rattle.qss_machine.specs.Machines.{state_count, discrete_count}
-use Rattle.mu_num.specs.IndexedSums.{int_at, abs_of, sum_over, sum_below}
-use Rattle.qss_machine.specs.Slopes.{coefficient_of, products_of, mode_coefficient, mode_fits}
-use Rattle.qss_machine.specs.Slopes.{weight_of}
-use Rattle.qss_states.specs.SafeBounds.{IsUpTo, IsSafe, AllowsBound, half_limit, IsFirstHalf}
-use Rattle.qss_states.specs.SafeBounds.{IsSafeBound, excess}
+use Rattle.mu_num.specs.IndexedSums.{sum_below}
+use Rattle.qss_machine.specs.Slopes.{coefficient_of, products_of, weight_of}
+use Rattle.qss_states.specs.SafeBounds.{IsSafe, IsFirstHalf}
 use Rattle.qss_states.proofs.Terms.{sizes_are, terms_within, up_to_at, up_to_both}
 use Rattle.mu_num.proofs.Sums.{sum_below-le}
 

@@ -1,23 +1,13 @@
 -- A row that reads no assigned discrete variable has the same sums.
-use Rattle.std.proofs.Common.{◌≡◌, ℕ, ◌+◌, ◌<◌, ◌≤◌, true, false, not, List, length, ℤ, pos, refl}
-use Rattle.std.proofs.Common.{◌∙◌, ap, arith, inl, inr}
-use Rattle.std.proofs.lemmas.Bool.{cases_Bool}
-use Rattle.std.proofs.lemmas.List.FromFn.{fill_by_all, length-map-range_with_len}
-use Rattle.std.proofs.lemmas.List.FromFn.{get_or-map-range_with_len}
+use Rattle.qss_states.proofs.Common
+use Common.{ℕ, ℤ, ◌+◌, ◌<◌, ◌||◌, ◌∙◌, ◌≡◌, ◌≤◌, All, ap, AreAssigned, arith, cases_Bool}
+use Common.{discrete_count, exceeds, exceeds_row_limits, false, fill_by_all}
+use Common.{get_or-map-range_with_len, inl, inr, int_at, is_listed, length}
+use Common.{length-map-range_with_len, List, Machine, mode_coefficient, mode_fits, no_row, not, pos}
+use Common.{refl, row_at, row_reads, slope_at, state_count, tabulate, true, unread_at, weight_at}
 use Rattle.std.specs.List.{list_all}
-use Rattle.std.specs.Prelude.{◌||◌, All}
-use Rattle.mu_num.specs.Sizes.{exceeds}
-use Rattle.qss_machine.specs.declared.compiled_machine.Machine.{Machine}
-use Rattle.qss_machine.specs.Machines.{state_count, discrete_count, row_at, slope_at, weight_at}
-use Rattle.mu_num.specs.IndexedSums.{int_at, tabulate}
-use Rattle.qss_machine.specs.Slopes.{mode_coefficient, mode_fits}
-use Rattle.qss_machine.specs.Ticks.{exceeds_row_limits}
-use Rattle.qss_machine.specs.Readers.{row_reads}
-use Rattle.qss_states.specs.Variables.{AreAssigned, reads_moved}
-use Rattle.mu_num.specs.ListedPlaces.{is_listed}
-use Rattle.qss_events.specs.Schedules.{no_row}
+use Rattle.qss_states.specs.Variables.{reads_moved}
 use Rattle.qss_events.proofs.SameSlopes.{mode_same, slope_same, weight_same}
-use Rattle.qss_machine.proofs.Unread.{unread_at}
 
 module _ (m : Machine) (levels pre d : List ℤ) (assigned : List ℕ) (many : length levels ≡ state_count m) (many_pre : length pre ≡ discrete_count m) (many_d : length d ≡ discrete_count m)
     (are : AreAssigned m assigned pre d) (j : ℕ) (known : j < state_count m) (unread : reads_moved m assigned j ≡ false) where

@@ -1,11 +1,9 @@
 -- How many numbers below n pass a test.
-use Rattle.std.proofs.Common.{◌≡◌, ◌≢◌, ℕ, zero, suc, ◌+◌, ◌<◌, ◌≤◌, Bool, true, false, [], ◌∷◌}
-use Rattle.std.proofs.Common.{cond, count_by, refl, sym, ◌∙◌, ap, arith, add-one, inl, inr}
-use Rattle.std.proofs.lemmas.Bool.{cases_eq}
-use Rattle.std.proofs.lemmas.List.Sums.{sum_by-append, sum_by-cons}
-use Rattle.std.specs.List.{range_with_len}
-use Rattle.std.specs.Prelude.{if◌then◌else◌}
-use Rattle.mu_num.proofs.Tests.{if-false}
+use Rattle.qss_states.proofs.Common
+use Common.{[], ℕ, ◌+◌, ◌<◌, ◌∙◌, ◌∷◌, ◌≡◌, ◌≢◌, ◌≤◌, ap, arith, Bool, cases_eq, count_by, false}
+use Common.{if-false, if◌then◌else◌, inl, inr, range_with_len, refl, sum_by-cons, sym, true}
+use Rattle.std.proofs.Common.{zero, suc, cond, add-one}
+use Rattle.std.proofs.lemmas.List.Sums.{sum_by-append}
 use Rattle.qss_events.proofs.LevelRows.{range_more}
 
 -- one for a test that passes

@@ -1,25 +1,14 @@
 -- States of which some go on at new slopes, step by step.
-use Rattle.std.proofs.Common.{◌≡◌, ℕ, ◌+◌, ◌<◌, true, false, eqb, List, [], ◌∷◌, ◌++◌, length}
-use Rattle.std.proofs.Common.{get_or, set, take, ℤ, refl, sym, ◌∙◌, ap, subst, arith, inl, inr}
-use Rattle.std.proofs.Common.{◌==◌}
-use Rattle.std.proofs.lemmas.Bool.{or_cases, or_parts, cases_eq, eqb-false}
-use Rattle.std.proofs.lemmas.List.{length-set, get_or-set_other, get_or-set_same}
-use Rattle.std.proofs.lemmas.List.Folds.{list_any-append}
-use Rattle.std.specs.Prelude.{Option, None}
+use Rattle.qss_states.proofs.Common
+use Common.{[], ℕ, ℤ, ◌++◌, ◌+◌, ◌<◌, ◌==◌, ◌∙◌, ◌∷◌, ◌≡◌, among_more, ap, AreScheduled, arith}
+use Common.{cases_eq, due_at, eqb, eqb-false, false, get_or, get_or-set_other, get_or-set_same}
+use Common.{has_level_and_slope, HaveSlopesUpdated, inl, inr, int_at, is_listed}
+use Common.{IsLineWithinQuantum, IsOneScheduled, IsRestartedFrom, IsWithin, length, length-set}
+use Common.{level_unit, Line, line_at, List, list_any-append, Machine, MayUpdateSlope, no_line}
+use Common.{None, Option, or_cases, or_parts, quantum_of, refl, Schedules, set, state_at}
+use Common.{state_count, subst, sym, take, true}
 use Rattle.mu_num.proofs.Tests.{eqb-true}
-use Rattle.mu_num.specs.Sizes.{IsWithin}
-use Rattle.qss_machine.specs.declared.compiled_machine.Machine.{Machine}
-use Rattle.qss_machine.specs.Machines.{state_count, level_unit, quantum_of}
-use Rattle.mu_num.specs.IndexedSums.{int_at}
-use Rattle.qss_quant.specs.IntegratorLines.{Line, state_at, IsLineWithinQuantum}
-use Rattle.qss_sched.specs.Ranks.{due_at}
-use Rattle.mu_num.specs.ListedPlaces.{is_listed}
-use Rattle.qss_events.specs.Schedules.{no_line}
-use Rattle.mu_num.proofs.Writes.{among_more}
-use Rattle.qss_states.specs.StateLines.{line_at, IsRestartedFrom}
-use Rattle.qss_states.specs.LineReplacements.{has_level_and_slope}
-use Rattle.qss_states.specs.SlopeUpdates.{MayUpdateSlope, StaysOrRestarts, Schedules}
-use Rattle.qss_states.specs.SlopeUpdates.{IsOneScheduled, AreScheduled, HaveSlopesUpdated}
+use Rattle.qss_states.specs.SlopeUpdates.{StaysOrRestarts}
 
 -- ---- one state
 

@@ -1,34 +1,21 @@
 -- Where only moved states arrive and take new levels, all states have the levels of a tick.
-use Rattle.std.proofs.Common.{◌≡◌, ℕ, ◌<◌, true, false, List, [], ◌∷◌, ◌++◌, length, ℤ, pos, refl}
-use Rattle.std.proofs.Common.{sym, ap, ◌∙◌, subst, inl, inr, ◌⊎◌, arith}
-use Rattle.std.proofs.lemmas.Bool.{cases_Bool}
-use Rattle.std.proofs.lemmas.Bool.Decides.{Decides-int_eq}
-use Rattle.std.proofs.lemmas.List.{get_or_default}
-use Rattle.std.proofs.lemmas.List.FromFn.{length-map-range_with_len}
+use Rattle.qss_states.proofs.Common
+use Common.{[], ℕ, ℤ, ◌++◌, ◌<◌, ◌∙◌, ◌∷◌, ◌≡◌, ◌⊎◌, All, all_within, ap, AreMovedTo}
+use Common.{AreRisingBelow, arith, cases_Bool, Decides-int_eq, DiffersOnlyAt, exceeds, false}
+use Common.{first_exceeding, get_or_default, if◌then◌else◌, index_of, inl, inr, int_at}
+use Common.{int_at-tabulate, int_eq, is_listed, IsFirstOf, IsNextLevel, IsWithin, IsWritten, length}
+use Common.{length-map-range_with_len, level_rows, Line, line_at, List, Machine, None, Option, pos}
+use Common.{refl, row_of, state_at, state_count, states_at, subst, sym, true}
 use Rattle.std.specs.List.{flat_map}
-use Rattle.std.specs.Ordering.{int_eq}
-use Rattle.std.specs.Prelude.{Option, None, All, if◌then◌else◌}
-use Rattle.mu_num.specs.Sizes.{IsWithin, exceeds}
 use Rattle.mu_num.proofs.SizeTests.{within-passes}
-use Rattle.qss_machine.specs.declared.machine_parts.RowKind.TheVariants as kind
-use Rattle.qss_machine.specs.declared.compiled_machine.Machine.{Machine}
-use Rattle.mu_num.specs.IndexedSums.{int_at, first_exceeding}
-use Rattle.qss_machine.specs.Machines.{state_count}
-use Rattle.qss_machine.specs.Ticks.{is_within_quantum, IsNextLevel, AreNextLevels}
-use Rattle.qss_machine.specs.Runs.{level_rows}
-use Rattle.qss_quant.specs.IntegratorLines.{Line, state_at}
-use Rattle.qss_states.specs.EventContexts.{AreMovedTo}
-use Rattle.mu_num.specs.ListedPlaces.{is_listed, AreRisingBelow, DiffersOnlyAt}
-use Rattle.qss_states.specs.StateLines.{line_at, states_at, AreLinesUpTo, AreLinesAt, MayMove}
-use Rattle.qss_states.specs.StateLines.{MayArrive}
-use Rattle.mu_num.specs.Writes.{IsFirstOf, IsWritten}
-use Rattle.qss_events.proofs.LevelRows.{row_of, level_row}
-use Rattle.mu_num.proofs.Tables.{int_at-tabulate}
+use Rattle.qss_machine.specs.Ticks.{is_within_quantum, AreNextLevels}
+use Rattle.qss_states.specs.StateLines.{AreLinesUpTo, AreLinesAt, MayMove, MayArrive}
+use Rattle.qss_events.proofs.LevelRows.{level_row}
 use Rattle.qss_events.proofs.DueFirsts.{first_of_all}
 use Rattle.mu_num.proofs.RisingNumbers.{rows_among}
-use Rattle.mu_num.proofs.Writes.{index_of, among_head, among_rest}
+use Rattle.mu_num.proofs.Writes.{among_head, among_rest}
 use Rattle.qss_events.proofs.Forced.{near_holds}
-use Rattle.qss_events.proofs.Overs.{all_within}
+use Rattle.qss_machine.specs.declared.machine_parts.RowKind.TheVariants as kind
 
 -- the states at a tick by number
 pub length-states_at : (lines : List Line) (tick : ℕ) → length (states_at lines tick) ≡ length lines

@@ -1,7 +1,6 @@
 -- The first of some overflows.
-use Rattle.std.proofs.Common.{◌≡◌, ℕ, true, sym, ◌∙◌, ap}
-use Rattle.std.specs.Option.{option_or}
-use Rattle.std.specs.Prelude.{Option, Some, None, is_some}
+use Rattle.qss_states.proofs.Common
+use Common.{ℕ, ◌∙◌, ◌≡◌, ap, is_some, None, Option, option_or, Some, sym, true}
 
 -- the first of two overflows
 pub over_first : (o a b : Option ℕ) → is_some o ≡ true → o ≡ a → o ≡ option_or a b

@@ -1,11 +1,8 @@
 -- The first of some numbers that passes a test, while they are gone through.
-use Rattle.std.proofs.Common.{◌≡◌, ℕ, ◌+◌, ◌<◌, ◌≤◌, Bool, true, false, List, length, get_or}
-use Rattle.std.proofs.Common.{below_more}
-use Rattle.std.specs.List.Sorted.{IsStrictlyIncreasing}
-use Rattle.std.specs.Option.{option_or}
-use Rattle.std.specs.Prelude.{Option, Some, None, if◌then◌else◌}
-use Rattle.mu_num.specs.Writes.{IsFirstOf}
-use Rattle.qss_events.proofs.DueFirsts.{first_of, none_of}
+use Rattle.qss_states.proofs.Common
+use Common.{ℕ, ◌+◌, ◌<◌, ◌≡◌, ◌≤◌, below_more, Bool, false, first_of, get_or, if◌then◌else◌}
+use Common.{IsFirstOf, IsStrictlyIncreasing, length, List, None, none_of, Option, option_or, Some}
+use Common.{true}
 
 -- none of the first i numbers passed, or the one that was found is the first of all
 abbrev pub IsFoundIn : (ℕ → Bool) → List ℕ → ℕ → Option ℕ → Type 0

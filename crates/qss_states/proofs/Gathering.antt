@@ -1,36 +1,21 @@
 -- States that are listed one after another.
-use Rattle.std.proofs.Common.{◌≡◌, ◌≢◌, ℕ, ◌+◌, ◌<◌, ◌≤◌, Bool, true, false, not, ◌&&◌, ◌||◌, eqb}
-use Rattle.std.proofs.Common.{List, [], ◌∷◌, ◌++◌, length, set, ℤ, count_by, flat_map, refl, sym}
-use Rattle.std.proofs.Common.{◌∙◌, ap, subst, arith, inl, inr}
-use Rattle.std.proofs.lemmas.Bool.{cases_Bool, cases_eq, eqb-true, eq-eqb, ne_eqb, or_cases}
-use Rattle.std.proofs.lemmas.Bool.{or_parts, or_from, or_left, or_right}
-use Rattle.std.proofs.lemmas.List.{length-set, get_or-set_same, get_or-set_other, length-append}
+use Rattle.qss_states.proofs.Common
+use Common.{[], ℕ, ℤ, ◌&&◌, ◌++◌, ◌+◌, ◌<◌, ◌||◌, ◌∙◌, ◌∷◌, ◌≡◌, ◌≢◌, ◌≤◌, Advancing, All}
+use Common.{among_readers, ap, AreScheduled, AreSumsBefore, arith, behind, Bool, cases_Bool}
+use Common.{cases_eq, count_by, due_at, eq-eqb, eqb, eqb-true, false, flat_map, get_or-set_other}
+use Common.{get_or-set_same, HaveAdvanced, index_of, inl, inr, int_at, int_at-tabulate, is_listed}
+use Common.{IsAlong, IsDue, IsLineWithinQuantum, IsRestartedFrom, IsWithin, length, length-set}
+use Common.{level_unit, Line, line_at, line_here, List, list_any-append, Machine, no_line, not}
+use Common.{Option, or_cases, or_left, or_parts, or_right, quantum_of, range_with_len, reached}
+use Common.{reading_rows, refl, row_at, Schedules, set, Slope, slope_at, state_at, state_count}
+use Common.{subst, sym, tabulate, true, unread_at, unread_slope}
+use Rattle.std.proofs.lemmas.Bool.{ne_eqb, or_from}
+use Rattle.std.proofs.lemmas.List.{length-append}
 use Rattle.std.proofs.lemmas.List.Elements.{All-push}
-use Rattle.std.proofs.lemmas.List.Folds.{list_any-append}
-use Rattle.std.specs.List.{range_with_len}
-use Rattle.std.specs.Prelude.{Option, All}
-use Rattle.mu_num.specs.Sizes.{IsWithin}
-use Rattle.qss_machine.specs.declared.compiled_machine.Machine.{Machine}
-use Rattle.qss_machine.specs.Machines.{state_count, level_unit, row_at, slope_at, quantum_of}
-use Rattle.mu_num.specs.IndexedSums.{int_at, tabulate}
-use Rattle.qss_machine.specs.Readers.{reading_rows}
-use Rattle.qss_quant.specs.IntegratorLines.{Line, state_at, IsLineWithinQuantum}
-use Rattle.qss_sched.specs.Ranks.{due_at}
-use Rattle.mu_num.specs.ListedPlaces.{is_listed}
-use Rattle.qss_events.specs.Schedules.{IsDue, no_line}
-use Rattle.qss_machine.proofs.Among.{among_readers}
 use Rattle.qss_machine.proofs.KeptReaders.{rows_known}
-use Rattle.mu_num.proofs.Tables.{int_at-tabulate}
-use Rattle.qss_machine.proofs.Unread.{unread_at, unread_slope}
-use Rattle.mu_num.proofs.Writes.{among_push, index_of}
-use Rattle.qss_states.specs.declared.row_sum_changes.RowSum.TheVariants.{Slope}
-use Rattle.qss_states.specs.Advancing.{Advancing, IsAlong, is_behind, behind, CanAdvance}
-use Rattle.qss_states.specs.Advancing.{AreAdvanced, HaveAdvanced, reached}
-use Rattle.qss_states.specs.StateLines.{line_at, IsRestartedFrom}
-use Rattle.qss_states.specs.RowSums.{AreSumsBefore}
-use Rattle.qss_states.specs.SlopeUpdates.{Schedules, AreScheduled}
+use Rattle.mu_num.proofs.Writes.{among_push}
+use Rattle.qss_states.specs.Advancing.{is_behind, CanAdvance, AreAdvanced}
 use Rattle.qss_states.proofs.Counting.{one_if, count_few, count_less, count_one}
-use Rattle.qss_events.proofs.Lines.{line_here}
 
 -- ---- one line
 

@@ -1,26 +1,15 @@
 -- A state's line at a new slope.
-use Rattle.std.proofs.Common.{◌≡◌, ◌≢◌, ℕ, ◌+◌, ◌<◌, Bool, true, length, get_or, set, List, ℤ, pos}
-use Rattle.std.proofs.Common.{sym, ◌∙◌, ap, subst, arith, below_more}
-use Rattle.std.proofs.lemmas.Int.{ints, to_z-of_z}
-use Rattle.std.proofs.lemmas.List.{get_or-set_other, get_or-set_same, get_or_default}
-use Rattle.std.proofs.lemmas.List.FromFn.{length-map-range_with_len, get_or-map-range_with_len}
+use Rattle.qss_states.proofs.Common
+use Common.{ℕ, ℤ, ◌+◌, ◌<◌, ◌∙◌, ◌≡◌, ◌≢◌, All, ap, arith, below_more, Bool, due_at}
+use Common.{exceeds_row_limits, FitsSigned, get_or, get_or-map-range_with_len, get_or-set_other}
+use Common.{get_or-set_same, get_or_default, int_at, ints, IsLineWithinQuantum, IsRestartedFrom}
+use Common.{IsWithin, length, length-map-range_with_len, level_unit, Line, line_at, List, Machine}
+use Common.{no_line, None, of_z, Option, pos, quantum_of, row_is_light, set, slope_at, state_at}
+use Common.{state_count, subst, sym, tabulate, to_z, to_z-of_z, true, w128, w64}
 use Rattle.std.specs.Bool.{IsTrue}
-use Rattle.std.specs.Int.RustNames.{FitsSigned}
-use Rattle.std.specs.Prelude.{Option, None, position, All}
-use Rattle.mu_num.specs.Sizes.{IsWithin}
-use Rattle.qss_machine.specs.declared.compiled_machine.Machine.{Machine}
-use Rattle.mu_num.specs.IndexedSums.{int_at, tabulate}
-use Rattle.qss_machine.specs.Machines.{state_count, level_unit, quantum_of, slope_at}
-use Rattle.qss_machine.specs.Ticks.{exceeds_row_limits}
-use Rattle.qss_quant.specs.IntegratorLines.{Line, state_at, IsLineWithinQuantum}
-use Rattle.qss_sched.specs.Ranks.{due_at}
-use Rattle.qss_states.specs.StateLines.{line_at, IsRestartedFrom}
+use Rattle.std.specs.Prelude.{position}
 use Rattle.qss_states.specs.EventContexts.{AreStatesOf, CanSchedule, CanScheduleOne}
 use Rattle.qss_states.specs.declared.event_contexts.NewSlopes.{NewSlopes}
-use Rattle.qss_events.specs.Schedules.{no_line}
-use Rattle.qss_events.proofs.LightRows.{row_is_light}
-use mir.Syntax.{w64, w128}
-use mir.Val.{to_z, of_z}
 
 pub is_true : (b : Bool) → b ≡ true → IsTrue b
 is_true b e = search (e)

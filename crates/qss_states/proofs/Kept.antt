@@ -1,24 +1,13 @@
 -- Levels and discrete values that stay within the bound of absolute row sums that are not
 -- maintained.
-use Rattle.std.proofs.Common.{◌≡◌, ℕ, ◌+◌, ◌-◌, ◌<◌, true, false, List, length, get_or, ℤ, pos, sym}
-use Rattle.std.proofs.Common.{◌∙◌, subst, arith, inl, inr}
-use Rattle.std.proofs.lemmas.Bool.{cases_Bool}
-use Rattle.std.proofs.lemmas.List.{get_or_default, with_items_is}
-use Rattle.std.specs.List.{position}
-use Rattle.std.specs.Prelude.{None, All}
+use Rattle.qss_states.proofs.Common
+use Common.{ℕ, ℤ, ◌+◌, ◌-◌, ◌<◌, ◌∙◌, ◌≡◌, All, AreAssigned, AreSmall, AreUpToAt, AreWeights, arith}
+use Common.{cases_Bool, DiffersOnlyAt, discrete_count, exceeds_row_limits, false, get_or}
+use Common.{get_or_default, index_of, inl, inr, int_at, is_listed, IsUpTo, length, List, Machine}
+use Common.{no_row, None, pos, position, position-none, state_count, subst, sym, true, Weights}
+use Common.{weights_at}
+use Rattle.std.proofs.lemmas.List.{with_items_is}
 use Rattle.std.specs.Vec.{with_items}
-use Rattle.qss_machine.specs.declared.compiled_machine.Machine.{Machine}
-use Rattle.qss_machine.specs.Machines.{state_count, discrete_count}
-use Rattle.mu_num.specs.IndexedSums.{int_at}
-use Rattle.qss_machine.specs.Ticks.{exceeds_row_limits}
-use Rattle.mu_num.specs.ListedPlaces.{is_listed, DiffersOnlyAt}
-use Rattle.qss_events.specs.Schedules.{weights_at, no_row}
-use Rattle.qss_states.specs.declared.kept_weights.Weights.{Weights}
-use Rattle.qss_states.specs.Variables.{AreAssigned}
-use Rattle.qss_states.specs.KeptWeights.{AreWeights}
-use Rattle.qss_states.specs.SafeBounds.{IsUpTo, AreUpToAt, AreSmall}
-use Rattle.qss_events.proofs.Ranges.{position-none}
-use Rattle.mu_num.proofs.Writes.{index_of}
 use Rattle.mu_num.proofs.InPlace.{same_length}
 
 -- levels of which those of the moved states are new

@@ -1,20 +1,11 @@
 -- The least row that exceeds its limits is among those that were examined.
-use Rattle.std.proofs.Common.{◌≡◌, ℕ, ◌<◌, true, false, List, [], length, ℤ, refl, sym, ◌∙◌, ap}
-use Rattle.std.proofs.Common.{arith, inl, inr}
-use Rattle.std.proofs.lemmas.Bool.{cases_Bool}
-use Rattle.std.specs.List.{position}
-use Rattle.std.specs.Prelude.{◌||◌, not, Option, Some, None}
-use Rattle.mu_num.specs.Sizes.{exceeds}
-use Rattle.qss_machine.specs.declared.compiled_machine.Machine.{Machine}
-use Rattle.qss_machine.specs.Machines.{state_count, row_at, weight_at}
-use Rattle.mu_num.specs.IndexedSums.{int_at}
-use Rattle.qss_machine.specs.Slopes.{mode_fits}
-use Rattle.qss_machine.specs.Ticks.{exceeds_row_limits}
-use Rattle.mu_num.specs.ListedPlaces.{is_listed}
-use Rattle.qss_events.specs.Schedules.{no_row}
-use Rattle.qss_states.specs.RowLimits.{comes_before, IsLeastPast}
-use Rattle.qss_events.proofs.Firsts.{first_is, less_yes}
-use Rattle.qss_events.proofs.Ranges.{position-none}
+use Rattle.qss_states.proofs.Common
+use Common.{[], ℕ, ℤ, ◌<◌, ◌||◌, ◌∙◌, ◌≡◌, ap, arith, cases_Bool, exceeds, exceeds_row_limits}
+use Common.{false, first_is, inl, inr, int_at, is_listed, IsLeastPast, length, List, Machine}
+use Common.{mode_fits, no_row, None, not, Option, position, position-none, refl, row_at, Some}
+use Common.{state_count, sym, true, weight_at}
+use Rattle.qss_states.specs.RowLimits.{comes_before}
+use Rattle.qss_events.proofs.Firsts.{less_yes}
 
 -- nothing was looked at
 pub least_none : (weights : List ℤ) → IsLeastPast weights [] None

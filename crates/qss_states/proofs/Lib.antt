@@ -1,3 +1,4 @@
+mod Common
 mod FirstOvers
 pub mod GoingOn
 pub mod DueLevels

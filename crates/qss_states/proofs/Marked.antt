@@ -1,14 +1,11 @@
 -- Sums that are marked and then computed, each once.
-use Rattle.std.proofs.Common.{◌≡◌, ℕ, ◌+◌, ◌<◌, eqb, true, List, [], ◌∷◌, length, get_or, take}
-use Rattle.std.proofs.Common.{flat_map, append-nil, ℤ, pos, sym, ◌∙◌, subst, inl, inr, arith}
-use Rattle.std.proofs.lemmas.Bool.{eqb-true, or_parts, or_cases, cases_Bool}
+use Rattle.qss_states.proofs.Common
+use Common.{[], ℕ, ℤ, ◌+◌, ◌<◌, ◌∙◌, ◌∷◌, ◌≡◌, among_more, append-nil, AreMarked, arith, cases_Bool}
+use Common.{eqb, eqb-true, flat_map, get_or, inl, inr, int_at, is_listed, IsWritten, length, List}
+use Common.{or_cases, or_parts, pos, subst, sym, take, true}
 use Rattle.std.proofs.lemmas.List.Folds.{list_any_at}
-use Rattle.mu_num.specs.IndexedSums.{int_at}
-use Rattle.mu_num.specs.ListedPlaces.{is_listed}
-use Rattle.mu_num.specs.Writes.{IsWritten}
-use Rattle.mu_num.proofs.Writes.{among_more}
 use Rattle.qss_machine.proofs.Among.{among_all}
-use Rattle.qss_states.specs.SumMarks.{AreMarked, AreMarkedOr}
+use Rattle.qss_states.specs.SumMarks.{AreMarkedOr}
 
 -- a row that one of these variables lists is in the list of all of them
 pub among_one : (f : ℕ → List ℕ) (xs : List ℕ) (i row : ℕ) → i < length xs →

@@ -1,16 +1,10 @@
 -- How often lines go on otherwise.
-use Rattle.std.proofs.Common.{◌≡◌, ◌≢◌, ℕ, ◌+◌, ◌<◌, ◌≤◌, Bool, true, false, not, ◌&&◌, List, ℤ}
-use Rattle.std.proofs.Common.{count_by, refl, sym, ◌∙◌, ap, subst, arith, inl, inr}
-use Rattle.std.proofs.lemmas.Bool.{and_from, and_parts, cases_Bool, not_from_true}
-use Rattle.std.proofs.lemmas.Bool.Decides.{Decides-int_eq}
-use Rattle.std.specs.List.{range_with_len}
-use Rattle.std.specs.Ordering.{int_eq}
-use Rattle.mu_num.specs.IndexedSums.{int_at}
-use Rattle.qss_quant.specs.IntegratorLines.{Line, state_at}
-use Rattle.qss_events.proofs.Lines.{line_here}
-use Rattle.qss_states.specs.Advancing.{IsAlong}
-use Rattle.qss_states.specs.StateLines.{line_at}
-use Rattle.qss_states.specs.LineReplacements.{has_level_and_slope, goes_from, replaced_lines}
+use Rattle.qss_states.proofs.Common
+use Common.{ℕ, ℤ, ◌&&◌, ◌+◌, ◌<◌, ◌∙◌, ◌≡◌, ◌≢◌, ◌≤◌, and_parts, ap, arith, Bool, cases_Bool}
+use Common.{count_by, Decides-int_eq, false, goes_from, has_level_and_slope, inl, inr, int_at}
+use Common.{int_eq, IsAlong, Line, line_at, line_here, List, not, range_with_len, refl}
+use Common.{replaced_lines, state_at, subst, sym, true}
+use Rattle.std.proofs.lemmas.Bool.{and_from, not_from_true}
 use Rattle.qss_states.proofs.Counting.{one_if, count_none, count_one}
 
 -- a line at this level and slope goes on so

@@ -1,37 +1,20 @@
 -- States after handlers: the moved ones go on from where they are, and those whose rows read a change at new slopes.
-use Rattle.std.proofs.Common.{◌≡◌, ℕ, ◌<◌, ◌≤◌, true, false, not, List, ◌++◌, length, flat_map, ℤ}
-use Rattle.std.proofs.Common.{pos, sym, ◌∙◌, ap, subst, arith, inl, inr, ◌==◌}
-use Rattle.std.proofs.lemmas.Bool.{or_parts, cases_Bool}
-use Rattle.std.proofs.lemmas.List.Folds.{list_any-append}
-use Rattle.std.proofs.lemmas.List.FromFn.{length-map-range_with_len}
-use Rattle.std.specs.Prelude.{Option, All, if◌then◌else◌}
-use Rattle.mu_num.proofs.Tests.{if-true, if-false}
-use Rattle.mu_num.specs.Sizes.{IsWithin}
-use Rattle.qss_machine.specs.declared.compiled_machine.Machine.{Machine}
-use Rattle.qss_machine.specs.Machines.{state_count, discrete_count, level_unit, row_at, slope_at}
-use Rattle.qss_machine.specs.Machines.{quantum_of}
-use Rattle.mu_num.specs.IndexedSums.{int_at, tabulate}
-use Rattle.qss_machine.specs.Readers.{reading_rows}
-use Rattle.qss_quant.specs.IntegratorLines.{Line, state_at, IsLineWithinQuantum}
-use Rattle.qss_sched.specs.Ranks.{due_at}
-use Rattle.qss_states.specs.Variables.{AreAssigned}
-use Rattle.qss_states.specs.StateLines.{states_with, line_at, IsRestartedFrom}
-use Rattle.mu_num.specs.ListedPlaces.{is_listed}
-use Rattle.qss_states.specs.LineReplacements.{has_level_and_slope, goes_from, replaced_lines}
+use Rattle.qss_states.proofs.Common
+use Common.{ℕ, ℤ, ◌++◌, ◌<◌, ◌==◌, ◌∙◌, ◌≡◌, ◌≤◌, All, among_readers, ap, AreAssigned, AreScheduled}
+use Common.{AreSumsBefore, arith, cases_Bool, discrete_count, due_at, false, flat_map, goes_from}
+use Common.{has_level_and_slope, HaveSlopesUpdated, if-false, if◌then◌else◌, inl, inr, int_at}
+use Common.{int_at-tabulate, is_listed, IsDue, IsLineWithinQuantum, IsRestartedFrom, IsWithin}
+use Common.{length, length-map-range_with_len, level_unit, Line, line_at, List, list_any-append}
+use Common.{Machine, MayUpdateSlope, not, Option, or_parts, pos, quantum_of, reading_rows}
+use Common.{replaced_lines, row_at, Schedules, Slope, slope_at, state_at, state_count, states_with}
+use Common.{subst, sym, tabulate, true, unread_at, unread_slope}
+use Rattle.mu_num.proofs.Tests.{if-true}
 use Rattle.qss_states.specs.LineReplacements.{replaced_lines_from}
-use Rattle.qss_states.specs.RowSums.{AreSumsBefore}
-use Rattle.qss_events.specs.Schedules.{IsDue}
-use Rattle.qss_states.specs.SlopeUpdates.{MayUpdateSlope, Schedules, AreScheduled}
-use Rattle.qss_states.specs.SlopeUpdates.{HaveSlopesUpdated}
 use Rattle.qss_states.proofs.Assigned.{slope_stays}
 use Rattle.qss_states.proofs.Counting.{count_same}
 use Rattle.qss_states.proofs.Courses.{still_going, resloped_then}
-use Rattle.mu_num.proofs.Tables.{int_at-tabulate}
 use Rattle.qss_states.proofs.Renewed.{from_here}
 use Rattle.qss_states.proofs.Seats.{still_begun}
-use Rattle.qss_machine.proofs.Unread.{unread_at, unread_slope}
-use Rattle.qss_machine.proofs.Among.{among_readers}
-use Rattle.qss_states.specs.declared.row_sum_changes.RowSum.TheVariants.{Slope}
 
 -- ---- the states
 

@@ -1,21 +1,12 @@
 -- States that go on from where they are.
-use Rattle.std.proofs.Common.{◌≡◌, ℕ, ◌-◌, ◌<◌, ◌≤◌, Bool, true, List, ℤ, pos, ◌+ℤ◌, ◌*ℤ◌, sym, ◌∙◌}
-use Rattle.std.proofs.Common.{ap, subst, arith, inl, inr}
-use Rattle.std.proofs.lemmas.Bool.{cases_Bool, cases_eq}
-use Rattle.std.proofs.lemmas.Int.{ints}
-use Rattle.std.specs.Prelude.{Option}
+use Rattle.qss_states.proofs.Common
+use Common.{ℕ, ℤ, ◌*ℤ◌, ◌+ℤ◌, ◌-◌, ◌<◌, ◌∙◌, ◌≡◌, ◌≤◌, add-mul, ap, AreScheduled, arith, Bool}
+use Common.{cases_Bool, cases_eq, goes_from, inl, inr, int_at, ints, is_listed, IsDue, IsWithin}
+use Common.{level_unit, Line, line_at, List, Machine, Option, pos, quantum_of, Schedules, state_at}
+use Common.{subst, sym, true}
 use Rattle.mu_num.proofs.FirstTicks.{first_after-same}
-use Rattle.mu_num.proofs.Integers.{add-mul}
-use Rattle.mu_num.specs.Sizes.{IsWithin}
-use Rattle.qss_machine.specs.declared.compiled_machine.Machine.{Machine}
-use Rattle.qss_machine.specs.Machines.{level_unit, quantum_of}
-use Rattle.mu_num.specs.IndexedSums.{int_at}
-use Rattle.qss_quant.specs.IntegratorLines.{Line, state_at, IsAway}
-use Rattle.mu_num.specs.ListedPlaces.{is_listed}
-use Rattle.qss_states.specs.StateLines.{line_at}
-use Rattle.qss_states.specs.LineReplacements.{goes_from}
-use Rattle.qss_events.specs.Schedules.{IsDue}
-use Rattle.qss_states.specs.SlopeUpdates.{Schedules, SchedulesStay, AreScheduled}
+use Rattle.qss_quant.specs.IntegratorLines.{IsAway}
+use Rattle.qss_states.specs.SlopeUpdates.{SchedulesStay}
 
 -- ---- one line
 

@@ -1,40 +1,30 @@
 -- Sums of rows where states take their levels one after another.
-use Rattle.std.proofs.Common.{◌≡◌, ◌≢◌, ℕ, ◌+◌, ◌^◌, ◌<◌, ◌≤◌, true, false, List, [], ◌∷◌, length}
-use Rattle.std.proofs.Common.{get_or, set, take, fold, ℤ, pos, ◌+ℤ◌, ◌-ℤ◌, ◌*ℤ◌, refl, sym, ◌∙◌, ap}
-use Rattle.std.proofs.Common.{subst, arith, inl, inr, ◌==◌}
-use Rattle.std.proofs.lemmas.Bool.{or_parts, or_cases, cases_Bool}
-use Rattle.std.proofs.lemmas.List.{length-set, get_or-set_other, get_or-set_same, take_more}
-use Rattle.std.proofs.lemmas.List.{length-map, get_or-map}
+use Rattle.qss_states.proofs.Common
+use Common.{[], ℕ, ℤ, ◌*ℤ◌, ◌+ℤ◌, ◌+◌, ◌-ℤ◌, ◌<◌, ◌==◌, ◌^◌, ◌∙◌, ◌∷◌, ◌≡◌, ◌≢◌, ◌≤◌, abs_of, ap}
+use Common.{AreRisingBelow, arith, cases_Bool, DiffersOnlyAt, exceeds_row_limits, false, get_or}
+use Common.{get_or-set_other, get_or-set_same, inl, inr, int_at, int_at-tabulate, is_listed}
+use Common.{IsSumAfterLevelChange, IsWithin, IsWritten, length, length-map, length-set, Line, List}
+use Common.{Machine, mode_coefficient, mode_coefficient_at, None, or_cases, or_parts, pos}
+use Common.{reading_coefficients, reading_rows, refl, row_at, row_coefficient, row_is_light}
+use Common.{row_reads, set, Slope, slope_at, SlopeRow, state_count, subst, sum_at, sym, tabulate}
+use Common.{take, take_more, taken_by, true, unread_slope, weight_at}
+use Rattle.std.proofs.Common.{fold}
+use Rattle.std.proofs.lemmas.List.{get_or-map}
 use Rattle.std.proofs.lemmas.List.Sums.{fold-append}
-use Rattle.std.specs.Prelude.{unsigned_abs, None, position}
+use Rattle.std.specs.Prelude.{unsigned_abs, position}
 use Rattle.mu_num.proofs.Tests.{eqb-true, eqb-false}
-use Rattle.mu_num.specs.Sizes.{IsWithin}
-use Rattle.qss_machine.specs.declared.machine_parts.SlopeRow.{SlopeRow}
-use Rattle.qss_machine.specs.declared.compiled_machine.Machine.{Machine}
-use Rattle.qss_machine.specs.Machines.{state_count, row_at, row_coefficient, mode_coefficient_at}
-use Rattle.qss_machine.specs.Machines.{slope_at, weight_at}
-use Rattle.mu_num.specs.IndexedSums.{int_at, abs_of, tabulate}
-use Rattle.qss_machine.specs.Slopes.{mode_coefficient}
-use Rattle.qss_machine.specs.Ticks.{exceeds_row_limits}
-use Rattle.qss_machine.specs.Readers.{row_reads, reading_rows, reading_coefficients}
 use Rattle.qss_machine.proofs.Distinct.{coefficient_small}
 use Rattle.qss_states.specs.declared.row_sum_changes.RowSum.{RowSum}
-use Rattle.qss_states.specs.declared.row_sum_changes.RowSum.TheVariants.{Slope, Weight}
+use Rattle.qss_states.specs.declared.row_sum_changes.RowSum.TheVariants.{Weight}
 use Rattle.qss_states.specs.declared.event_contexts.HandlerResult.{HandlerResult}
 use Rattle.qss_states.specs.declared.event_contexts.NewLevels.{NewLevels}
-use Rattle.mu_num.specs.ListedPlaces.{is_listed, AreRisingBelow, DiffersOnlyAt}
-use Rattle.qss_states.specs.RowSums.{taken_by, sum_at, IsSumAfterLevelChange}
-use Rattle.qss_quant.specs.IntegratorLines.{Line}
 use Rattle.qss_states.specs.Variables.{AreLevelsOf}
 use Rattle.qss_states.specs.EventContexts.{AreNewLevelsAt, CanUpdateAfterHandlers}
-use Rattle.mu_num.specs.Writes.{IsWritten}
 use Rattle.qss_machine.proofs.Among.{among_rows}
 use Rattle.qss_events.proofs.Changes.{slopes_follow_levels}
 use Rattle.qss_events.proofs.Firsts.{same_lists}
-use Rattle.mu_num.proofs.Tables.{int_at-tabulate}
-use Rattle.qss_machine.proofs.Unread.{unread_slope, unread_weight}
+use Rattle.qss_machine.proofs.Unread.{unread_weight}
 use Rattle.qss_machine.proofs.KeptReaders.{reading_numbers}
-use Rattle.qss_events.proofs.LightRows.{row_is_light}
 
 -- ---- the coefficients of a state in the rows that read it
 

@@ -1,36 +1,23 @@
 -- States that take their new levels one after another.
-use Rattle.std.proofs.Common.{◌≡◌, ◌≢◌, ℕ, ◌+◌, ◌<◌, ◌≤◌, Bool, true, false, eqb, List, [], ◌++◌}
-use Rattle.std.proofs.Common.{length, get_or, set, take, ℤ, pos, refl, sym, ap, ◌∙◌, subst, inl}
-use Rattle.std.proofs.Common.{inr, ◌⊎◌, arith, append_assoc}
-use Rattle.std.proofs.lemmas.Bool.{eqb-true, eqb-false, eq-eqb, or_cases, or_parts, or_left}
-use Rattle.std.proofs.lemmas.Bool.{or_right}
-use Rattle.std.proofs.lemmas.List.{append-nil, length-set, get_or-set_same, get_or-set_other}
-use Rattle.std.proofs.lemmas.List.{get_or-take, length-take-le, take_all}
+use Rattle.qss_states.proofs.Common
+use Common.{[], ℕ, ℤ, ◌++◌, ◌+◌, ◌<◌, ◌∙◌, ◌≡◌, ◌≢◌, ◌≤◌, ◌⊎◌, All, all_within, among_more, ap}
+use Common.{append-nil, append_assoc, AreMovedTo, AreRequantized, AreRequantizedOnArrival, arith}
+use Common.{Bool, DiffersOnlyAt, eq-eqb, eqb, eqb-false, eqb-true, exceeds, false, first_exceeding}
+use Common.{get_or, get_or-set_other, get_or-set_same, if◌then◌else◌, index_of, inl, inr, int_at}
+use Common.{is_listed, IsAllowedLevel, IsFirstOf, IsNextLevel, IsStrictlyIncreasing, IsWithin}
+use Common.{length, length-set, level_rows, List, Machine, None, Option, option_or, or_cases}
+use Common.{or_left, or_parts, or_right, pos, refl, Row, row_of, set, Some, states_at, subst, sym}
+use Common.{take, take_all, true, written_more}
+use Rattle.std.proofs.lemmas.List.{get_or-take, length-take-le}
 use Rattle.std.proofs.lemmas.List.Kept.{AllPairs-from_increasing}
 use Rattle.std.specs.List.{flat_map}
-use Rattle.std.specs.List.Sorted.{IsStrictlyIncreasing}
-use Rattle.std.specs.Option.{option_or}
-use Rattle.std.specs.Prelude.{Option, Some, None, All, if◌then◌else◌}
-use Rattle.mu_num.specs.Sizes.{IsWithin, exceeds}
-use Rattle.qss_machine.specs.declared.machine_parts.Row.{Row}
-use Rattle.qss_machine.specs.declared.compiled_machine.Machine.{Machine}
-use Rattle.mu_num.specs.IndexedSums.{int_at, first_exceeding}
-use Rattle.qss_machine.specs.Runs.{level_rows}
-use Rattle.qss_machine.specs.Ticks.{IsNextLevel}
 use Rattle.qss_quant.specs.declared.quantizer.Rule.{Rule}
-use Rattle.mu_num.specs.ListedPlaces.{is_listed, DiffersOnlyAt}
-use Rattle.qss_events.specs.AllowedLevels.{IsAllowedLevel}
-use Rattle.mu_num.specs.Writes.{IsFirstOf}
 use Rattle.mu_num.proofs.RisingNumbers.{due_rows_more}
-use Rattle.qss_events.proofs.LevelRows.{row_of}
-use Rattle.mu_num.proofs.Writes.{among_more, index_of, written_more}
 use Rattle.qss_states.specs.declared.event_contexts.Arrival.{Arrival}
-use Rattle.qss_states.specs.EventContexts.{AreMovedTo, CanTakeOnArrival}
-use Rattle.qss_states.specs.LevelChanges.{taken_row, AreRequantized, AreRequantizedOnArrival}
-use Rattle.qss_states.specs.StateLines.{states_at}
+use Rattle.qss_states.specs.EventContexts.{CanTakeOnArrival}
+use Rattle.qss_states.specs.LevelChanges.{taken_row}
 use Rattle.qss_states.proofs.DueLevels.{same_rows, levels_over, levels_allowed, rows_of_moved}
 use Rattle.qss_states.proofs.DueLevels.{written_off, arrived_at}
-use Rattle.qss_events.proofs.Overs.{all_within}
 
 -- ---- one more of rising numbers
 

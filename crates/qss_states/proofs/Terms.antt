@@ -1,19 +1,10 @@
 -- Sums over entries, of values that are at most a bound in absolute value.
-use Rattle.std.proofs.Common.{◌≡◌, ℕ, ◌+◌, ◌-◌, ◌*◌, ◌≤◌, ◌≤ℤ◌, List, [], ◌∷◌, ◌++◌, length, ℤ, pos}
-use Rattle.std.proofs.Common.{◌*ℤ◌, refl, sym, subst, arith, inl, inr}
-use Rattle.std.proofs.Math.IntN.{pos-*ℤ-pos, zero-*ℤ}
-use Rattle.std.proofs.lemmas.Bool.{cases_lt}
-use Rattle.std.proofs.lemmas.Int.{ints, unsigned_abs-mul}
+use Rattle.qss_states.proofs.Common
+use Common.{[], ℕ, ℤ, ◌*ℤ◌, ◌*◌, ◌++◌, ◌+◌, ◌-◌, ◌∷◌, ◌≡◌, ◌≤ℤ◌, ◌≤◌, abs_of, add-mul, All, arith}
+use Common.{cases_lt, Entry, inl, inr, int_at, ints, IsUpTo, length, List, mul-le, pos, pos-*ℤ-pos}
+use Common.{refl, subst, sum_by, sum_by-cons, sum_over, sym, unsigned_abs, unsigned_abs-mul}
+use Common.{zero-*ℤ}
 use Rattle.std.proofs.lemmas.List.{get_or_append_left, get_or-append-add, get_or_past}
-use Rattle.std.proofs.lemmas.List.Sums.{sum_by-cons}
-use Rattle.std.proofs.lemmas.Nat.{mul-le}
-use Rattle.std.specs.Int.RustNames.{unsigned_abs}
-use Rattle.std.specs.List.{sum_by}
-use Rattle.std.specs.Prelude.{All}
-use Rattle.mu_num.proofs.Integers.{add-mul}
-use Rattle.qss_machine.specs.declared.machine_parts.Entry.{Entry}
-use Rattle.mu_num.specs.IndexedSums.{int_at, abs_of, sum_over}
-use Rattle.qss_states.specs.SafeBounds.{IsUpTo}
 
 -- a number of a list that is up to a bound, and 0 past the end
 pub up_to_at : (bound : ℕ) (xs : List ℤ) → All (IsUpTo bound) xs → (i : ℕ) → IsUpTo bound (int_at xs i)

@@ -1,29 +1,14 @@
 -- Absolute row sums of which those that read an assigned discrete variable were added up anew.
-use Rattle.std.proofs.Common.{◌≡◌, ℕ, ◌<◌, Bool, true, false, not, List, ◌++◌, length, ℤ, pos, sym}
-use Rattle.std.proofs.Common.{◌∙◌, ap, subst, arith, inl, inr}
-use Rattle.std.proofs.lemmas.Bool.{cases_Bool, or_parts}
-use Rattle.std.proofs.lemmas.List.Folds.{list_any-append}
-use Rattle.std.proofs.lemmas.List.FromFn.{fill_by_all, length-map-range_with_len}
-use Rattle.std.specs.List.{position}
-use Rattle.std.specs.Prelude.{◌||◌, MatchBool, None, flat_map}
-use Rattle.mu_num.specs.Sizes.{exceeds}
-use Rattle.qss_machine.specs.declared.compiled_machine.Machine.{Machine}
-use Rattle.qss_machine.specs.Machines.{state_count, discrete_count, row_at, weight_at}
-use Rattle.mu_num.specs.IndexedSums.{int_at}
-use Rattle.qss_machine.specs.Slopes.{mode_fits}
-use Rattle.qss_machine.specs.Ticks.{exceeds_row_limits}
-use Rattle.qss_machine.specs.Readers.{reading_rows}
-use Rattle.qss_states.specs.Variables.{AreAssigned}
-use Rattle.mu_num.specs.ListedPlaces.{is_listed, DiffersOnlyAt}
-use Rattle.qss_states.specs.RowLimits.{IsWeighed}
-use Rattle.qss_events.specs.Schedules.{weights_at, no_row}
-use Rattle.mu_num.specs.Writes.{IsWritten}
-use Rattle.qss_machine.proofs.Among.{among_readers}
+use Rattle.qss_states.proofs.Common
+use Common.{ℕ, ℤ, ◌++◌, ◌<◌, ◌||◌, ◌∙◌, ◌≡◌, among_readers, ap, AreAssigned, arith, Bool}
+use Common.{cases_Bool, DiffersOnlyAt, discrete_count, exceeds, exceeds_row_limits, false}
+use Common.{fill_by_all, flat_map, inl, inr, int_at, int_at-tabulate, is_listed, IsWeighed}
+use Common.{IsWritten, length, length-map-range_with_len, List, list_any-append, Machine, mode_fits}
+use Common.{no_row, None, none_passes, not, or_parts, pos, position, reading_rows, row_at}
+use Common.{row_is_light, state_count, subst, sym, true, unread_at, unread_overweight, weight_at}
+use Common.{weights_at}
+use Rattle.std.specs.Prelude.{MatchBool}
 use Rattle.qss_states.proofs.Assigned.{modes_stay, weight_stays, overweight_stays}
-use Rattle.mu_num.proofs.Tables.{int_at-tabulate}
-use Rattle.qss_events.proofs.Ranges.{none_passes}
-use Rattle.qss_machine.proofs.Unread.{unread_at, unread_overweight}
-use Rattle.qss_events.proofs.LightRows.{row_is_light}
 
 pub by_modes : (b : Bool) (z weight : ℤ) → MatchBool b (z ≡ weight) (exceeds 88 z ≡ true) → exceeds 88 z ≡ (not b || exceeds 88 weight)
 by_modes true z weight e = ap (exceeds 88) e

@@ -1,9 +1,11 @@
 -- A state is affected only at event steps.
-use Rattle.std.proofs.Common.{◌≡◌, ℕ, zero, suc, ◌+◌, ◌-◌, ◌*◌, ◌<◌, ◌≤◌, Bool, true, false, not}
-use Rattle.std.proofs.Common.{◌&&◌, ◌||◌, ◌==◌, List, [], ◌∷◌, ◌++◌, length, get_or, take, drop}
-use Rattle.std.proofs.Common.{fold, cond, nat_lt, ltb-true, set, ℤ, pos, ◌+ℤ◌, refl, sym, ◌∙◌}
-use Rattle.std.proofs.Common.{mul-add, count_by, if◌then◌else◌, is_some, Option, Some, None}
-use Rattle.std.proofs.Common.{Ok, ap, subst, arith}
+use Rattle.qss_theorems.proofs.Common
+use Common.{[], ℕ, ℤ, ◌&&◌, ◌*◌, ◌++◌, ◌+◌, ◌<◌, ◌==◌, ◌||◌, ◌∙◌, ◌∷◌, ◌≡◌, ◌≤◌, ap, arith, Bool}
+use Common.{cond, discrete_count, drop, false, get_or, handlers_at, if◌then◌else◌, int_at, is_some}
+use Common.{IsAllowedLevel, IsEventFreeExecution, IsFreeLevel, IsStep, IsStepBy, last_snapshot}
+use Common.{length, List, Machine, nat_lt, None, not, Ok, Option, pos, refl, Row, run_by_rule}
+use Common.{Snapshot, Some, start_snapshot, state_count, subst, suc, sym, take, true, zero}
+use Rattle.std.proofs.Common.{◌-◌, fold, ltb-true, set, ◌+ℤ◌, mul-add, count_by}
 use Rattle.std.proofs.lemmas.Bool.Decides.{Decides-int_eq}
 use Rattle.std.proofs.lemmas.List.FromFn.{length-range_with_len, get_or-range_with_len}
 use Rattle.std.proofs.lemmas.List.FromFn.{length-map-range_with_len}
@@ -11,34 +13,27 @@ use Rattle.std.proofs.lemmas.List.Sums.{sum_by-cons, count_by-le-length}
 use Rattle.std.specs.List.{flat_map, list_any, range_with_len}
 use Rattle.std.specs.Ordering.{int_eq}
 use Rattle.mu_num.proofs.Tests.{if_cases}
-use Rattle.mu_num.specs.IndexedSums.{int_at, first_exceeding}
+use Rattle.mu_num.specs.IndexedSums.{first_exceeding}
 use Rattle.mu_num.specs.Sizes.{exceeds}
 use Rattle.qss_machine.proofs.Near.{StepFacts, step_facts}
-use Rattle.qss_machine.specs.declared.compiled_machine.Machine.{Machine}
 use Rattle.qss_machine.specs.declared.machine_parts.Action.{Action}
 use Rattle.qss_machine.specs.declared.machine_parts.Action.TheVariants.{Set, Reinit}
 use Rattle.qss_machine.specs.declared.machine_parts.BranchInfo.{BranchInfo}
 use Rattle.qss_machine.specs.declared.machine_parts.ClauseInfo.{ClauseInfo}
-use Rattle.qss_machine.specs.declared.machine_parts.Row.{Row}
-use Rattle.qss_machine.specs.declared.machine_parts.RowKind.TheVariants as kind
 use Rattle.qss_machine.specs.declared.machine_parts.SlopeRow.{SlopeRow}
 use Rattle.qss_machine.specs.EventCounts.{are_same_truths, has_changed, is_empty, is_reinit}
 use Rattle.qss_machine.specs.EventCounts.{is_touched, is_visited, reads_change, touches_after}
 use Rattle.qss_machine.specs.EventCounts.{visits_after}
-use Rattle.qss_machine.specs.Handlers.{HandlerState, assign, assigned_value, fire_row}
-use Rattle.qss_machine.specs.Handlers.{firing_flags, run_action, run_branch, run_clause}
-use Rattle.qss_machine.specs.Handlers.{run_clauses, run_first_due, truths}
-use Rattle.qss_machine.specs.Machines.{state_count, discrete_count, row_at, slope_at}
+use Rattle.qss_machine.specs.Handlers.{HandlerState, assign, assigned_value, fire_row, firing_flags}
+use Rattle.qss_machine.specs.Handlers.{run_action, run_branch, run_clause, run_clauses}
+use Rattle.qss_machine.specs.Handlers.{run_first_due, truths}
+use Rattle.qss_machine.specs.Machines.{row_at, slope_at}
 use Rattle.qss_machine.specs.Readers.{row_reads}
-use Rattle.qss_machine.specs.Runs.{IsExecution, IsExecutionBy, level_rows, last_snapshot}
-use Rattle.qss_machine.specs.Runs.{tick_rows}
-use Rattle.qss_machine.specs.Ticks.{IsFreeLevel, IsNextLevel, IsStep, IsStepBy, Snapshot}
-use Rattle.qss_machine.specs.Ticks.{handlers_at, moved_states, start_snapshot}
-use Rattle.qss_events.specs.AllowedLevels.{IsAllowedLevel}
-use Rattle.qss_events.specs.EventFreeRuns.{IsEventFreeExecution}
-use Rattle.qss_events.specs.RunTexts.{run_by_rule}
+use Rattle.qss_machine.specs.Runs.{IsExecution, IsExecutionBy, level_rows, tick_rows}
+use Rattle.qss_machine.specs.Ticks.{IsNextLevel, moved_states}
 use Rattle.qss_theorems.proofs.Printed.{run_leads}
 use Rattle.qss_theorems.specs.AffectedStates.{AffectedStatesAreBounded, HasAffectedBound}
+use Rattle.qss_machine.specs.declared.machine_parts.RowKind.TheVariants as kind
 
 -- ---- lists without elements, and tests that fail
 

@@ -1,19 +1,12 @@
 -- No field of a line of bounds needs quotes in a source's machine.
-use Rattle.std.proofs.Common.{◌≡◌, false, ℕ, ℤ, List, [], ◌∷◌, ◌++◌, map, refl, ap, ◌∙◌, append-nil}
-use Rattle.std.specs.Fmt.{signed_decimal}
-use Rattle.std.specs.List.{AllByRecursion}
-use Rattle.csv.specs.Writing.{default_writer, fields_text, is_blank, needs_quotes, row_text}
-use Rattle.cert_check.specs.declared.certificate.Certificate.{Certificate}
+use Rattle.qss_theorems.proofs.Common
+use Common.{[], ℕ, ℤ, ◌++◌, ◌∙◌, ◌∷◌, ◌≡◌, AllByRecursion, ap, append-nil, Certificate, CompilesTo}
+use Common.{default_writer, DiscreteInfo, false, fields_text, is_blank, IsVariableName, List}
+use Common.{Machine, map, needs_quotes, plain_line, refl, row_text, signed_decimal, StateInfo}
 use Rattle.qss_answers.specs.BoundTexts.{bound_line, bound_lines, bounds_header, bounds_text}
-use Rattle.qss_compile.specs.Compilation.{CompilesTo}
-use Rattle.qss_machine.specs.declared.machine_parts.DiscreteInfo.{DiscreteInfo}
-use Rattle.qss_machine.specs.declared.machine_parts.StateInfo.{StateInfo}
-use Rattle.qss_machine.specs.declared.compiled_machine.Machine.{Machine}
-use Rattle.qss_rows.specs.RowTexts.{plain_line}
 use Rattle.qss_theorems.proofs.Lines.{IsPlain, plain_signed, plain_variable}
 use Rattle.qss_theorems.proofs.Names.{machine_named}
-use Rattle.qss_theorems.specs.CommaLines.{BoundLinesAreFields, IsVariableName, bound_fields}
-use Rattle.qss_theorems.specs.CommaLines.{plain_bound_lines}
+use Rattle.qss_theorems.specs.CommaLines.{BoundLinesAreFields, bound_fields, plain_bound_lines}
 
 -- the record of two fields that need no quotes
 plain_record : (a b : List ℕ) → IsPlain a → IsPlain b → row_text default_writer (a ∷ b ∷ []) ≡ plain_line (a ∷ b ∷ [])

@@ -1,15 +1,15 @@
 -- The text that is written of a certificate is short enough to be read.
-use Rattle.std.proofs.Common.{◌≡◌, ◌≤◌, ◌^◌, ◌*◌, Bool, true, false, ℕ, zero, suc, ℤ, pos, negsuc}
-use Rattle.std.proofs.Common.{List, [], ◌∷◌, ◌++◌, map, length, refl, arith, decimal, length-append}
-use Rattle.std.specs.Prelude.{All, codes, if◌then◌else◌}
-use Rattle.std.specs.Fmt.{signed_decimal}
-use Rattle.std.specs.List.{AllByRecursion}
+use Rattle.qss_theorems.proofs.Common
+use Common.{[], ℕ, ℤ, ◌*◌, ◌++◌, ◌∷◌, ◌≡◌, ◌≤◌, AllByRecursion, arith, Bool, Certificate, codes}
+use Common.{decimal, default_writer, false, fields_text, if◌then◌else◌, is_blank, length}
+use Common.{length-append, length-map, List, map, needs_quotes, negsuc, pos, refl, signed_decimal}
+use Common.{suc, true, zero}
+use Rattle.std.proofs.Common.{◌^◌}
+use Rattle.std.specs.Prelude.{All}
 use Rattle.std.proofs.lemmas.Fmt.{length-decimal-le_wide}
-use Rattle.std.proofs.lemmas.List.{length-map}
 use Rattle.std.proofs.lemmas.List.Elements.{All-head, All-tail}
-use Rattle.csv.specs.Writing.{default_writer, end_text, fields_text, is_blank, needs_quotes}
+use Rattle.csv.specs.Writing.{end_text}
 use Rattle.cert_check.specs.CertificateLimits.{IsNumber, IsVector}
-use Rattle.cert_check.specs.declared.certificate.Certificate.{Certificate}
 use Rattle.cert_check.proofs.Judged.{judged_texts}
 use Rattle.cert_check.proofs.WrittenLines.{reads-back}
 use Rattle.cert_check.specs.CertificateLines.{Line, line, lines, row_lines}

@@ -1,21 +1,15 @@
 -- What a simulator goes through: free steps, whichever quantizer it has.
-use Rattle.std.proofs.Common.{◌≡◌, ℕ, ◌+◌, List, [], ◌∷◌, ◌++◌, length, inl, inr, refl, sym, ap}
-use Rattle.std.proofs.Common.{◌∙◌, subst, arith}
-use Rattle.std.specs.Prelude.{Bool, true, false, ℤ, Option, Some, None, Result, Ok, Err, MatchBool}
-use Rattle.qss_machine.specs.declared.compiled_machine.Machine.{Machine}
+use Rattle.qss_theorems.proofs.Common
+use Common.{[], ℕ, ℤ, ◌++◌, ◌+◌, ◌∙◌, ◌∷◌, ◌≡◌, ap, arith, Bool, Err, false, handlers_at, inl, inr}
+use Common.{int_at, IsAllowedLevel, IsEventFreeExecution, IsFreeExecution, IsFreeLevel, IsStep}
+use Common.{IsStepBy, last_snapshot, length, List, Machine, None, Ok, Option, refl, Result, Rule}
+use Common.{runs_are_legitimate, runs_stay_near, Snapshot, Some, start_snapshot, subst, sym, true}
+use Rattle.std.specs.Prelude.{MatchBool}
 use Rattle.qss_machine.specs.Machines.{level_unit}
-use Rattle.mu_num.specs.IndexedSums.{int_at}
-use Rattle.qss_machine.specs.Runs.{IsFreeExecution, last_snapshot}
-use Rattle.qss_machine.specs.Ticks.{Snapshot, IsStep, IsStepBy, IsFreeLevel, start_snapshot}
-use Rattle.qss_machine.specs.Ticks.{is_within_quantum, handlers_at}
-use Rattle.qss_machine.proofs.Admitted.{runs_are_legitimate}
+use Rattle.qss_machine.specs.Ticks.{is_within_quantum}
 use Rattle.qss_machine.proofs.Fired.{branches_fire_when_due}
-use Rattle.qss_machine.proofs.Near.{runs_stay_near}
 use Rattle.qss_events.specs.RemainingRows.{first_view}
-use Rattle.qss_quant.specs.declared.quantizer.Rule.{Rule}
-use Rattle.qss_events.specs.EventFreeRuns.{IsEventFreeExecution}
 use Rattle.qss_events.specs.Events.{IsNext}
-use Rattle.qss_events.specs.AllowedLevels.{IsAllowedLevel}
 use Rattle.qss_events.specs.RunViews.{RunView}
 use Rattle.qss_events.specs.declared.event_outcome.Outcome.{Outcome}
 use Rattle.qss_events.specs.declared.event_outcome.Outcome.TheVariants.{Events, Done, Over}

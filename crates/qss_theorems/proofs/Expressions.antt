@@ -1,47 +1,26 @@
 -- In a model without name errors each name inside an expression denotes what the expression takes.
-use Rattle.std.proofs.Common.{◌≡◌, ℕ, List, [], ◌∷◌, ◌++◌, IfOk, refl, sym, ◌∙◌, subst}
-use Rattle.std.specs.Prelude.{Bool, true, false, is_some, IsSome, Option, Some, None, if◌then◌else◌}
-use Rattle.std.specs.Prelude.{bytes_eq}
-use Rattle.mu_names.specs.DeclarationFaults.{declarations_faults, no_constants, repeated_faults}
-use Rattle.mu_names.specs.Naming.{branch_faults, branches_faults, clause_faults, clauses_faults}
-use Rattle.mu_names.specs.Naming.{equation_faults, equations_faults, expression_faults}
-use Rattle.mu_names.specs.Naming.{factors_faults, is_same, is_wanted, named_faults, range_faults}
-use Rattle.mu_names.specs.Naming.{reference_faults, sides_faults, start_faults, starts_faults}
-use Rattle.mu_names.specs.Naming.{statement_faults, statements_faults, taken_faults, terms_faults}
-use Rattle.mu_names.specs.Naming.{wanted_before, wanted_in}
-use Rattle.mu_names.specs.Roles.{meaning_in, scope_of, settings_faults, settings_in}
-use Rattle.mu_names.specs.DeclaredRoles as stands
-use Rattle.mu_names.specs.DeclaredRoles.{derived_in, name_kind_in}
-use Rattle.mu_names.specs.declared.name_fault.NameErr.{NameErr}
-use Rattle.mu_names.specs.declared.name_fault.NameErr.TheVariants.{EndName, Misused}
-use Rattle.mu_names.specs.declared.name_kind.NameContext.{NameContext}
-use Rattle.mu_names.specs.declared.name_kind.NameContext.TheVariants as reading
-use Rattle.mu_names.specs.declared.name_kind.Role.{Role}
-use Rattle.mu_names.specs.declared.name_kind.Role.TheVariants.{State, Discrete, Algebraic}
-use Rattle.mu_names.specs.declared.name_kind.Role.TheVariants.{Parameter}
-use Rattle.mu_names.specs.declared.name_kind.NameKind.{NameKind}
-use Rattle.mu_names.specs.declared.name_kind.NameKind.TheVariants.{Loop, Declared, Missing}
-use Rattle.mu_names.specs.declared.name_kind.NameRequirement.{NameRequirement}
-use Rattle.mu_names.specs.declared.name_kind.NameRequirement.TheVariants as wanted
-use Rattle.mu_num.specs.Fraction.{Fraction}
-use Rattle.mu_tree.specs.Expression.{Expression, Number, Variable, Now, Previous, Sum, Product}
-use Rattle.mu_tree.specs.Expression.{Power, Reference, Whole, Element, Terms, no_terms, term}
-use Rattle.mu_tree.specs.Expression.{Factors, no_factors, factor}
-use Rattle.mu_tree.specs.ModelTree.{Range, EquationTree, Derivative, Algebraic as PlainEquation}
-use Rattle.mu_tree.specs.ModelTree.{EachEquation, EquationTrees, no_equations, equation_then}
-use Rattle.mu_tree.specs.ModelTree.{StatementTree, Assign, Restart, EachStatement, StatementTrees}
-use Rattle.mu_tree.specs.ModelTree.{no_statements, statement_then, BranchTree, ClauseTree, Branches}
-use Rattle.mu_tree.specs.ModelTree.{EachClause, ClauseTrees, no_clauses, clause_then, equations_of}
-use Rattle.mu_tree.specs.ModelTree.{statements_of, clauses_of}
-use Rattle.mu_tree.specs.declared.flat.FlatRole.{FlatRole}
-use Rattle.mu_tree.specs.declared.flat.FlatRole.TheVariants as flat_role
-use Rattle.mu_unroll.specs.Flattening.{constants_in, element_found, found, index_in, whole_found}
-use Rattle.mu_unroll.specs.VariablePlaces.{constant_of, kind_of, meant_in}
-use Rattle.mu_unroll.specs.Unrolling.{declared_in, inside}
-use Rattle.mu_unroll.specs.ConstantValues.{constant_value, whole_at}
-use Rattle.mu_unroll.specs.declared.environment.LoopVar.{LoopVar}
-use Rattle.mu_unroll.specs.declared.environment.NameDenotation.{NameDenotation}
-use Rattle.mu_unroll.specs.declared.environment.NameDenotation.TheVariants as meant
+use Rattle.qss_theorems.proofs.Common
+use Common.{[], ℕ, ◌++◌, ◌∙◌, ◌∷◌, ◌≡◌, Algebraic, Assign, Bool, branch_faults, Branches}
+use Common.{branches_faults, BranchTree, bytes_eq, clause_faults, clause_then, clauses_faults}
+use Common.{clauses_of, ClauseTree, ClauseTrees, constant_value, constants_in, declarations_faults}
+use Common.{Declared, declared_in, Derivative, derived_in, Discrete, EachClause, EachEquation}
+use Common.{EachStatement, Element, element_found, EndName, equation_faults, equation_then}
+use Common.{equations_faults, equations_of, EquationTree, EquationTrees, Expression}
+use Common.{expression_faults, factor, Factors, false, FlatRole, found, Fraction, IfOk}
+use Common.{if◌then◌else◌, index_in, inside, is_same, is_some, is_wanted, kind_of, List, Loop}
+use Common.{LoopVar, meaning_in, meant_in, Missing, Misused, name_kind_in, NameContext}
+use Common.{named_faults, NameDenotation, NameErr, NameKind, NameRequirement, no_clauses}
+use Common.{no_constants, no_equations, no_factors, no_statements, no_terms, None, Now, Number}
+use Common.{Option, Parameter, Power, Previous, Product, range_faults, Reference, reference_faults}
+use Common.{refl, repeated_faults, Restart, Role, scope_of, settings_faults, settings_in}
+use Common.{sides_faults, Some, start_faults, starts_faults, State, statement_faults}
+use Common.{statement_then, statements_faults, statements_of, StatementTree, StatementTrees, subst}
+use Common.{Sum, sym, term, Terms, true, Variable, Whole, whole_at, whole_found}
+use Rattle.std.specs.Prelude.{IsSome}
+use Rattle.mu_names.specs.Naming.{factors_faults, taken_faults, terms_faults, wanted_before}
+use Rattle.mu_names.specs.Naming.{wanted_in}
+use Rattle.mu_tree.specs.ModelTree.{Range, Algebraic as PlainEquation}
+use Rattle.mu_unroll.specs.VariablePlaces.{constant_of}
 use Rattle.qss_theorems.proofs.Kept.{AllFit, Fits, FitsKind, declared_fit, inside_fit, known_of}
 use Rattle.qss_theorems.proofs.Kept.{names_inside, names_of, no_misuse, same_is, target_kind}
 use Rattle.qss_theorems.proofs.Kept.{wants_discrete}
@@ -55,6 +34,11 @@ use Rattle.qss_theorems.specs.Expressions.{NamesAreTaken, SidesTakeNames, StartT
 use Rattle.qss_theorems.specs.Expressions.{StartsTakeConstants, StatementTakesNames}
 use Rattle.qss_theorems.specs.Expressions.{StatementsTakeNames, TakesConstants, TakesNames}
 use Rattle.qss_theorems.specs.Expressions.{TermsTakeConstants, TermsTakeNames}
+use Rattle.mu_names.specs.DeclaredRoles as stands
+use Rattle.mu_names.specs.declared.name_kind.NameContext.TheVariants as reading
+use Rattle.mu_names.specs.declared.name_kind.NameRequirement.TheVariants as wanted
+use Rattle.mu_tree.specs.declared.flat.FlatRole.TheVariants as flat_role
+use Rattle.mu_unroll.specs.declared.environment.NameDenotation.TheVariants as meant
 
 -- ---- names
 

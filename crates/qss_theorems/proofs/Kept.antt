@@ -1,60 +1,35 @@
 -- In a model without name errors each item is kept.
-use Rattle.std.proofs.Common.{◌≡◌, ℕ, ◌+◌, List, [], ◌∷◌, ◌++◌, map, IfOk, refl, sym, ap, ◌∙◌}
-use Rattle.std.proofs.Common.{subst}
-use Rattle.std.specs.Prelude.{ℤ, Bool, true, false, ◌&&◌, ◌||◌, not, is_some, if◌then◌else◌}
-use Rattle.std.specs.Prelude.{bytes_eq, Option, Some, None, Ok, option_to_list, unwrap_or}
+use Rattle.qss_theorems.proofs.Common
+use Common.{[], ℕ, ℤ, ◌&&◌, ◌++◌, ◌+◌, ◌||◌, ◌∙◌, ◌∷◌, ◌≡◌, Algebraic, all_known, ap, Assign}
+use Common.{bind_result, Bool, branch_faults, Branches, branches_faults, BranchTree, bytes_eq}
+use Common.{clause_faults, clause_then, clauses_faults, clauses_of, ClauseTree, ClauseTrees}
+use Common.{constant_value, constants_in, constants_with, Declaration, declaration_faults}
+use Common.{declarations_faults, Declared, declared_in, Derivative, derived_in, Discrete, each_then}
+use Common.{EachClause, EachEquation, EachStatement, Element, element_found, EndName}
+use Common.{equation_faults, equation_then, equations_faults, equations_of, EquationTree}
+use Common.{EquationTrees, Expression, expression_faults, false, FlatRole, found, Fraction, IfOk}
+use Common.{if◌then◌else◌, index_in, inside, is_constant, is_same, is_some, is_wanted, kind_of}
+use Common.{Known, List, Loop, LoopVar, map, meaning_after, meaning_in, meant_in, Missing, Misused}
+use Common.{name_kind_in, NameContext, named_faults, NameDenotation, NameErr, NameKind}
+use Common.{NameRequirement, no_clauses, no_constants, no_equations, no_statements, None, not, Ok}
+use Common.{Option, Parameter, range_faults, Reference, reference_faults, refl, repeated_faults}
+use Common.{ResolvedReference, Restart, Role, scope_of, settings_faults, settings_in, sides_faults}
+use Common.{Some, start_faults, starts_faults, State, statement_faults, statement_then}
+use Common.{statements_faults, statements_of, StatementTree, StatementTrees, subst, sym, true}
+use Common.{Whole, whole, whole_at, whole_found}
+use Rattle.std.specs.Prelude.{option_to_list, unwrap_or}
 use Rattle.std.proofs.lemmas.List.{map-append}
-use Rattle.mu_names.specs.DeclarationFaults.{all_valued, constants_with, declaration_faults}
-use Rattle.mu_names.specs.DeclarationFaults.{declarations_faults, is_constant, meaning_after}
-use Rattle.mu_names.specs.DeclarationFaults.{no_constants, repeated_faults}
-use Rattle.mu_names.specs.Naming.{clause_faults, clauses_faults, branches_faults, branch_faults}
-use Rattle.mu_names.specs.Naming.{equation_faults, equations_faults, expression_faults, is_same}
-use Rattle.mu_names.specs.Naming.{is_wanted, named_faults, range_faults, reference_faults}
-use Rattle.mu_names.specs.Naming.{sides_faults, start_faults, starts_faults, statement_faults}
-use Rattle.mu_names.specs.Naming.{statements_faults, wants_loops}
-use Rattle.mu_names.specs.Roles.{all_known, meaning_in, scope_of, settings_faults, settings_in}
-use Rattle.mu_names.specs.DeclaredRoles as stands
-use Rattle.mu_names.specs.DeclaredRoles.{declared_as, derived_in, first_declared, is_among, role_by}
-use Rattle.mu_names.specs.DeclaredRoles.{role_of, name_kind_in}
-use Rattle.mu_names.specs.declared.name_fault.NameErr.{NameErr}
-use Rattle.mu_names.specs.declared.name_fault.NameErr.TheVariants.{EndName, Misused}
-use Rattle.mu_names.specs.declared.declared_scope.Known.{Known}
-use Rattle.mu_names.specs.declared.name_kind.NameContext.{NameContext}
-use Rattle.mu_names.specs.declared.name_kind.NameContext.TheVariants as reading
-use Rattle.mu_names.specs.declared.name_kind.Role.{Role}
-use Rattle.mu_names.specs.declared.name_kind.Role.TheVariants.{State, Discrete, Algebraic}
-use Rattle.mu_names.specs.declared.name_kind.Role.TheVariants.{Parameter}
-use Rattle.mu_names.specs.declared.name_kind.NameKind.{NameKind}
-use Rattle.mu_names.specs.declared.name_kind.NameKind.TheVariants.{Loop, Declared, Missing}
-use Rattle.mu_names.specs.declared.name_kind.NameRequirement.{NameRequirement}
-use Rattle.mu_names.specs.declared.name_kind.NameRequirement.TheVariants as wanted
-use Rattle.mu_num.specs.Fraction.{Fraction, whole}
-use Rattle.mu_tree.specs.Expression.{Expression, Reference, Whole, Element}
-use Rattle.mu_tree.specs.FlatExpression.{FlatAction, FlatEquationTree, FlatExpression}
-use Rattle.mu_tree.specs.FlatExpression as flat
-use Rattle.mu_tree.specs.ModelTree.{Declaration, EquationTree, Derivative}
-use Rattle.mu_tree.specs.ModelTree.{Algebraic as PlainEquation, EachEquation, EquationTrees}
-use Rattle.mu_tree.specs.ModelTree.{no_equations, equation_then, StatementTree, Assign, Restart}
-use Rattle.mu_tree.specs.ModelTree.{EachStatement, StatementTrees, no_statements, statement_then}
-use Rattle.mu_tree.specs.ModelTree.{BranchTree, ClauseTree, Branches, EachClause, ClauseTrees}
-use Rattle.mu_tree.specs.ModelTree.{no_clauses, clause_then, equations_of, statements_of}
-use Rattle.mu_tree.specs.ModelTree.{clauses_of}
-use Rattle.mu_tree.specs.declared.flat.FlatRole.{FlatRole}
-use Rattle.mu_tree.specs.declared.flat.FlatRole.TheVariants as flat_role
+use Rattle.mu_names.specs.DeclarationFaults.{all_valued}
+use Rattle.mu_names.specs.Naming.{wants_loops}
+use Rattle.mu_names.specs.DeclaredRoles.{declared_as, first_declared, is_among, role_by, role_of}
+use Rattle.mu_tree.specs.FlatExpression.{FlatExpression}
+use Rattle.mu_tree.specs.ModelTree.{Algebraic as PlainEquation}
 use Rattle.mu_tree.specs.declared.tree.Prefix.{Prefix}
-use Rattle.mu_tree.specs.declared.tree.Prefix.TheVariants as prefixes
-use Rattle.mu_unroll.proofs.Stepping.{each_then}
-use Rattle.mu_unroll.specs.Flattening.{constants_in, element_found, flattened, found, index_in}
-use Rattle.mu_unroll.specs.Flattening.{number_of_kind, whole_found}
-use Rattle.mu_unroll.specs.VariablePlaces.{count_of_kind, first_meant, first_of_kind, kind_of}
-use Rattle.mu_unroll.specs.VariablePlaces.{loop_value, meant_after, meant_in}
-use Rattle.mu_unroll.specs.Unrolling.{assign_to, declared_in, equation_for, inside, restart_of}
-use Rattle.mu_unroll.specs.ConstantValues.{constant_value, bind_result, whole_at}
-use Rattle.mu_unroll.specs.declared.environment.ResolvedReference.{ResolvedReference}
+use Rattle.mu_unroll.specs.Flattening.{flattened, number_of_kind}
+use Rattle.mu_unroll.specs.VariablePlaces.{count_of_kind, first_meant, first_of_kind, loop_value}
+use Rattle.mu_unroll.specs.VariablePlaces.{meant_after}
+use Rattle.mu_unroll.specs.Unrolling.{assign_to, equation_for, restart_of}
 use Rattle.mu_unroll.specs.declared.environment.ResolvedReference.TheVariants.{Numbered}
-use Rattle.mu_unroll.specs.declared.environment.LoopVar.{LoopVar}
-use Rattle.mu_unroll.specs.declared.environment.NameDenotation.{NameDenotation}
-use Rattle.mu_unroll.specs.declared.environment.NameDenotation.TheVariants as meant
 use Rattle.qss_theorems.proofs.Names.{whatever}
 use Rattle.qss_theorems.proofs.Values.{AreSure, after_sure, first_none, good_parts, none_sure}
 use Rattle.qss_theorems.proofs.Values.{second_none, with_sure}
@@ -62,6 +37,13 @@ use Rattle.qss_theorems.specs.Items.{BranchesGiveOne, ClauseGivesOne, ClausesGiv
 use Rattle.qss_theorems.specs.Items.{EquationGivesOne, EquationsGiveOne, GivesOne, IsStarted}
 use Rattle.qss_theorems.specs.Items.{ItemsAreKept, StartIsKept, StartsAreKept, StatementGivesOne}
 use Rattle.qss_theorems.specs.Items.{StatementsGiveOne}
+use Rattle.mu_names.specs.DeclaredRoles as stands
+use Rattle.mu_names.specs.declared.name_kind.NameContext.TheVariants as reading
+use Rattle.mu_names.specs.declared.name_kind.NameRequirement.TheVariants as wanted
+use Rattle.mu_tree.specs.FlatExpression as flat
+use Rattle.mu_tree.specs.declared.flat.FlatRole.TheVariants as flat_role
+use Rattle.mu_tree.specs.declared.tree.Prefix.TheVariants as prefixes
+use Rattle.mu_unroll.specs.declared.environment.NameDenotation.TheVariants as meant
 
 -- ---- declarations, and what is known of them
 

@@ -1,3 +1,4 @@
+mod Common
 mod Listings
 mod Courses
 pub mod Printed

@@ -1,26 +1,24 @@
 -- No field of a row of a source's machine needs quotes.
-use Rattle.std.proofs.Common.{◌≡◌, Bool, true, false, ◌==◌, ◌||◌, ℕ, zero, suc, ◌+◌, ◌/◌, ◌%◌, ℤ}
-use Rattle.std.proofs.Common.{pos, negsuc, List, [], ◌∷◌, ◌++◌, inl, inr, refl, sym, ap, ◌∙◌, subst}
-use Rattle.std.proofs.Common.{arith, decimal, append-nil, cond}
-use Rattle.std.specs.Prelude.{codes, filter, if◌then◌else◌, IsTrue, nat_lt}
-use Rattle.std.specs.Fmt.{digit_glyph, digits, digits_onto, signed_decimal}
-use Rattle.std.specs.List.{AllByRecursion}
+use Rattle.qss_theorems.proofs.Common
+use Common.{[], ℕ, ℤ, ◌++◌, ◌+◌, ◌==◌, ◌||◌, ◌∙◌, ◌∷◌, ◌≡◌, AllByRecursion, ap, append-nil, arith}
+use Common.{Bool, codes, CompilesTo, cond, decimal, default_writer, false, fields_text, header}
+use Common.{if◌then◌else◌, inl, inr, is_blank, is_name, IsTrue, IsVariableName, List, Machine}
+use Common.{name_of, nat_lt, needs_quotes, negsuc, plain_line, pos, refl, Row, row_text}
+use Common.{signed_decimal, state_count, subst, suc, sym, true, zero}
+use Rattle.std.proofs.Common.{◌/◌, ◌%◌}
+use Rattle.std.specs.Prelude.{filter}
+use Rattle.std.specs.Fmt.{digit_glyph, digits, digits_onto}
 use Rattle.std.proofs.lemmas.List.Folds.{list_any-append}
-use Rattle.csv.specs.Writing.{default_writer, needs_quotes, needs_byte, row_text, fields_text}
-use Rattle.csv.specs.Writing.{is_blank}
-use Rattle.mu_lexer.specs.Spelling.{is_digit, is_letter, is_name, is_name_rest}
-use Rattle.qss_compile.specs.Compilation.{CompilesTo}
-use Rattle.qss_machine.specs.Machines.{state_count}
+use Rattle.csv.specs.Writing.{needs_byte}
+use Rattle.mu_lexer.specs.Spelling.{is_digit, is_letter, is_name_rest}
 use Rattle.qss_machine.specs.Runs.{run_rows}
-use Rattle.qss_machine.specs.declared.machine_parts.Row.{Row}
 use Rattle.qss_machine.specs.declared.machine_parts.RowKind.{RowKind}
-use Rattle.qss_machine.specs.declared.machine_parts.RowKind.TheVariants as kind
-use Rattle.qss_machine.specs.declared.compiled_machine.Machine.{Machine}
 use Rattle.qss_rows.specs.Filters.{passes}
-use Rattle.qss_rows.specs.RowTexts.{fields_of, header, level_field, line_of, lines_of, name_field}
-use Rattle.qss_rows.specs.RowTexts.{name_of, plain_line, prints_name, state_field, word_of}
+use Rattle.qss_rows.specs.RowTexts.{fields_of, level_field, line_of, lines_of, name_field}
+use Rattle.qss_rows.specs.RowTexts.{prints_name, state_field, word_of}
 use Rattle.qss_theorems.proofs.Names.{at_any_place, machine_named, names_of, variable_named}
-use Rattle.qss_theorems.specs.CommaLines.{IsVariableName, LinesAreFields, plain_lines}
+use Rattle.qss_theorems.specs.CommaLines.{LinesAreFields, plain_lines}
+use Rattle.qss_machine.specs.declared.machine_parts.RowKind.TheVariants as kind
 
 abbrev pub IsPlain : List ℕ → Type 0
 IsPlain text = needs_quotes default_writer text ≡ false

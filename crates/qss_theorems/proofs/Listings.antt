@@ -1,14 +1,9 @@
 -- The flat model of a source is the listing of its tree.
-use Rattle.std.proofs.Common.{◌≡◌, IfOk, subst}
-use Rattle.std.specs.Prelude.{Result, Ok}
-use Rattle.mu_names.specs.Roles.{scope_of}
-use Rattle.mu_tree.specs.FlatExpression.{FlatModelTree}
-use Rattle.mu_tree.specs.ModelTree.{ModelTree}
+use Rattle.qss_theorems.proofs.Common
+use Common.{◌≡◌, FlatModelTree, IfOk, listed, Machine, ModelTree, Ok, Result, scope_of, subst}
+use Common.{UnrollErr}
 use Rattle.mu_unroll.proofs.Listed.{listed_right}
-use Rattle.mu_unroll.specs.Listing.{listed}
-use Rattle.mu_unroll.specs.declared.unroll_fault.UnrollErr.{UnrollErr}
 use Rattle.qss_compile.specs.Phases.{UnrollsTo}
-use Rattle.qss_machine.specs.declared.compiled_machine.Machine.{Machine}
 use Rattle.qss_compile.specs.Compilation.{TreeCompilesTo}
 use Rattle.qss_theorems.specs.Listings.{IsListingOf, MeansByListing, ListingsAreRight}
 

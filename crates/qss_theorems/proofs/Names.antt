@@ -1,46 +1,30 @@
 -- The names of a machine that a source compiles to: names of the language, or those of elements of arrays.
-use Rattle.std.proofs.Common.{◌≡◌, ◌<◌, ℕ, ◌+◌, zero, suc, List, [], ◌∷◌, ◌++◌, map, length, IfOk}
-use Rattle.std.proofs.Common.{inl, inr, refl, sym, ◌∙◌, subst, arith, length-append}
-use Rattle.std.specs.Prelude.{Bool, true, false, if◌then◌else◌, IsTrue, Option, Some, None, Result}
-use Rattle.std.specs.Prelude.{Ok, take, drop, slice_index_or}
-use Rattle.std.specs.List.{AllByRecursion}
-use Rattle.std.proofs.lemmas.List.{length-map}
+use Rattle.qss_theorems.proofs.Common
+use Common.{[], ℕ, ◌++◌, ◌+◌, ◌<◌, ◌∙◌, ◌∷◌, ◌≡◌, all_known, AllByRecursion, are_tokens, arith}
+use Common.{bind_result, Bool, clauses_of, CompilesTo, Declaration, declared_in, discrete_count}
+use Common.{DiscreteInfo, drop, each_then, equations_of, false, FlatModelTree, FlatRole, Fraction}
+use Common.{get_or as slice_index_or, IfOk, if◌then◌else◌, inl, inr, is_name, IsTrue}
+use Common.{IsVariableName, Known, length, length-append, length-map, List, listed, Machine, map}
+use Common.{ModelTree, name_of, None, Ok, Option, refl, ResolvedReference, Result, scope_of, Some}
+use Common.{state_count, StateInfo, statements_of, subst, suc, sym, symbols, take, true, UnrollErr}
+use Common.{zero}
 use Rattle.mu_grammar.proofs.ReadBackBodies.{behind_string}
 use Rattle.mu_grammar.proofs.ReadBackDeclarations.{GoodDeclaration, head_read, runs_keep}
 use Rattle.mu_grammar.proofs.ReadBackSums.{Tokens, tokens_of, behind}
 use Rattle.mu_grammar.specs.Grammar.{Symbol}
 use Rattle.mu_grammar.specs.ModelGrammar.{IsHead, SpellsModel, model}
-use Rattle.mu_grammar.specs.Symbols.{symbols}
-use Rattle.mu_lexer.specs.Spelling.{is_name}
-use Rattle.mu_names.specs.Roles.{all_known, scope_of}
-use Rattle.mu_names.specs.declared.declared_scope.Known.{Known}
 use Rattle.mu_names.specs.declared.declared_scope.DeclarationValues.{DeclarationValues}
-use Rattle.mu_num.specs.Fraction.{Fraction}
 use Rattle.mu_affine.specs.Rounded.{rounded_discrete, rounded_state}
-use Rattle.mu_tree.specs.FlatExpression.{FlatEquationTree, FlatBranchTree, FlatModelTree}
-use Rattle.mu_tree.specs.FlatExpression.{FlatVariable}
-use Rattle.mu_tree.specs.ModelTree.{Declaration, ModelTree, clauses_of, equations_of, statements_of}
-use Rattle.mu_tree.specs.declared.flat.FlatRole.{FlatRole}
+use Rattle.mu_tree.specs.FlatExpression.{FlatEquationTree, FlatBranchTree, FlatVariable}
 use Rattle.mu_tree.specs.declared.flat.FlatRole.TheVariants.{State, Discrete, Algebraic}
-use Rattle.mu_unroll.proofs.Stepping.{any_answer, each_then}
-use Rattle.mu_unroll.specs.Listing.{StartValue, listed, listed_clauses, listed_equations}
-use Rattle.mu_unroll.specs.Listing.{listed_starts, started}
+use Rattle.mu_unroll.proofs.Stepping.{any_answer}
+use Rattle.mu_unroll.specs.Listing.{StartValue, listed_clauses, listed_equations, listed_starts}
+use Rattle.mu_unroll.specs.Listing.{started}
 use Rattle.mu_unroll.specs.VariablePlaces.{elements_from, has_kind, scalar, scalars_in, scalars_of}
 use Rattle.mu_unroll.specs.VariablePlaces.{scalars_of_kind}
-use Rattle.mu_unroll.specs.Unrolling.{declared_in, start_at, with_start}
-use Rattle.mu_unroll.specs.ConstantValues.{bind_result}
-use Rattle.mu_unroll.specs.declared.unroll_fault.UnrollErr.{UnrollErr}
-use Rattle.mu_unroll.specs.declared.environment.ResolvedReference.{ResolvedReference}
-use Rattle.mu_unroll.specs.declared.environment.ResolvedReference.TheVariants as found_as
-use Rattle.mu_grammar.proofs.SourceTokens.{are_tokens}
-use Rattle.qss_compile.specs.Compilation.{CompilesTo}
-use Rattle.qss_machine.specs.Machines.{state_count, discrete_count}
-use Rattle.qss_machine.specs.declared.machine_parts.DiscreteInfo.{DiscreteInfo}
-use Rattle.qss_machine.specs.declared.machine_parts.StateInfo.{StateInfo}
-use Rattle.qss_machine.specs.declared.compiled_machine.Machine.{Machine}
-use Rattle.qss_rows.specs.RowTexts.{name_of}
+use Rattle.mu_unroll.specs.Unrolling.{start_at, with_start}
 use Rattle.qss_theorems.proofs.Listings.{is_listing}
-use Rattle.qss_theorems.specs.CommaLines.{IsVariableName}
+use Rattle.mu_unroll.specs.declared.environment.ResolvedReference.TheVariants as found_as
 
 -- ---- the declarations of a parsed model
 

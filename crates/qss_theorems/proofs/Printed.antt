@@ -1,20 +1,16 @@
 -- The run that is printed is a free one.
-use Rattle.std.proofs.Common.{ℕ, ◌+◌, List, [], ◌∷◌, arith}
+use Rattle.qss_theorems.proofs.Common
+use Common.{[], ℕ, ◌+◌, ◌∷◌, arith, IsFreeExecution, List, Machine, Rule, run_by_rule}
+use Common.{runs_are_legitimate, runs_stay_near, Snapshot, start_snapshot, suc, take, zero}
 use Rattle.std.proofs.lemmas.Int.{ints}
-use Rattle.std.specs.Prelude.{take, zero, suc}
 use Rattle.mu_num.specs.Levels.{IsWithinOneLevel}
 use Rattle.mu_num.proofs.NearLevels.{floor-free, near-free, inward-free}
-use Rattle.qss_machine.specs.declared.compiled_machine.Machine.{Machine}
-use Rattle.qss_machine.specs.Runs.{IsRun, IsFreeExecution, run_by}
-use Rattle.qss_machine.specs.Ticks.{Snapshot, IsQuantizing, start_snapshot}
-use Rattle.qss_machine.proofs.Admitted.{runs_are_legitimate}
-use Rattle.qss_machine.proofs.Near.{runs_stay_near}
+use Rattle.qss_machine.specs.Runs.{IsRun, run_by}
+use Rattle.qss_machine.specs.Ticks.{IsQuantizing}
 use Rattle.qss_machine.proofs.OneRun.{runs_are_unique}
 use Rattle.qss_machine.proofs.Rules.{rules_are_free}
 use Rattle.qss_events.proofs.KnownRows.{run_known}
-use Rattle.qss_events.specs.RunTexts.{run_by_rule}
 use Rattle.qss_quant.specs.LevelRules.{level_by}
-use Rattle.qss_quant.specs.declared.quantizer.Rule.{Rule}
 use Rattle.qss_quant.specs.declared.quantizer.Rule.TheVariants.{Floor, Near, Inward}
 use Rattle.qss_theorems.specs.Printed.{PrintedRunsAreFree}
 

@@ -1,20 +1,16 @@
 -- No field of a row of a second-order run needs quotes in a source's machine.
-use Rattle.std.proofs.Common.{◌≡◌, Bool, false, ℕ, ℤ, List, [], ◌∷◌, ◌++◌, refl, ap, ◌∙◌, decimal}
-use Rattle.std.specs.Prelude.{nat_lt}
-use Rattle.csv.specs.Writing.{default_writer, needs_quotes}
-use Rattle.qss_compile.specs.Compilation.{CompilesTo}
-use Rattle.qss_machine.specs.Machines.{state_count}
-use Rattle.qss_machine.specs.declared.compiled_machine.Machine.{Machine}
+use Rattle.qss_theorems.proofs.Common
+use Common.{[], ℕ, ℤ, ◌++◌, ◌∙◌, ◌∷◌, ◌≡◌, ap, Bool, CompilesTo, decimal, default_writer, false}
+use Common.{header, List, Machine, name_of, nat_lt, needs_quotes, plain_line, refl, state_count}
 use Rattle.qss_order2.specs.declared.order2_rows.Kind2.{Kind2}
-use Rattle.qss_order2.specs.declared.order2_rows.Kind2.TheVariants as kind
 use Rattle.qss_order2.specs.declared.order2_rows.Row2.{Row2}
 use Rattle.qss_order2.specs.SecondRowLines.{fields2_of, level2_field, line2_of, lines2_of}
 use Rattle.qss_order2.specs.SecondRowLines.{state2_field, word2_of}
 use Rattle.qss_order2.specs.SecondRuns.{run2_rows}
-use Rattle.qss_rows.specs.RowTexts.{header, name_of, plain_line}
-use Rattle.qss_theorems.proofs.Lines.{IsPlain, any_named, plain_decimal, plain_record}
-use Rattle.qss_theorems.proofs.Lines.{plain_signed, plain_where}
+use Rattle.qss_theorems.proofs.Lines.{IsPlain, any_named, plain_decimal, plain_record, plain_signed}
+use Rattle.qss_theorems.proofs.Lines.{plain_where}
 use Rattle.qss_theorems.specs.CommaLines.{SecondOrderLinesAreFields, plain_second_lines}
+use Rattle.qss_order2.specs.declared.order2_rows.Kind2.TheVariants as kind
 
 -- ---- fields
 

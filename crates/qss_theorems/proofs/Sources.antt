@@ -1,16 +1,11 @@
 -- Facts that hold for every model that a source parses as.
-use Rattle.std.proofs.Common.{ℕ, List, IfOk, subst}
-use Rattle.std.specs.Prelude.{Result}
+use Rattle.qss_theorems.proofs.Common
+use Common.{ℕ, are_tokens, FlatModelTree, IfOk, List, ModelTree, Result, scope_of, subst, symbols}
+use Common.{UnrollErr}
 use Rattle.mu_grammar.proofs.ReadBackModels.{models_read_back}
-use Rattle.mu_grammar.specs.Symbols.{symbols}
-use Rattle.mu_names.specs.Roles.{scope_of}
-use Rattle.mu_tree.specs.FlatExpression.{FlatModelTree}
 use Rattle.mu_tree.specs.FlatModels.{IsFlatModel}
-use Rattle.mu_tree.specs.ModelTree.{ModelTree}
 use Rattle.mu_unroll.proofs.FlatModels.{flat_model_right}
 use Rattle.mu_unroll.specs.WellFormed.{IsWellFormed}
-use Rattle.mu_unroll.specs.declared.unroll_fault.UnrollErr.{UnrollErr}
-use Rattle.mu_grammar.proofs.SourceTokens.{are_tokens}
 use Rattle.qss_compile.proofs.WellFormed.{well_formed}
 use Rattle.qss_compile.specs.Compilation.{FlatSource, IsFlatOf, SourceParsesAs}
 use Rattle.qss_theorems.specs.Sources.{IsSpelledAgain, SourcesAreWellFormed}

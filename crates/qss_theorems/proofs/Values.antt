@@ -1,32 +1,26 @@
 -- A constant expression without faults has a value.
-use Rattle.std.proofs.Common.{◌≡◌, ℕ, List, [], ◌∷◌, ◌++◌, refl, ◌∙◌, subst}
-use Rattle.std.specs.Prelude.{Bool, true, false, ◌&&◌, is_some, if◌then◌else◌, nat_eq, unsigned_abs}
-use Rattle.std.specs.Prelude.{bytes_eq, Option, Some, None, Result, Ok, Err, pos}
+use Rattle.qss_theorems.proofs.Common
+use Common.{[], ℕ, ◌&&◌, ◌++◌, ◌∙◌, ◌∷◌, ◌≡◌, Algebraic, Bool, bytes_eq, constants_with}
+use Common.{Declaration, declaration_faults, Declared, Discrete, Element, Err, Expression, factor}
+use Common.{Factors, false, Fraction, if◌then◌else◌, is_constant, is_some, List, Loop}
+use Common.{meaning_after, Missing, NameErr, NameKind, no_constants, no_factors, no_terms, None}
+use Common.{Now, Number, Ok, Option, Parameter, pos, Power, Previous, Product, refl, Result, Some}
+use Common.{State, subst, Sum, term, Terms, true, Variable, Whole, whole}
+use Rattle.std.specs.Prelude.{nat_eq, unsigned_abs}
 use Rattle.std.specs.Option.{option_or}
 use Rattle.mu_num.specs.Decimal.{decimal_value}
-use Rattle.mu_num.specs.Fraction.{Fraction, whole}
 use Rattle.mu_num.specs.declared.NumErr.{NumErr}
 use Rattle.mu_names.specs.Constant.{both, both_faults, faults, faults_of, indexed_faults, joined}
 use Rattle.mu_names.specs.Constant.{multiplied, name_faults, one_faults, one, product_faults}
 use Rattle.mu_names.specs.Constant.{product_value, raised, sum_faults, sum_value, value, value_of}
 use Rattle.mu_names.specs.Constant.{constant_of}
-use Rattle.mu_names.specs.DeclarationFaults.{binding_faults, constants_with, declaration_faults}
-use Rattle.mu_names.specs.DeclarationFaults.{is_constant, no_constants, meaning_after, meaning_of}
-use Rattle.mu_names.specs.DeclarationFaults.{optional_faults, optional_value, size_faults, size_of}
-use Rattle.mu_names.specs.DeclarationFaults.{whole_faults, is_size}
+use Rattle.mu_names.specs.DeclarationFaults.{binding_faults, meaning_of, optional_faults}
+use Rattle.mu_names.specs.DeclarationFaults.{optional_value, size_faults, size_of, whole_faults}
+use Rattle.mu_names.specs.DeclarationFaults.{is_size}
 use Rattle.mu_names.specs.NameTables.{added_at}
-use Rattle.mu_names.specs.declared.name_fault.NameErr.{NameErr}
 use Rattle.mu_names.specs.declared.name_fault.NameErr.TheVariants.{NotWhole, Size}
 use Rattle.mu_names.specs.declared.constant_values.Meaning.{Meaning}
 use Rattle.mu_names.specs.declared.constant_values.Meaning.TheVariants as meaning
-use Rattle.mu_names.specs.declared.name_kind.Role.TheVariants.{State, Discrete, Algebraic}
-use Rattle.mu_names.specs.declared.name_kind.Role.TheVariants.{Parameter}
-use Rattle.mu_names.specs.declared.name_kind.NameKind.{NameKind}
-use Rattle.mu_names.specs.declared.name_kind.NameKind.TheVariants.{Loop, Declared, Missing}
-use Rattle.mu_tree.specs.Expression.{Expression, Number, Variable, Now, Previous, Sum, Product}
-use Rattle.mu_tree.specs.Expression.{Power, Whole, Element, Terms, no_terms, term, Factors}
-use Rattle.mu_tree.specs.Expression.{no_factors, factor}
-use Rattle.mu_tree.specs.ModelTree.{Declaration}
 
 -- lists whose concatenation is empty
 pub first_none : {X : Type 0} (xs ys : List X) → xs ++ ys ≡ [] → xs ≡ []

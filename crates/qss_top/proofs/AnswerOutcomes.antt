@@ -1,32 +1,27 @@
 -- The outcome of a call that writes the answer to a certificate, a trace or a machine.
-use Rattle.std.proofs.Common.{◌≡◌, ◌≢◌, ◌<◌, ◌^◌, Bool, false, ℕ, List, [], ◌∷◌, length, pos, refl}
-use Rattle.std.proofs.Common.{sym, ap, ◌∙◌, subst, inl, inr}
-use Rattle.std.specs.declared.option.Option.{Option}
+use Rattle.qss_top.proofs.Common
+use Common.{[], ℕ, ◌<◌, ◌^◌, ◌∙◌, ◌∷◌, ◌≡◌, ◌≢◌, ap, Bool, Certificate, ComparisonAnswers, false}
+use Common.{inl, inr, IsInScope, IsOutsideBy, length, List, Machine, no_certificate, Option, Origin}
+use Common.{Outside, refl, rejected, rejection, subst, sym, text_answer, WritesAnswer}
+use Rattle.std.proofs.Common.{pos}
 use Rattle.cert_check.specs.CertificateLines.{Line as TextLine, lines}
-use Rattle.cert_check.specs.Scope.{IsInScope, IsOutsideBy}
-use Rattle.cert_check.specs.declared.certificate_scope.Outside.{Outside}
 use Rattle.cert_check.specs.Written.{lines_text, line_text, fields_of_line}
-use Rattle.cert_check.specs.declared.certificate.Certificate.{Certificate}
-use Rattle.qss_machine.specs.declared.compiled_machine.Machine.{Machine}
-use Rattle.qss_answers.specs.Answers as Results
 use Rattle.qss_answers.specs.Answers.{Ends}
 use Rattle.qss_answers.specs.CertificateAnswers.{IsCertification, IsUpgrade}
 use Rattle.qss_answers.specs.ProposalAnswers.{IsProposed}
 use Rattle.qss_answers.specs.TraceAnswers.{IsChecked, summary}
 use Rattle.qss_answers.specs.declared.answer_result.AnswerResult.{AnswerResult}
+use Rattle.qss_answers.proofs.BoundsHold.{bounds, kept_texts}
+use Rattle.qss_top.specs.CertificateOutcomes.{outcome_by}
+use Rattle.qss_top.specs.MachineAnswers.{IsAnswerFor, IsCertifyAnswer, IsUpgradeAnswer}
+use Rattle.qss_top.specs.MachineAnswers.{IsCheckAnswer}
+use Rattle.qss_top.proofs.FrameFacts.{answer_writes, fault_writes, memory_writes, rejection_writes}
+use Rattle.qss_top.proofs.OutcomeFacts.{append_none, row_none}
+use Rattle.qss_answers.specs.Answers as Results
 use Rattle.qss_answers.specs.declared.answer_result.AnswerResult.TheVariants as ending
 use Rattle.qss_answers.specs.declared.refusal.Refusal.TheVariants as reasons
-use Rattle.qss_answers.proofs.BoundsHold.{bounds, kept_texts}
 use Rattle.qss_answers.specs.declared.comparison_ending.ComparisonStop.TheVariants as stops
-use Rattle.qss_top.specs.CertificateOutcomes.{outcome_by}
-use Rattle.qss_top.specs.CommandAnswers.{Origin, ComparisonAnswers, no_certificate}
-use Rattle.qss_top.specs.Frames.{WritesAnswer}
-use Rattle.qss_top.specs.MachineAnswers.{rejected, rejection, text_answer, IsAnswerFor}
-use Rattle.qss_top.specs.MachineAnswers.{IsCertifyAnswer, IsUpgradeAnswer, IsCheckAnswer}
 use Rattle.qss_top.specs.declared.command_outcome.Outcome.TheVariants as outcome
-use Rattle.qss_top.proofs.FrameFacts.{answer_writes, fault_writes, memory_writes}
-use Rattle.qss_top.proofs.FrameFacts.{rejection_writes}
-use Rattle.qss_top.proofs.OutcomeFacts.{append_none, row_none}
 
 -- ---- the text of an answer is not empty
 

@@ -1,31 +1,21 @@
 -- The call that an observer sees computes its specification.
-use Rattle.std.proofs.Common.{◌≡◌, ◌≢◌, ◌⊎◌, Bool, true, false, ℕ, List, [], ◌∷◌, ◌++◌, refl, sym}
-use Rattle.std.proofs.Common.{subst, ap, ◌∙◌, inl, inr, None, Some, length, take}
-use Rattle.std.specs.declared.option.Option.{Option}
-use Rattle.std.specs.Prelude.{codes}
-use Rattle.std.specs.Io.KnownBytes.{Appends}
-use Rattle.std.proofs.KnownBytes.{Appends-nil}
-use Rattle.mu_io.specs.Files.{Files}
-use Rattle.mu_io.specs.Readings.{Reading, reading, faulted}
-use Rattle.qss_cli.specs.Commands.{Command, files_of, writes_as_it_goes}
+use Rattle.qss_top.proofs.Common
+use Common.{[], ℕ, ◌++◌, ◌∙◌, ◌∷◌, ◌≡◌, ◌≢◌, ◌⊎◌, AddsReadings, Answer, Answers, AnswersFromReads}
+use Common.{ap, Appends, Appends-nil, AreReadInOrder, ArgumentsAnswerFromReads, Bool, codes}
+use Common.{Command, FailsAtFile, false, faulted, Files, files_of, inl, inr, is_defined}
+use Common.{is_too_long, IsAnswerFromReads, IsMessageText, IsOutcome, IsOutOfMemoryPrefix, IsWhole}
+use Common.{leaves_out, length, line_text, List, MayHaveContents, None, Option, Outcome, Reading}
+use Common.{reading, refl, Some, Status, status_of, subst, sym, take, takes_memory, true}
+use Common.{writes_as_it_goes}
 use Rattle.qss_top.specs.Calls.{ComputesSpecification, IsTrueToReads}
-use Rattle.qss_top.specs.CommandAnswers.{Answers}
-use Rattle.qss_top.specs.CommandOutcomes.{status_of, line_text, takes_memory, IsReported}
-use Rattle.qss_top.specs.CommandOutcomes.{IsWhole, IsOutcome}
-use Rattle.qss_top.specs.Frames.{AddsReadings}
-use Rattle.qss_top.specs.MachineAnswers.{Answer, IsMessageText}
-use Rattle.qss_top.specs.ReadAnswers.{is_too_long, AreReadInOrder, MayHaveContents}
-use Rattle.qss_top.specs.ReadAnswers.{IsAnswerFromReads, AnswersFromReads, ArgumentsAnswerFromReads}
-use Rattle.qss_top.specs.ReadAnswers.{DeterminesAnswer, FailsAtFile}
-use Rattle.qss_top.specs.Statuses.{is_defined, leaves_out}
-use Rattle.qss_top.specs.WrittenTexts.{IsCutText, IsLineWritten, IsOutOfMemoryPrefix, IsPrefix}
-use Rattle.qss_top.specs.declared.command_outcome.Outcome.{Outcome}
-use Rattle.qss_top.specs.declared.command_outcome.Outcome.TheVariants as outcome
-use Rattle.qss_top.specs.declared.status.Status.{Status}
-use Rattle.qss_top.specs.declared.status.Status.TheVariants as ends
+use Rattle.qss_top.specs.CommandOutcomes.{IsReported}
+use Rattle.qss_top.specs.ReadAnswers.{DeterminesAnswer}
+use Rattle.qss_top.specs.WrittenTexts.{IsCutText, IsLineWritten, IsPrefix}
 use Rattle.qss_top.proofs.OutcomeFacts.{defined_whole}
 use Rattle.qss_top.proofs.ReadFacts.{stripped}
 use Rattle.qss_top.proofs.TopFacts.{IsStatus, outcome_kinds, outcome_of, status_is}
+use Rattle.qss_top.specs.declared.command_outcome.Outcome.TheVariants as outcome
+use Rattle.qss_top.specs.declared.status.Status.TheVariants as ends
 
 -- contents are contents of which these bytes were read
 read_of_itself : (stopped : Bool) (contents : List (List ℕ))

@@ -1,26 +1,19 @@
 -- The answers of the steps of commands on one file and on two files.
-use Rattle.std.proofs.Common.{◌≡◌, ◌⊎◌, ◌<◌, ◌^◌, ℕ, List, [], ◌∷◌, length, refl, inl, inr}
-use Rattle.cert_check.specs.Scope.{IsInScope}
-use Rattle.qss_machine.specs.declared.compiled_machine.Machine.{Machine}
-use Rattle.qss_compile.specs.Compilation.{IsRefused}
-use Rattle.qss_cli.specs.Commands.{Side, first_run, second_run, traced, files_of, files_of_side}
+use Rattle.qss_top.proofs.Common
+use Common.{[], ℕ, ◌<◌, ◌^◌, ◌∷◌, ◌≡◌, ◌⊎◌, Answer, Answers, command_on, command_with, files_of}
+use Common.{inl, inr, IsInScope, IsRefused, length, limit_of, List, long_answer, Machine, names_of}
+use Common.{refl, refusal, ScopeAnswers, Task, too_long, TwoFileTask}
+use Rattle.qss_cli.specs.Commands.{Side, first_run, second_run, traced, files_of_side}
 use Rattle.qss_cli.specs.RelativeQuanta.{share_of_task}
-use Rattle.qss_cli.specs.Requests.{command_on, command_with}
-use Rattle.qss_cli.specs.declared.request.Task.{Task}
-use Rattle.qss_cli.specs.declared.request.Task.TheVariants as tasks
-use Rattle.qss_cli.specs.declared.request.TwoFileTask.{TwoFileTask}
-use Rattle.qss_cli.specs.declared.request.TwoFileTask.TheVariants as two
-use Rattle.qss_top.specs.CertificateOutcomes.{SourceAnswers, ScopeAnswers, TextAnswers}
-use Rattle.qss_top.specs.CertificateOutcomes.{files_after_text, kind_in}
-use Rattle.qss_top.specs.CommandAnswers.{Answers, IsOutOfScope, IsScopedMachine}
-use Rattle.qss_top.specs.CommandAnswers.{origin_of}
-use Rattle.qss_top.specs.ComparisonOutcomes.{names_of}
-use Rattle.qss_top.specs.FileReadings.{limit_of, long_answer}
-use Rattle.qss_top.specs.MachineAnswers.{Answer, IsSourceRefusal, refusal, too_long}
+use Rattle.qss_top.specs.CertificateOutcomes.{SourceAnswers, TextAnswers, files_after_text, kind_in}
+use Rattle.qss_top.specs.CommandAnswers.{IsOutOfScope, IsScopedMachine, origin_of}
+use Rattle.qss_top.specs.MachineAnswers.{IsSourceRefusal}
 use Rattle.qss_top.specs.Tasks.{IsSourceAnswer}
-use Rattle.qss_top.specs.declared.status.Status.TheVariants as ends
 use Rattle.qss_top.proofs.AnswerOutcomes.{long_certify, long_upgrade, long_check, long_compare}
 use Rattle.qss_top.proofs.Sources.{long_for}
+use Rattle.qss_cli.specs.declared.request.Task.TheVariants as tasks
+use Rattle.qss_cli.specs.declared.request.TwoFileTask.TheVariants as two
+use Rattle.qss_top.specs.declared.status.Status.TheVariants as ends
 
 -- ---- a command on one file
 

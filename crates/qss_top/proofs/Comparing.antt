@@ -1,32 +1,26 @@
 -- The comparison of two runs: the answers after each step, for the bytes that were read.
-use Rattle.std.proofs.Common.{◌≡◌, Bool, false, ℕ, List, [], ◌++◌, refl, inl, inr}
-use Rattle.std.specs.declared.option.Option.{Option}
-use Rattle.std.specs.Prelude.{Result, Ok, Err, IfOk, IfErr}
-use Rattle.mu_io.specs.Files.{Files}
-use Rattle.mu_io.specs.Readings.{Reading}
+use Rattle.qss_top.proofs.Common
+use Common.{[], ℕ, ◌++◌, ◌≡◌, Answer, AnswersFromFiles, Bool, Certificate, ComparisonAnswers, Err}
+use Common.{false, Files, inl, inr, IsInScope, List, Machine, names_of, Ok, Option, Origin, Outcome}
+use Common.{overflowed, Reading, refl, rejected, traced as given_trace, WritesAnswer}
+use Rattle.std.specs.Prelude.{Result, IfOk, IfErr}
 use Rattle.qss_machine.specs.Machines.{state_count}
-use Rattle.qss_machine.specs.declared.compiled_machine.Machine.{Machine}
 use Rattle.qss_rows.specs.RowTexts.{name_of}
-use Rattle.cert_check.specs.Scope.{IsInScope}
-use Rattle.cert_check.specs.declared.certificate.Certificate.{Certificate}
 use Rattle.qss_trace.specs.declared.trace.Trace.{Trace}
-use Rattle.qss_answers.specs.Comparisons.{RunSource, traced as given_trace, MayStop, HasNoRunTrace}
-use Rattle.qss_answers.specs.Comparisons.{IsUsableCertificate, IsRunTrace}
-use Rattle.qss_answers.specs.declared.refusal.Refusal.TheVariants as reasons
+use Rattle.qss_answers.specs.Comparisons.{RunSource, MayStop, HasNoRunTrace, IsUsableCertificate}
+use Rattle.qss_answers.specs.Comparisons.{IsRunTrace}
 use Rattle.qss_answers.specs.declared.comparison_ending.ComparisonStop.{ComparisonStop}
-use Rattle.qss_answers.specs.declared.comparison_ending.ComparisonStop.TheVariants as stops
 use Rattle.qss_answers.proofs.ComparisonEnds.{given_size}
-use Rattle.qss_top.specs.CommandAnswers.{Origin, given_run, in_file, IsNamedRun, AreNamedRuns}
-use Rattle.qss_top.specs.CommandAnswers.{ComparisonAnswers, no_first_run, no_second_run}
-use Rattle.qss_top.specs.CommandAnswers.{not_compared, compared}
-use Rattle.qss_top.specs.ComparisonOutcomes.{IsStopOutcome, GivesSource, ObtainsTrace, names_of}
-use Rattle.qss_top.specs.ComparisonOutcomes.{IsTraceResult}
-use Rattle.qss_top.specs.ComparisonOutcomes.{AnswersOfSource, AnswersFromRun, FirstRunAnswers}
-use Rattle.qss_top.specs.Frames.{AnswersFromFiles, WritesAnswer}
-use Rattle.qss_top.specs.MachineAnswers.{Answer, comparison_stop_answer, overflowed, rejected}
-use Rattle.qss_top.specs.declared.command_outcome.Outcome.{Outcome}
+use Rattle.qss_top.specs.CommandAnswers.{given_run, in_file, IsNamedRun, AreNamedRuns, no_first_run}
+use Rattle.qss_top.specs.CommandAnswers.{no_second_run, not_compared, compared}
+use Rattle.qss_top.specs.ComparisonOutcomes.{IsStopOutcome, GivesSource, ObtainsTrace}
+use Rattle.qss_top.specs.ComparisonOutcomes.{IsTraceResult, AnswersOfSource, AnswersFromRun}
+use Rattle.qss_top.specs.ComparisonOutcomes.{FirstRunAnswers}
+use Rattle.qss_top.specs.MachineAnswers.{comparison_stop_answer}
 use Rattle.qss_top.proofs.FileSteps.{answer_step, file_step, map_step, no_file_step}
 use Rattle.qss_top.proofs.FrameFacts.{memory_writes, rejection_writes}
+use Rattle.qss_answers.specs.declared.refusal.Refusal.TheVariants as reasons
+use Rattle.qss_answers.specs.declared.comparison_ending.ComparisonStop.TheVariants as stops
 
 -- an allocation failed, or the comparison has this answer, and nothing is written
 pub stop_writes : {K : Type 0} {written : K → Option (List ℕ)} {faults : K → ℕ}

@@ -1,27 +1,20 @@
 -- A file of a command that is read, or is not read up to its end.
-use Rattle.std.proofs.Common.{◌⊎◌, ◌≡◌, ◌≢◌, ◌≤◌, ◌-◌, Bool, true, false, ℕ, List, [], ◌∷◌, ◌++◌}
-use Rattle.std.proofs.Common.{length, bytes_eq, refl, sym, ap, ◌∙◌, subst, arith, inl, inr, Some}
-use Rattle.std.proofs.Common.{length-append}
-use Rattle.std.specs.declared.option.Option.{Option}
+use Rattle.qss_top.proofs.Common
+use Common.{[], ℕ, ◌++◌, ◌∙◌, ◌∷◌, ◌≡◌, ◌≢◌, ◌≤◌, ◌⊎◌, AddsReadings, ap, arith, Bool, false}
+use Common.{faulted, FileKind, Files, HasOneMoreFault, in_progress, inl, inr, is_too_long}
+use Common.{IsFileFrame, IsOf, IsOutcome, length, List, long_answer, long_outcome, Option, Outcome}
+use Common.{ReadFails, Reading, reading, refl, Some, subst, sym, too_long, true}
+use Rattle.std.proofs.Common.{◌-◌, bytes_eq, length-append}
 use Rattle.std.specs.Prelude.{All}
 use Rattle.std.proofs.lemmas.List.{take_at}
 use Rattle.std.proofs.lemmas.Slice.Eq.{bytes_eq-Decides}
-use Rattle.mu_io.specs.FaultCounts.{HasOneMoreFault, OnlyCounts}
-use Rattle.mu_io.specs.Files.{Files}
-use Rattle.mu_io.specs.Readings.{Reading, reading, in_progress, faulted, IsOf, AreOfKnown, since}
-use Rattle.mu_io.specs.Readings.{ReadFails, ReadsPart}
-use Rattle.qss_top.specs.CommandOutcomes.{IsOutcome}
-use Rattle.qss_top.specs.FileReadings.{long_outcome, long_answer}
-use Rattle.qss_top.specs.Frames.{AddsReadings, IsFileFrame}
-use Rattle.qss_top.specs.MachineAnswers.{too_long}
-use Rattle.qss_top.specs.ReadAnswers.{is_too_long}
+use Rattle.mu_io.specs.FaultCounts.{OnlyCounts}
+use Rattle.mu_io.specs.Readings.{AreOfKnown, since, ReadsPart}
+use Rattle.qss_top.proofs.OutcomeFacts.{refused_now, rejected_now}
 use Rattle.qss_answers.specs.declared.refusal.Refusal.TheVariants as reasons
-use Rattle.qss_top.specs.declared.command_outcome.Outcome.{Outcome}
 use Rattle.qss_top.specs.declared.command_outcome.Outcome.TheVariants as outcome
-use Rattle.qss_top.specs.declared.file_reading.FileKind.{FileKind}
 use Rattle.qss_top.specs.declared.file_reading.FileKind.TheVariants as kinds
 use Rattle.qss_top.specs.declared.status.Status.TheVariants as ends
-use Rattle.qss_top.proofs.OutcomeFacts.{refused_now, rejected_now}
 
 -- the outcome for a file that is too long is that of the answer, which rejects the file
 -- it is neither a fault nor an invalid command line

@@ -1,25 +1,17 @@
 -- The steps of a command that reads files: from the answers of a later step to those of an earlier.
-use Rattle.std.proofs.Common.{◌≡◌, ◌≢◌, ◌⊎◌, ◌<◌, Bool, ℕ, List, [], ◌∷◌, length, take, sym, ◌∙◌}
-use Rattle.std.proofs.Common.{inl, inr}
+use Rattle.qss_top.proofs.Common
+use Common.{[], ℕ, ◌<◌, ◌∙◌, ◌∷◌, ◌≡◌, ◌≢◌, ◌⊎◌, Answer, AnswersFromFiles, AnswersFromReads}
+use Common.{Appends, Appends-nil, AreReadInOrder, Bool, Err, FailsAtFile, FileKind, Files, inl, inr}
+use Common.{IsAnsweredBy, length, limit_of, List, long_answer, long_outcome, MayHaveContents, Ok}
+use Common.{Option, Outcome, Reading, sym, take, WritesAnswer}
 use Rattle.std.proofs.Math.Seq.{take-nil}
-use Rattle.std.specs.declared.option.Option.{Option}
-use Rattle.std.specs.Prelude.{Ok, Err, Vec}
+use Rattle.std.specs.Prelude.{Vec}
 use Rattle.std.specs.declared.alloc.Global.{Global}
-use Rattle.std.specs.Io.KnownBytes.{Appends}
-use Rattle.std.proofs.KnownBytes.{Appends-nil}
-use Rattle.mu_io.specs.Files.{Files}
-use Rattle.mu_io.specs.Readings.{Reading}
-use Rattle.qss_top.specs.FileReadings.{IsNotRead, ReadsFile, limit_of, long_answer, long_outcome}
-use Rattle.qss_top.specs.Frames.{AnswersFromFiles, IsAnsweredBy, WritesAnswer}
-use Rattle.qss_top.specs.MachineAnswers.{Answer}
-use Rattle.qss_top.specs.ReadAnswers.{AnswersFromReads, AreReadInOrder, MayHaveContents}
-use Rattle.qss_top.specs.ReadAnswers.{FailsAtFile}
-use Rattle.qss_top.specs.declared.command_outcome.Outcome.{Outcome}
-use Rattle.qss_top.specs.declared.command_outcome.Outcome.TheVariants as outcome
-use Rattle.qss_top.specs.declared.file_reading.FileKind.{FileKind}
+use Rattle.qss_top.specs.FileReadings.{IsNotRead, ReadsFile}
 use Rattle.qss_top.proofs.FileFacts.{long_is}
 use Rattle.qss_top.proofs.FrameFacts.{read_on, unread, unwritten_output}
 use Rattle.qss_top.proofs.ReadFacts.{answer_read, fault_read, long_read, map_read, whole_read}
+use Rattle.qss_top.specs.declared.command_outcome.Outcome.TheVariants as outcome
 
 module _ {S K : Type 0} {known : S → Option Files} {counts : S → List ℕ → ℕ}
     {readings : S → List Reading} {written : K → Option (List ℕ)} {faults : K → ℕ}

@@ -1,29 +1,18 @@
 -- The frame conditions of calls.
-use Rattle.std.proofs.Common.{◌≡◌, ◌≢◌, ◌⊎◌, Bool, true, false, ℕ, List, [], ◌++◌, refl, sym, ap}
-use Rattle.std.proofs.Common.{◌∙◌, subst, arith, Some, append_assoc, inl, inr}
-use Rattle.std.specs.Io.KnownBytes.{Appends}
-use Rattle.std.proofs.KnownBytes.{Appends-nil}
-use Rattle.std.specs.declared.option.Option.{Option}
+use Rattle.qss_top.proofs.Common
+use Common.{[], ℕ, ◌++◌, ◌∙◌, ◌≡◌, ◌≢◌, ◌⊎◌, AddsReadings, Answer, ap, append_assoc, Appends}
+use Common.{Appends-nil, arith, Bool, command_on, command_with, false, Files, HasOneMoreFault, inl}
+use Common.{inr, IsAnsweredBy, IsFileFrame, IsMessageText, IsOf, leaves_out, line_text, List}
+use Common.{Message, Option, Outcome, Reading, refl, refusal, Some, status_of, subst, sym, Task}
+use Common.{true, TwoFileTask, writes_as_it_goes, WritesAnswer}
 use Rattle.std.proofs.lemmas.List.Elements.{All-nil, All-append}
-use Rattle.mu_io.specs.FaultCounts.{HasOneMoreFault}
-use Rattle.mu_io.specs.Files.{Files}
-use Rattle.mu_io.specs.Readings.{Reading, IsOf}
 use Rattle.mu_io.specs.Sinks.{AppendsPrefix, EndsByFault}
-use Rattle.qss_cli.specs.Commands.{writes_as_it_goes}
-use Rattle.qss_cli.specs.Requests.{command_on, command_with}
-use Rattle.qss_cli.specs.declared.request.Task.{Task}
-use Rattle.qss_cli.specs.declared.request.Task.TheVariants as tasks
-use Rattle.qss_cli.specs.declared.request.TwoFileTask.{TwoFileTask}
-use Rattle.qss_cli.specs.declared.request.TwoFileTask.TheVariants as two
-use Rattle.qss_top.specs.MachineAnswers.{Answer, Message, IsMessageText, refusal}
-use Rattle.qss_top.specs.Statuses.{leaves_out}
 use Rattle.qss_top.specs.Tasks.{task_goes}
-use Rattle.qss_top.specs.CommandOutcomes.{line_text, status_of}
-use Rattle.qss_top.specs.Frames.{AddsReadings, IsFileFrame, IsOutputFrame, IsAnsweredBy}
-use Rattle.qss_top.specs.Frames.{WritesAnswer}
-use Rattle.qss_top.specs.declared.command_outcome.Outcome.{Outcome}
-use Rattle.qss_top.specs.declared.command_outcome.Outcome.TheVariants as outcome
+use Rattle.qss_top.specs.Frames.{IsOutputFrame}
 use Rattle.qss_top.proofs.OutcomeFacts.{is_answer, whole_outcome}
+use Rattle.qss_cli.specs.declared.request.Task.TheVariants as tasks
+use Rattle.qss_cli.specs.declared.request.TwoFileTask.TheVariants as two
+use Rattle.qss_top.specs.declared.command_outcome.Outcome.TheVariants as outcome
 
 -- ---- the output
 

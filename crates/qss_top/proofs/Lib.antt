@@ -1,3 +1,4 @@
+mod Common
 pub mod Sources
 pub mod Refusals
 mod OutcomeFacts

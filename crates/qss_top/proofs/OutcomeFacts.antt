@@ -1,22 +1,15 @@
 -- The outcomes of running a machine.
-use Rattle.std.proofs.Common.{◌≡◌, Bool, true, false, ℕ, List, [], ◌∷◌, ◌++◌, refl, sym, ap, ◌∙◌, subst}
-use Rattle.std.proofs.Common.{append_assoc, append-nil, inl}
-use Rattle.std.specs.declared.option.Option.{Option}
-use Rattle.std.specs.Prelude.{codes, flat_map}
-use Rattle.std.proofs.KnownBytes.{Appends-nil}
+use Rattle.qss_top.proofs.Common
+use Common.{[], ℕ, ◌++◌, ◌∙◌, ◌∷◌, ◌≡◌, Answer, ap, append-nil, append_assoc, Appends, Appends-nil}
+use Common.{Bool, codes, false, is_defined, IsMessageText, IsOutcome, IsWhole}
+use Common.{line_text as outcome_text, List, Message, Option, Outcome, refl, Refusal, refusal}
+use Common.{rejected, rejection, Status, status_of, status_of_refusal, subst, sym, true}
+use Rattle.std.specs.Prelude.{flat_map}
 use Rattle.std.proofs.lemmas.List.Concat.{flat_map-append}
-use Rattle.std.specs.Io.KnownBytes.{Appends}
 use Rattle.csv.specs.Writing.{default_writer, row_text, row_body, end_text}
 use Rattle.qss_rows.specs.RowTexts.{header}
-use Rattle.qss_answers.specs.declared.refusal.Refusal.{Refusal}
-use Rattle.qss_top.specs.MachineAnswers.{Answer, Message, IsMessageText}
-use Rattle.qss_top.specs.MachineAnswers.{refusal, rejection, rejected, status_of_refusal}
-use Rattle.qss_top.specs.CommandOutcomes.{IsWhole, IsOutcome, status_of, line_text as outcome_text}
-use Rattle.qss_top.specs.Statuses.{is_defined}
 use Rattle.qss_top.specs.WrittenTexts.{StopsAtLine}
-use Rattle.qss_top.specs.declared.command_outcome.Outcome.{Outcome}
 use Rattle.qss_top.specs.declared.command_outcome.Outcome.TheVariants as outcome
-use Rattle.qss_top.specs.declared.status.Status.{Status}
 
 -- ---- outcomes
 

@@ -1,19 +1,13 @@
 -- The answer that is specified for the bytes that were read.
-use Rattle.std.proofs.Common.{◌≡◌, ◌<◌, Bool, true, false, suc, ℕ, List, [], ◌∷◌, ◌++◌, length}
-use Rattle.std.proofs.Common.{take, refl, ap, inl, inr, None, Some, arith}
-use Rattle.std.specs.declared.option.Option.{Option}
+use Rattle.qss_top.proofs.Common
+use Common.{[], ℕ, ◌++◌, ◌<◌, ◌∷◌, ◌≡◌, Answer, AnswersFromReads, ap, Appends-nil, AreReadInOrder}
+use Common.{ArgumentsAnswerFromReads, arith, Bool, Command, FailsAtFile, false, fully_read}
+use Common.{in_progress, inl, inr, is_too_long, IsAnsweredBy, IsAnswerFromReads, IsOutcome, length}
+use Common.{List, MayHaveContents, None, Option, Outcome, ReadFails, Reading, reading, refl, Some}
+use Common.{suc, take, true}
 use Rattle.std.specs.Prelude.{replicate}
-use Rattle.std.proofs.KnownBytes.{Appends-nil}
 use Rattle.std.proofs.lemmas.List.{length-take, length-replicate}
-use Rattle.mu_io.specs.Readings.{Reading, reading, fully_read, in_progress, Exceeds, ReadFails}
-use Rattle.qss_cli.specs.Commands.{Command}
-use Rattle.qss_top.specs.CommandOutcomes.{IsOutcome}
-use Rattle.qss_top.specs.Frames.{IsAnsweredBy}
-use Rattle.qss_top.specs.MachineAnswers.{Answer}
-use Rattle.qss_top.specs.ReadAnswers.{ArgumentsAnswerFromReads, is_too_long, AreReadInOrder}
-use Rattle.qss_top.specs.ReadAnswers.{MayHaveContents, IsAnswerFromReads, FailsAtFile}
-use Rattle.qss_top.specs.ReadAnswers.{AnswersFromReads}
-use Rattle.qss_top.specs.declared.command_outcome.Outcome.{Outcome}
+use Rattle.mu_io.specs.Readings.{Exceeds}
 use Rattle.qss_top.specs.declared.command_outcome.Outcome.TheVariants as outcome
 
 -- the answer and the file that fails are stated for another relation or for more readings

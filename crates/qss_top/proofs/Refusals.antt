@@ -1,8 +1,6 @@
 -- The statuses of rejections.
-use Rattle.std.proofs.Common.{◌≡◌, ◌⊎◌, refl, inl, inr}
-use Rattle.qss_answers.specs.declared.refusal.Refusal.{Refusal}
+use Rattle.qss_top.proofs.Common.{◌≡◌, ◌⊎◌, inl, inr, refl, Refusal, status_of_refusal}
 use Rattle.qss_answers.specs.declared.refusal.Refusal.TheVariants as reasons
-use Rattle.qss_top.specs.MachineAnswers.{status_of_refusal}
 use Rattle.qss_top.specs.declared.status.Status.TheVariants as ends
 
 -- a rejection ends in one of two ways

@@ -1,14 +1,10 @@
 -- The outcomes of runs that are written.
-use Rattle.std.proofs.Common.{◌≡◌, Bool, true, ℕ, List, [], ◌∷◌, refl, sym, ap, ◌∙◌}
-use Rattle.std.proofs.Common.{subst, inl, inr}
+use Rattle.qss_top.proofs.Common
+use Common.{[], ℕ, ◌∙◌, ◌∷◌, ◌≡◌, Answer, ap, Appends, Appends-nil, Bool, inl, inr}
+use Common.{IsOutOfMemoryPrefix, List, Machine, Option, refl, subst, sym, true, WritesAnswer}
 use Rattle.std.specs.Prelude.{filter}
-use Rattle.std.specs.declared.option.Option.{Option}
-use Rattle.std.specs.Io.KnownBytes.{Appends}
-use Rattle.std.proofs.KnownBytes.{Appends-nil}
 use Rattle.std.proofs.lemmas.List.Elements.{filter-append}
-use Rattle.mu_io.specs.Sinks.{AppendsPrefix}
 use Rattle.qss_machine.specs.Runs.{run_rows}
-use Rattle.qss_machine.specs.declared.compiled_machine.Machine.{Machine}
 use Rattle.qss_events.specs.RunTexts.{run_by_rule, IsRunCutShort, IsRunWritten}
 use Rattle.qss_order2.specs.SecondRowLines.{fields2_of}
 use Rattle.qss_order2.specs.SecondRunTexts.{second_order_run, IsSecondRunCutShort}
@@ -16,15 +12,13 @@ use Rattle.qss_order2.specs.SecondRunTexts.{IsSecondRunWritten}
 use Rattle.qss_rows.specs.Filters.{passes}
 use Rattle.qss_rows.specs.RowTexts.{fields_of}
 use Rattle.qss_rows.specs.declared.simulation_rows.RunResult.{RunResult}
-use Rattle.qss_rows.specs.declared.simulation_rows.RunResult.TheVariants as played
 use Rattle.qss_cli.specs.Commands.{RunOptions}
-use Rattle.qss_top.specs.MachineAnswers.{Answer, printed_run_answer, second_run_answer}
+use Rattle.qss_top.specs.MachineAnswers.{printed_run_answer, second_run_answer}
 use Rattle.qss_top.specs.CertificateOutcomes.{outcome_of_run}
-use Rattle.qss_top.specs.Frames.{WritesAnswer}
-use Rattle.qss_top.specs.WrittenTexts.{IsOutOfMemoryPrefix}
-use Rattle.qss_top.specs.declared.command_outcome.Outcome.TheVariants as outcome
 use Rattle.qss_top.proofs.FrameFacts.{answer_writes, fault_writes}
 use Rattle.qss_top.proofs.OutcomeFacts.{stops_at_line}
+use Rattle.qss_rows.specs.declared.simulation_rows.RunResult.TheVariants as played
+use Rattle.qss_top.specs.declared.command_outcome.Outcome.TheVariants as outcome
 
 module _ {K : Type 0} (written : K → Option (List ℕ)) {old new : K} where
   -- nothing was written

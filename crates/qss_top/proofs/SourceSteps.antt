@@ -1,24 +1,16 @@
 -- The answers to a source: it is rejected, or the answer for its machine or its model is written.
-use Rattle.std.proofs.Common.{◌<◌, ◌≤◌, ◌≢◌, ◌^◌, Bool, ℕ, List, length, refl, sym, ◌∙◌, inl, inr}
-use Rattle.std.specs.declared.option.Option.{Option}
-use Rattle.cert_check.specs.Scope.{IsInScope, IsOutsideBy}
-use Rattle.cert_check.specs.declared.certificate_scope.Outside.{Outside}
-use Rattle.qss_answers.specs.declared.refusal.Refusal.TheVariants as reasons
-use Rattle.qss_compile.specs.Compilation.{IsRefused}
-use Rattle.qss_compile.specs.declared.model_refusal.Refused.{Refused}
-use Rattle.qss_machine.specs.declared.compiled_machine.Machine.{Machine}
+use Rattle.qss_top.proofs.Common
+use Common.{ℕ, ◌<◌, ◌^◌, ◌∙◌, ◌≢◌, ◌≤◌, Answer, Bool, FileKind, inl, inr, IsInScope, IsOutsideBy}
+use Common.{IsRefusalFor, IsRefused, IsRefusedFor, length, limit_of, List, long_answer}
+use Common.{long_outcome, Machine, Option, Outcome, Outside, refl, Refused, refused, rejected}
+use Common.{rejection, sym, too_long, WritesAnswer}
 use Rattle.qss_top.specs.CertificateOutcomes.{IsRefusedBefore}
-use Rattle.qss_top.specs.CommandOutcomes.{IsRefusedFor}
-use Rattle.qss_top.specs.FileReadings.{limit_of, long_answer, long_outcome}
-use Rattle.qss_top.specs.Frames.{WritesAnswer}
-use Rattle.qss_top.specs.MachineAnswers.{Answer, refused, too_long, IsRefusalFor, IsSourceMachine}
-use Rattle.qss_top.specs.MachineAnswers.{IsMachineAnswer, rejected, rejection}
-use Rattle.qss_top.specs.declared.command_outcome.Outcome.{Outcome}
-use Rattle.qss_top.specs.declared.command_outcome.Outcome.TheVariants as outcome
-use Rattle.qss_top.specs.declared.file_reading.FileKind.{FileKind}
-use Rattle.qss_top.specs.declared.file_reading.FileKind.TheVariants as kinds
+use Rattle.qss_top.specs.MachineAnswers.{IsSourceMachine, IsMachineAnswer}
 use Rattle.qss_top.proofs.FrameFacts.{map_answers, memory_writes, rejection_writes}
 use Rattle.qss_top.proofs.Sources.{long_for, not_done, short_for}
+use Rattle.qss_answers.specs.declared.refusal.Refusal.TheVariants as reasons
+use Rattle.qss_top.specs.declared.command_outcome.Outcome.TheVariants as outcome
+use Rattle.qss_top.specs.declared.file_reading.FileKind.TheVariants as kinds
 
 module _ {K : Type 0} {written : K → Option (List ℕ)} {faults : K → ℕ} {failed : K → Bool}
     {goes : Bool} where

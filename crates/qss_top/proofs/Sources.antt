@@ -1,13 +1,13 @@
 -- Sources that are rejected.
-use Rattle.std.proofs.Common.{◌≡◌, ◌≢◌, ◌<◌, ◌≤◌, ◌^◌, Bool, true, false, List, ℕ, length, refl}
-use Rattle.std.proofs.Common.{ap, arith, inl, inr, nat_lt, sym, ◌∙◌}
+use Rattle.qss_top.proofs.Common
+use Common.{ℕ, ◌<◌, ◌^◌, ◌∙◌, ◌≡◌, ◌≢◌, ◌≤◌, ap, arith, Bool, false, inl, inr, IsRefusalFor}
+use Common.{IsRefusedFor, length, List, Outcome, refl, refusal, Refused, refused, sym, too_long}
+use Common.{true}
+use Rattle.std.proofs.Common.{nat_lt}
 use Rattle.std.specs.Prelude.{if◌then◌else◌}
 use Rattle.qss_compile.specs.Causes.{is_memory}
 use Rattle.qss_compile.specs.Compilation.{IsErr}
-use Rattle.qss_compile.specs.declared.model_refusal.Refused.{Refused}
-use Rattle.qss_top.specs.CommandOutcomes.{IsRefusedFor, refused_so}
-use Rattle.qss_top.specs.MachineAnswers.{refusal, refused, too_long, IsRefusalFor}
-use Rattle.qss_top.specs.declared.command_outcome.Outcome.{Outcome}
+use Rattle.qss_top.specs.CommandOutcomes.{refused_so}
 use Rattle.qss_top.specs.declared.command_outcome.Outcome.TheVariants as outcome
 use Rattle.qss_top.specs.declared.status.Status.TheVariants as ends
 

@@ -1,12 +1,10 @@
 -- The status of a call and its outcome.
-use Rattle.std.proofs.Common.{◌≡◌, ◌≢◌, ◌⊎◌, Bool, true, false, refl, sym, ap, ◌∙◌, inl, inr}
-use Rattle.qss_top.specs.CommandOutcomes.{status_of, takes_memory}
-use Rattle.qss_top.specs.Statuses.{leaves_out}
-use Rattle.qss_top.specs.declared.command_outcome.Outcome.{Outcome}
-use Rattle.qss_top.specs.declared.command_outcome.Outcome.TheVariants as outcome
-use Rattle.qss_top.specs.declared.status.Status.{Status}
-use Rattle.qss_top.specs.declared.status.Status.TheVariants as ends
+use Rattle.qss_top.proofs.Common
+use Common.{◌∙◌, ◌≡◌, ◌≢◌, ◌⊎◌, ap, Bool, false, inl, inr, leaves_out, Outcome, refl, Status}
+use Common.{status_of, sym, takes_memory, true}
 use Rattle.qss_top.proofs.Refusals.{rejection_ends}
+use Rattle.qss_top.specs.declared.command_outcome.Outcome.TheVariants as outcome
+use Rattle.qss_top.specs.declared.status.Status.TheVariants as ends
 
 -- the status is that of the outcome, unless its line could not be allocated
 abbrev pub IsStatus : Status → Outcome → Type 0

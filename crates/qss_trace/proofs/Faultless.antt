@@ -1,34 +1,16 @@
 -- Records without a fault parse as a trace.
-use Rattle.std.proofs.Common.{◌≡◌, ℕ, zero, suc, ◌+◌, ◌*◌, ◌^◌, ◌<◌, ◌≤◌, ◌==◌, ◌⊎◌, inl, inr, Bool}
-use Rattle.std.proofs.Common.{true, false, List, [], ◌∷◌, ◌++◌, length, map, take, drop, get_or}
-use Rattle.std.proofs.Common.{codes, ℤ, pos, unsigned_abs, Option, Some, None, refl, sym, ap, ap₂}
-use Rattle.std.proofs.Common.{subst, ◌∙◌, arith, append-nil, append_assoc, lt-ltb}
-use Rattle.std.proofs.lemmas.Bool.{eqb-true, cases_lt}
-use Rattle.std.proofs.lemmas.Bool.Decides.{Decides-int_eq}
-use Rattle.std.proofs.lemmas.Int.{ints}
-use Rattle.std.proofs.lemmas.List.{length-append, drop-drop}
-use Rattle.std.proofs.lemmas.Slice.Eq.{bytes_eq-Decides}
-use Rattle.std.specs.Prelude.{bytes_eq, int_le, ◌≤ℤ◌, ◌&&◌, if◌then◌else◌, not}
-use Rattle.std.specs.List.{position_from}
-use Rattle.std.specs.Option.{option_map, option_or}
-use Rattle.std.specs.Ordering.{int_eq}
-use Rattle.cert_check.specs.CertificateLimits.{IsSize}
-use Rattle.cert_check.specs.Layout.{keyword_of, first_number}
-use Rattle.cert_check.specs.CertificateLines.{line, ParsesAs}
-use Rattle.cert_check.specs.CertificateTexts.{IsCutInto}
-use Rattle.cert_check.specs.declared.text_err.TextErr.{TextErr}
-use Rattle.cert_check.specs.declared.text_err.TextErr.TheVariants.{Keyword, Shape, Number}
-use Rattle.cert_check.specs.declared.text_err.TextErr.TheVariants.{Missing, Form}
-use Rattle.qss_trace.specs.declared.trace_parser.Limit.{Limit}
-use Rattle.qss_trace.specs.declared.trace_parser.Limit.TheVariants as limit
-use Rattle.qss_trace.specs.declared.trace.Trace.{Trace}
-use Rattle.qss_trace.specs.ExpectedFields.{Due, due, part, due_at, fits, number_within, is_unfit}
-use Rattle.qss_trace.specs.ExpectedFields.{first_unfit, number_count, number_fault, shape_fault}
-use Rattle.qss_trace.specs.ExpectedFields.{form_fault, record_fault, fault_from, trace_fault}
-use Rattle.qss_trace.specs.KeptTraces.{Kept}
-use Rattle.qss_trace.specs.TraceLimits.{IsFactor}
-use Rattle.qss_trace.specs.TraceData.{AddsNumbers, HasShape}
-use Rattle.qss_trace.specs.TraceTexts.{IsTextOf, IsFaultOf, AreRecordsOf}
+use Rattle.qss_trace.proofs.Common
+use Common.{[], ℕ, ℤ, ◌&&◌, ◌*◌, ◌++◌, ◌+◌, ◌<◌, ◌==◌, ◌^◌, ◌∙◌, ◌∷◌, ◌≡◌, ◌≤ℤ◌, ◌≤◌, ◌⊎◌}
+use Common.{AddsNumbers, ap, append-nil, append_assoc, ap₂, AreRecordsOf, arith, Bool, bytes_eq}
+use Common.{bytes_eq-Decides, cases_lt, codes, Decides-int_eq, drop, drop-drop, eqb-true, false}
+use Common.{fault_from, first_number, fits, Form, form_fault, get_or, HasShape, if◌then◌else◌, inl}
+use Common.{inr, int_eq, int_le, ints, is_unfit, IsCutInto, IsFactor, IsFaultOf, IsSize, IsTextOf}
+use Common.{Kept, Keyword, keyword_of, length, length-append, Limit, line, List, lt-ltb, map}
+use Common.{Missing, None, not, Number, number_count, number_fault, number_within, Option}
+use Common.{option_map, option_or, ParsesAs, part, pos, position_from, record_fault, refl, Shape}
+use Common.{shape_fault, Some, subst, suc, sym, take, TextErr, Trace, trace_fault, true}
+use Common.{unsigned_abs, zero}
+use Rattle.qss_trace.specs.ExpectedFields.{Due, due, due_at, first_unfit}
 use Rattle.qss_trace.proofs.Cutting.{records-few}
 use Rattle.cert_check.proofs.Totals.{cut-total}
 use Rattle.qss_trace.proofs.Fields.{Parts, IsSound, trace_of}
@@ -36,6 +18,7 @@ use Rattle.qss_trace.proofs.Judging.{within-is, spells-one, one-bad}
 use Rattle.qss_trace.proofs.Keeping.{Records, kept-none, kept-form, kept-scale, kept-refine}
 use Rattle.qss_trace.proofs.Keeping.{kept-quanta, kept-place, kept-places, all-lines}
 use Rattle.qss_trace.proofs.Taken.{spells-many, quanta-many, place-adds}
+use Rattle.qss_trace.specs.declared.trace_parser.Limit.TheVariants as limit
 
 -- neither of two options has a fault
 both-none : {X : Type 0} (a b : Option X) → option_or a b ≡ None → (a ≡ None) × (b ≡ None)

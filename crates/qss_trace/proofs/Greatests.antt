@@ -1,23 +1,15 @@
 -- Of two traces there is one first place at which the form of their difference is greatest, or one first place at which a sum is out of range.
-use Rattle.std.proofs.Common.{◌≡◌, ℕ, zero, suc, ◌+◌, ◌*◌, ◌^◌, ◌<◌, ◌≤◌, ◌⊎◌, ◌==◌, inl, inr, Bool}
-use Rattle.std.proofs.Common.{true, false, List, ℤ, pos, ◌*ℤ◌, ◌≤ℤ◌, ◌<ℤ◌, refl, sym, ap, subst}
-use Rattle.std.proofs.Common.{◌∙◌, arith, add-one}
-use Rattle.std.proofs.lemmas.Bool.{cases_lt, eqb-true}
-use Rattle.std.proofs.lemmas.Int.{ints}
-use Rattle.std.specs.Prelude.{unsigned_abs}
-use Rattle.mu_num.proofs.Tests.{eqb-false}
-use Rattle.cert_matrix.specs.Form.{Table, Vector, times}
-use Rattle.cert_matrix.specs.Matrix.{table, weight, IsInRange, IsFormInRange}
-use Rattle.qss_machine.specs.Legitimate.{entry_at}
-use Rattle.qss_trace.specs.declared.trace.Trace.{Trace}
+use Rattle.qss_trace.proofs.Common
+use Common.{ℕ, ℤ, ◌*ℤ◌, ◌*◌, ◌+◌, ◌<◌, ◌==◌, ◌^◌, ◌∙◌, ◌≡◌, ◌≤◌, ◌⊎◌, add-one, ap, AreCommon, arith}
+use Common.{Bool, both_units, bound_of, cases_lt, count_of, difference, entry_at, eqb-false}
+use Common.{eqb-true, false, inl, inr, ints, IsBoundInRange, IsPairInRange, IsSearched, List, pos}
+use Common.{refl, Search, states_of, subst, suc, sym, table, times, Trace, true, unsigned_abs}
+use Common.{value_of, zero}
+use Rattle.cert_matrix.specs.Form.{Table, Vector}
+use Rattle.cert_matrix.specs.Matrix.{weight, IsInRange, IsFormInRange}
 use Rattle.qss_trace.specs.declared.trace_comparison.Greatest.{Greatest}
 use Rattle.qss_trace.specs.declared.trace_comparison.Greatest.TheVariants.{Found, Range}
-use Rattle.qss_trace.specs.declared.trace_comparison.Search.{Search}
-use Rattle.qss_trace.specs.Trace.{count_of, states_of}
-use Rattle.qss_trace.specs.CommonTicks.{AreCommon, value_of, difference, both_units, bound_of}
-use Rattle.qss_trace.specs.CommonTicks.{IsPairInRange, IsBoundInRange, AreGreatest, AreFirstOut}
-use Rattle.qss_trace.specs.CommonTicks.{IsGreatest}
-use Rattle.qss_trace.specs.Comparing.{IsSearched}
+use Rattle.qss_trace.specs.CommonTicks.{AreGreatest, AreFirstOut, IsGreatest}
 use Rattle.qss_trace.specs.TraceLaws.{ComparisonIsUnique}
 use Rattle.qss_trace.proofs.Searching.{one-partner, search-none, search-skip, search-more}
 use Rattle.qss_trace.proofs.Searching.{search-found}

@@ -1,23 +1,12 @@
 -- There is a verdict on each trace.
-use Rattle.std.proofs.Common.{◌≡◌, ℕ, zero, suc, ◌+◌, ◌<◌, ◌≤◌, ◌⊎◌, inl, inr, Bool, true, false, ℤ}
-use Rattle.std.proofs.Common.{◌≤ℤ◌, Option, Some, None, refl, subst, arith, below_more}
-use Rattle.std.proofs.lemmas.Bool.Decides.{Decides-int_eq}
-use Rattle.std.proofs.lemmas.Int.{ints}
-use Rattle.std.specs.Ordering.{int_eq}
-use Rattle.std.specs.Prelude.{int_le}
-use Rattle.qss_machine.specs.declared.compiled_machine.Machine.{Machine}
-use Rattle.qss_trace.specs.declared.trace_checker.Broken.{Broken}
-use Rattle.qss_trace.specs.declared.trace_checker.Fact.{Fact}
-use Rattle.qss_trace.specs.declared.trace_checker.Fact.TheVariants.{Start, Move, Near}
-use Rattle.qss_trace.specs.declared.trace.Trace.{Trace}
-use Rattle.qss_trace.specs.declared.trace_checker.TraceVerdict.{TraceVerdict}
-use Rattle.qss_trace.specs.declared.trace_checker.TraceVerdict.TheVariants as verdict
-use Rattle.qss_trace.specs.TraceChecks.{IsFoundAmong, IsFoundAt}
-use Rattle.qss_trace.specs.LegitimateFacts.{number_of, left_of, right_of, IsTakenAt, IsMet, HoldsAt}
-use Rattle.qss_trace.specs.Trace.{count_of}
-use Rattle.qss_trace.specs.TraceVerdicts.{IsVerdict}
+use Rattle.qss_trace.proofs.Common
+use Common.{ℕ, ℤ, ◌+◌, ◌<◌, ◌≡◌, ◌≤ℤ◌, ◌≤◌, ◌⊎◌, arith, below_more, Bool, Broken, count_of}
+use Common.{Decides-int_eq, Fact, false, HoldsAt, inl, inr, int_eq, int_le, ints, IsFoundAmong}
+use Common.{IsFoundAt, IsMet, IsTakenAt, IsVerdict, left_of, Machine, Move, Near, None, number_of}
+use Common.{Option, refl, right_of, Some, Start, suc, Trace, TraceVerdict, true, zero}
 use Rattle.qss_trace.proofs.Found.{IsFirstOf, first-taken, found-first, found-near, HoldBelow}
 use Rattle.qss_trace.proofs.Found.{all-hold, first-broken}
+use Rattle.qss_trace.specs.declared.trace_checker.TraceVerdict.TheVariants as verdict
 
 -- two sides satisfy a fact, or not
 equal-or-not : (a b : ℤ) → (a ≡ b) ⊎ (a ≡ b → ⊥)

@@ -1,4 +1,4 @@
-use Rattle.cert_check.proofs.Wanted.{count-p, count-after-p, p-fits}
+use Rattle.cert_check.proofs.Wanted.{p-fits}
 use Rattle.cert_check.proofs.certificate_assembly.assemble_bound.Goals as goal
 
 pub certificate_matrix_at-requires-clause-due : goal.certificate_matrix_at-requires-clause-due

@@ -1,6 +1,4 @@
-use Rattle.std.proofs.Common.{get_or, [], to_z, of_z, refl, arith}
-use Rattle.std.specs.Int.{w128}
-use Rattle.cert_matrix.specs.Matrix.{vector}
+use Rattle.cert_check.proofs.Common.{[], arith, get_or, of_z, refl, to_z, vector, w128}
 use Rattle.cert_check.proofs.Assembled.{made-lines, one-row, kept-row}
 use Rattle.cert_check.proofs.Wanted.{row-fits}
 use Rattle.cert_check.proofs.certificate_assembly.assemble_certificate.Goals as goal

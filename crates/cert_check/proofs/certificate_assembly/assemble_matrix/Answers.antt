@@ -1,8 +1,6 @@
-use Rattle.std.proofs.Common.{◌≡◌, ℕ, ◌<◌, ◌≤◌, ◌+◌, ◌⊎◌, inl, inr, List, ℤ, [], length, get_or, subst, sym, ap, ◌∙◌, arith}
-use Rattle.std.proofs.lemmas.Bool.{cases_lt}
-use Rattle.std.proofs.lemmas.List.{get_or_default}
-use Rattle.cert_matrix.specs.Matrix.{table, vector}
-use Rattle.cert_matrix.proofs.Rows.{length-zeros, zeros-square}
+use Rattle.cert_check.proofs.Common
+use Common.{[], ℕ, ℤ, ◌+◌, ◌<◌, ◌∙◌, ◌≡◌, ◌≤◌, ◌⊎◌, ap, arith, cases_lt, get_or, get_or_default}
+use Common.{inl, inr, length-zeros, List, table, vector, zeros-square}
 use Rattle.cert_check.proofs.Assembled.{same-tables}
 use Rattle.cert_check.proofs.certificate_assembly.assemble_matrix.Goals as goal
 

@@ -1,5 +1,4 @@
-use Rattle.std.proofs.Common.{◌≡◌, ℕ, ◌<◌, length, get_or, []}
-use Rattle.cert_matrix.specs.Matrix.{table, vector, IsSquare}
+use Rattle.cert_check.proofs.Common.{[], ℕ, ◌<◌, ◌≡◌, IsSquare, length, table}
 use Rattle.cert_check.proofs.certificate_assembly.assemble_matrix.Given as goal
 
 abbrev pub invariant-loop-i : goal.invariant-loop-i

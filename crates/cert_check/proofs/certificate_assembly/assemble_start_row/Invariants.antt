@@ -1,4 +1,4 @@
-use Rattle.std.proofs.Common.{◌≡◌, map, take}
+use Rattle.cert_check.proofs.Common.{◌≡◌, map, take}
 use Rattle.cert_check.proofs.certificate_assembly.assemble_start_row.Given as goal
 
 abbrev pub invariant-loop-state : goal.invariant-loop-state

@@ -1,7 +1,6 @@
-use Rattle.std.proofs.Common.{◌≡◌, List, ℤ, [], length, get_or, FitsSigned, sym, subst, ap, ◌∙◌, arith, rules, to_z-of_z}
-use Rattle.std.specs.Int.{w128}
-use Rattle.std.proofs.lemmas.List.{get_or_default}
-use Rattle.cert_check.specs.CertificateParts.{IsSingle}
+use Rattle.cert_check.proofs.Common
+use Common.{[], ℤ, ◌∙◌, ◌≡◌, ap, arith, FitsSigned, get_or, get_or_default, IsSingle, length, rules}
+use Common.{subst, sym, to_z-of_z, w128}
 use Rattle.cert_check.proofs.Wanted.{row-fits, single-fits}
 use Rattle.cert_check.proofs.certificate_assembly.certificate_number_at.Goals as goal
 

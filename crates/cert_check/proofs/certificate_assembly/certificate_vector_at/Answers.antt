@@ -1,6 +1,5 @@
-use Rattle.std.proofs.Common.{◌≡◌, List, ℤ, [], length, get_or, sym, subst, ◌∙◌, arith}
-use Rattle.std.proofs.lemmas.List.{get_or_default}
-use Rattle.cert_check.specs.CertificateLimits.{IsVector}
+use Rattle.cert_check.proofs.Common
+use Common.{[], ℤ, ◌∙◌, ◌≡◌, arith, get_or, get_or_default, IsVector, List, subst, sym}
 use Rattle.cert_check.proofs.Wanted.{row-fits}
 use Rattle.cert_check.proofs.certificate_assembly.certificate_vector_at.Goals as goal
 

@@ -1,7 +1,6 @@
-use Rattle.std.proofs.Common.{◌≡◌, ◌≢◌, ◌<◌, ◌∙◌, List, ℤ, length, get_or, pos, FitsSigned, refl, arith, rules, to_z-of_z}
-use Rattle.std.specs.Int.{w128}
-use Rattle.cert_matrix.specs.Matrix.{vector}
-use Rattle.cert_matrix.proofs.Rows.{length-changed, changed-square}
+use Rattle.cert_check.proofs.Common
+use Common.{ℤ, ◌<◌, ◌∙◌, ◌≢◌, arith, changed-square, FitsSigned, get_or, length, length-changed}
+use Common.{pos, refl, rules, to_z-of_z, vector, w128}
 use Rattle.cert_check.proofs.Rowwise.{filled}
 use Rattle.cert_check.proofs.Tables.{changed-elsewhere}
 use Rattle.cert_check.proofs.certificate_assembly.write_row.Goals as goal

@@ -1,5 +1,4 @@
-use Rattle.std.proofs.Common.{◌≡◌, ℕ, ◌<◌, length}
-use Rattle.cert_matrix.specs.Matrix.{table, vector, IsSquare}
+use Rattle.cert_check.proofs.Common.{ℕ, ◌<◌, ◌≡◌, IsSquare, length, table, vector}
 use Rattle.cert_check.proofs.certificate_assembly.write_row.Given as goal
 
 abbrev pub invariant-loop-j : goal.invariant-loop-j

@@ -1,4 +1,4 @@
-use Rattle.std.proofs.Common.{sym, ◌∙◌, below_more, arith}
+use Rattle.cert_check.proofs.Common.{◌∙◌, arith, below_more, sym}
 use Rattle.cert_check.proofs.Digits.{not-digits, all-digits}
 use Rattle.cert_check.proofs.certificate_parser.are_field_digits.Goals as goal
 

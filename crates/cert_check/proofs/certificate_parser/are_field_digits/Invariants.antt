@@ -1,5 +1,4 @@
-use Rattle.std.proofs.Common.{◌≡◌, ℕ, ◌<◌, true, get_or}
-use Rattle.std.specs.Char.{is_ascii_digit}
+use Rattle.cert_check.proofs.Common.{ℕ, ◌<◌, ◌≡◌, get_or, is_ascii_digit, true}
 use Rattle.cert_check.proofs.certificate_parser.are_field_digits.Given as goal
 
 abbrev pub invariant-loop-byte : goal.invariant-loop-byte

@@ -1,6 +1,4 @@
-use Rattle.std.proofs.Common.{sym, ap, ◌∙◌}
-use Rattle.csv.specs.Records.{fields_of}
-use Rattle.cert_check.specs.FieldNumbers.{number_in}
+use Rattle.cert_check.proofs.Common.{◌∙◌, ap, fields_of, number_in, sym}
 use Rattle.cert_check.proofs.Fields.{field-is, field-never}
 use Rattle.cert_check.proofs.certificate_parser.certificate_number_at.Goals as goal
 

@@ -1,5 +1,4 @@
-use Rattle.std.proofs.Common.{sym, ap, ◌∙◌}
-use Rattle.csv.specs.Records.{fields_of}
+use Rattle.cert_check.proofs.Common.{◌∙◌, fields_of}
 use Rattle.cert_check.proofs.Fields.{first-is, first-none, empty-same}
 use Rattle.cert_check.proofs.certificate_parser.has_certificate_keyword.Goals as goal
 

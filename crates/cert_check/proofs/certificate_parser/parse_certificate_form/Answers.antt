@@ -1,8 +1,6 @@
-use Rattle.std.proofs.Common.{◌≡◌, ◌⊎◌, ◌<◌, ℕ, Some, length, map, rules}
-use Rattle.csv.specs.Records.{fields_of}
-use Rattle.cert_check.specs.declared.text_err.TextErr.TheVariants.{Memory}
-use Rattle.cert_check.specs.Layout.{text_fault}
-use Rattle.cert_check.specs.MatrixRows.{FirstTakesMemory}
+use Rattle.cert_check.proofs.Common
+use Common.{ℕ, ◌<◌, ◌≡◌, ◌⊎◌, fields_of, FirstTakesMemory, length, map, Memory, rules, Some}
+use Common.{text_fault}
 use Rattle.cert_check.proofs.Kept.{form-refused}
 use Rattle.cert_check.proofs.Turns.{err-as}
 use Rattle.cert_check.proofs.certificate_parser.parse_certificate_form.Goals as goal

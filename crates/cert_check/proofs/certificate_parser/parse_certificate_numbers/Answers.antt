@@ -1,12 +1,7 @@
-use Rattle.std.proofs.Common.{◌≡◌, ◌<◌, ◌+◌, ◌-◌, ◌⊎◌, inl, ◌++◌, ◌∷◌, [], ℤ, Some, false, FitsSigned, ◌∙◌, refl, sym, ap, length, drop, get_or, arith, rules, to_z-of_z, to_z, of_z}
-use Rattle.std.specs.Int.{w128}
-use Rattle.std.specs.List.{position_from}
-use Rattle.std.specs.Option.{option_map}
-use Rattle.csv.specs.Records.{fields_of}
-use Rattle.cert_check.specs.CertificateLimits.{IsVector}
-use Rattle.cert_check.specs.declared.text_err.TextErr.TheVariants.{Number, Memory}
-use Rattle.cert_check.specs.FieldNumbers.{number_in}
-use Rattle.cert_check.specs.Layout.{is_no_number}
+use Rattle.cert_check.proofs.Common
+use Common.{[], ℤ, ◌++◌, ◌+◌, ◌-◌, ◌<◌, ◌∙◌, ◌∷◌, ◌≡◌, ◌⊎◌, ap, arith, drop, false, fields_of}
+use Common.{FitsSigned, get_or, inl, is_no_number, length, Memory, Number, of_z, option_map}
+use Common.{position_from, refl, rules, Some, sym, to_z, to_z-of_z, w128}
 use Rattle.cert_check.proofs.Fields.{spelt-more, faults-more, vector-more, first-number}
 use Rattle.cert_check.proofs.Turns.{err-as}
 use Rattle.cert_check.proofs.certificate_parser.parse_certificate_numbers.Goals as goal

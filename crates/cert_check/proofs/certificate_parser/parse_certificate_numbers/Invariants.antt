@@ -1,9 +1,6 @@
-use Rattle.std.proofs.Common.{◌≡◌, ◌<◌, ◌≤◌, ◌+◌, ◌-◌, List, [], Some, false, map, take, drop, get_or, ℕ, ℤ}
-use Rattle.std.specs.List.{position_from}
-use Rattle.csv.specs.Records.{fields_of}
-use Rattle.cert_check.specs.CertificateLimits.{IsVector}
-use Rattle.cert_check.specs.FieldNumbers.{number_in}
-use Rattle.cert_check.specs.Layout.{is_no_number}
+use Rattle.cert_check.proofs.Common
+use Common.{[], ◌+◌, ◌-◌, ◌<◌, ◌≡◌, ◌≤◌, drop, false, fields_of, get_or, is_no_number, IsVector}
+use Common.{map, number_in, position_from, Some, take}
 use Rattle.cert_check.proofs.certificate_parser.parse_certificate_numbers.Given as goal
 
 abbrev pub invariant-loop-place : goal.invariant-loop-place

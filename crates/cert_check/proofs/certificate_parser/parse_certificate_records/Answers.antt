@@ -1,13 +1,13 @@
-use Rattle.std.proofs.Common.{Bor, List, ℕ, ◌≡◌, ◌∙◌, sym, refl, rules, inl, inr, true, false, map, Option, Some, ◌∷◌, []}
-use Rattle.std.proofs.lemmas.Bool.{false≢true}
-use Rattle.std.proofs.lemmas.List.{map-append}
-use Rattle.csv.specs.Reading.{ExplainsRead, Reached, default_config, is_flexible, stops_reader, strip_bom}
-use Rattle.csv.specs.Records.{fields_of}
+use Rattle.cert_check.proofs.Common
+use Common.{[], ℕ, ◌∙◌, ◌∷◌, ◌≡◌, default_config, false, false≢true, fields_of, inl, inr}
+use Common.{is_flexible, List, map, map-append, Option, Reached, refl, Some, strip_bom, sym, true}
+use Rattle.std.proofs.Common.{Bor}
+use Rattle.csv.specs.Reading.{ExplainsRead, stops_reader}
 use Rattle.csv.specs.declared.error.ErrorKind.{ErrorKind}
-use Rattle.csv.specs.declared.error.ErrorKind.TheVariants as kind
-use Rattle.csv.specs.declared.parser.State.TheVariants as st
 use Rattle.csv.specs.declared.reader.Reader.{Reader}
 use Rattle.csv.proofs.ReadFacts.{rows-end, rows-more}
+use Rattle.csv.specs.declared.error.ErrorKind.TheVariants as kind
+use Rattle.csv.specs.declared.parser.State.TheVariants as st
 use Rattle.cert_check.proofs.certificate_parser.parse_certificate_records.Goals as goal
 
 -- an error of a reader of records that may differ in length stops it

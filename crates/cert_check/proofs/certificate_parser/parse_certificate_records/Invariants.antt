@@ -1,6 +1,7 @@
-use Rattle.std.proofs.Common.{◌≡◌, ◌<◌, ℕ, List, Some, map, true}
-use Rattle.csv.specs.Reading.{Reached, Ready, default_config, is_flexible, source_of, strip_bom}
-use Rattle.csv.specs.Records.{fields_of}
+use Rattle.cert_check.proofs.Common
+use Common.{ℕ, ◌<◌, ◌≡◌, default_config, fields_of, is_flexible, List, map, Reached, Some}
+use Common.{strip_bom, true}
+use Rattle.csv.specs.Reading.{Ready, source_of}
 use Rattle.csv.specs.declared.parser.State.TheVariants as st
 use Rattle.csv.specs.declared.reader.Trim.TheVariants as trim
 use Rattle.cert_check.proofs.certificate_parser.parse_certificate_records.Given as goal

@@ -1,13 +1,11 @@
-use Rattle.std.proofs.Common.{◌≡◌, ◌⊎◌, ◌+◌, ◌<◌, ◌≤◌, ℕ, List, ℤ, Some, length, map, take, get_or, inl, inr, refl, sym, ap, subst, ◌∙◌, ◌++◌, ◌∷◌, [], arith}
-use Rattle.std.proofs.lemmas.List.{length-map, length-append}
-use Rattle.csv.specs.Records.{fields_of}
-use Rattle.cert_check.specs.declared.text_err.TextErr.{TextErr}
-use Rattle.cert_check.specs.declared.text_err.TextErr.TheVariants.{Keyword, Missing, Memory}
-use Rattle.cert_check.specs.Layout.{Expected, expected, layout, record_fault, first_fault}
-use Rattle.cert_check.specs.MatrixRows.{due_at, TakesMemory, FirstTakesMemory}
+use Rattle.cert_check.proofs.Common
+use Common.{[], ◌++◌, ◌+◌, ◌∙◌, ◌∷◌, ◌≡◌, ◌⊎◌, ap, arith, due_at, expected, fields_of, first_fault}
+use Common.{FirstTakesMemory, inl, inr, Keyword, layout, length, length-append, length-map, map}
+use Common.{Memory, Missing, record_fault, refl, Some, sym, take, TakesMemory}
 use Rattle.cert_check.proofs.Faults.{missing-here, extra-here}
 use Rattle.cert_check.proofs.Kept.{first-kept, first-takes}
-use Rattle.cert_check.proofs.Turns.{due-is, length-due, read-more, read-refused, read-as, read-takes, rows-more, err-as}
+use Rattle.cert_check.proofs.Turns.{due-is, length-due, read-more, read-refused, read-as}
+use Rattle.cert_check.proofs.Turns.{read-takes, rows-more, err-as}
 use Rattle.cert_check.proofs.certificate_parser.parse_certificate_rows.Goals as goal
 
 pub returns-then-k-records-clause-refused : goal.returns-then-k-records-clause-refused

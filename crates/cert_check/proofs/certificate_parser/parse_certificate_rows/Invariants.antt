@@ -1,7 +1,5 @@
-use Rattle.std.proofs.Common.{◌≡◌, ◌≤◌, ◌<◌, ℕ, List, map, take, length, get_or, []}
-use Rattle.csv.specs.Records.{fields_of}
-use Rattle.cert_check.specs.Layout.{layout}
-use Rattle.cert_check.specs.MatrixRows.{due_at, IsReadAs}
+use Rattle.cert_check.proofs.Common
+use Common.{[], ℕ, ◌<◌, ◌≡◌, ◌≤◌, due_at, fields_of, get_or, IsReadAs, layout, length, map, take}
 use Rattle.cert_check.proofs.Faults.{LeftAt}
 use Rattle.cert_check.proofs.certificate_parser.parse_certificate_rows.Given as goal
 

@@ -1,10 +1,7 @@
-use Rattle.std.proofs.Common.{◌≡◌, ◌+◌, ◌*◌, ◌^◌, ◌≤◌, ◌++◌, ℕ, ℤ, pos, List, [], length, map, get_or, ap, subst, ◌∙◌}
-use Rattle.csv.specs.Records.{Row, fields_of}
-use Rattle.qss_machine.specs.Machines.{state_count}
-use Rattle.cert_matrix.specs.Matrix.{vector}
-use Rattle.cert_check.specs.CertificateLines.{lines, line_count}
-use Rattle.cert_check.specs.Layout.{layout, first_number}
-use Rattle.cert_check.specs.MatrixRows.{AreReadAs, AreAllRows, lines_from, left_out}
+use Rattle.cert_check.proofs.Common
+use Common.{[], ℕ, ℤ, ◌*◌, ◌++◌, ◌+◌, ◌^◌, ◌∙◌, ◌≡◌, ◌≤◌, ap, AreReadAs, fields_of, first_number}
+use Common.{get_or, layout, left_out, length, line_count, lines, lines_from, List, map, pos, Row}
+use Common.{subst, vector}
 use Rattle.cert_check.proofs.Cut.{cut-few}
 use Rattle.cert_check.proofs.Turns.{records-all}
 use Rattle.cert_check.proofs.Completed.{all-rows, text-read}

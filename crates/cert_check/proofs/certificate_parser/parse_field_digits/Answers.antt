@@ -1,6 +1,5 @@
-use Rattle.std.proofs.Common.{◌≡◌, ◌≤◌, ◌<◌, ◌^◌, ◌+◌, ◌*◌, ◌-◌, get_or, take, length, true, false, nat_le, sym, ap, ◌∙◌, refl, arith}
-use Rattle.std.specs.Str.Parse.{digits_value}
-use Rattle.std.proofs.lemmas.List.{take_all}
+use Rattle.cert_check.proofs.Common
+use Common.{◌+◌, ◌∙◌, ◌≡◌, ap, arith, digits_value, false, refl, take, take_all, true}
 use Rattle.cert_check.proofs.Digits.{digit-low, value-more, value-above, value-here}
 use Rattle.cert_check.proofs.certificate_parser.parse_field_digits.Goals as goal
 

@@ -1,5 +1,4 @@
-use Rattle.std.proofs.Common.{◌≡◌, ◌≤◌, ◌^◌, take}
-use Rattle.std.specs.Str.Parse.{digits_value}
+use Rattle.cert_check.proofs.Common.{◌^◌, ◌≡◌, ◌≤◌, digits_value, take}
 use Rattle.cert_check.proofs.certificate_parser.parse_field_digits.Given as goal
 
 abbrev pub invariant-loop-byte : goal.invariant-loop-byte

@@ -1,7 +1,4 @@
-use Rattle.std.proofs.Common.{◌≢◌, ℕ}
-use Rattle.cert_check.specs.declared.certificate.Certificate.{Certificate}
-use Rattle.cert_check.specs.declared.text_err.TextErr.TheVariants.{Memory}
-use Rattle.cert_check.specs.CertificateTexts.{IsTextOf, IsRefusedFor}
+use Rattle.cert_check.proofs.Common.{◌≢◌, Certificate, IsRefusedFor, IsTextOf, Memory}
 use Rattle.cert_check.proofs.Turns.{err-map}
 use Rattle.cert_check.proofs.Unique.{refused-unreadable}
 use Rattle.cert_check.proofs.certificate_parser.read_certificate.Goals as goal

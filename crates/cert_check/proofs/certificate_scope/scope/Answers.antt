@@ -1,4 +1,4 @@
-use Rattle.std.proofs.Common.{ap, length, arith}
+use Rattle.cert_check.proofs.Common.{ap, arith, length}
 use Rattle.cert_check.proofs.Clauses.{clauses-few}
 use Rattle.cert_check.proofs.certificate_scope.scope.Goals as goal
 

@@ -1,4 +1,4 @@
-use Rattle.std.proofs.Common.{◌≡◌, take, get_or, []}
+use Rattle.cert_check.proofs.Common.{[], ◌≡◌, get_or, take}
 use Rattle.cert_check.proofs.certificate_writer.certificate_matrix_row.Given as goal
 
 abbrev pub invariant-loop-j : goal.invariant-loop-j

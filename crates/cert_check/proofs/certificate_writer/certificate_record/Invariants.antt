@@ -1,6 +1,5 @@
-use Rattle.std.proofs.Common.{◌≡◌, ◌∷◌, [], map, take}
-use Rattle.std.specs.Fmt.{signed_decimal}
-use Rattle.csv.specs.Records.{fields_of, partial_of}
+use Rattle.cert_check.proofs.Common.{[], ◌∷◌, ◌≡◌, fields_of, map, signed_decimal, take}
+use Rattle.csv.specs.Records.{partial_of}
 use Rattle.cert_check.proofs.certificate_writer.certificate_record.Given as goal
 
 abbrev pub invariant-loop-number : goal.invariant-loop-number

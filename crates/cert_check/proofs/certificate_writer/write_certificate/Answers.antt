@@ -1,7 +1,6 @@
-use Rattle.std.proofs.Common.{◌≡◌, ℕ, List, pos, ◌++◌, ap, sym, subst, ◌∙◌}
-use Rattle.cert_check.specs.CertificateLines.{lines}
-use Rattle.cert_check.specs.Written.{lines_text, form_lines, bound_lines, root_lines, basin_lines, ellipsoid_lines}
-use Rattle.cert_check.specs.CertificateTexts.{IsTextOf}
+use Rattle.cert_check.proofs.Common
+use Common.{ℕ, ◌++◌, ◌∙◌, ◌≡◌, ap, basin_lines, bound_lines, ellipsoid_lines, form_lines, IsTextOf}
+use Common.{lines, lines_text, List, pos, root_lines, subst, sym}
 use Rattle.cert_check.proofs.WrittenLines.{then-lines, all-lines, reads-back}
 use Rattle.cert_check.proofs.certificate_writer.write_certificate.Goals as goal
 

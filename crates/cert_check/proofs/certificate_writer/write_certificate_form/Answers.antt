@@ -1,5 +1,4 @@
-use Rattle.std.proofs.Common.{codes, pos, ◌∷◌, []}
-use Rattle.cert_check.specs.CertificateLines.{line, row_lines}
+use Rattle.cert_check.proofs.Common.{[], ◌∷◌, codes, line, pos, row_lines}
 use Rattle.cert_check.proofs.WrittenLines.{next}
 use Rattle.cert_check.proofs.certificate_writer.write_certificate_form.Goals as goal
 

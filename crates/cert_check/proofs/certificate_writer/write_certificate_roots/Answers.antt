@@ -1,5 +1,4 @@
-use Rattle.std.proofs.Common.{codes, ◌++◌}
-use Rattle.cert_check.specs.CertificateLines.{row_lines}
+use Rattle.cert_check.proofs.Common.{◌++◌, codes, row_lines}
 use Rattle.cert_check.specs.Written.{second_lines}
 use Rattle.cert_check.proofs.WrittenLines.{then-lines}
 use Rattle.cert_check.proofs.certificate_writer.write_certificate_roots.Goals as goal

@@ -1,7 +1,5 @@
-use Rattle.std.proofs.Common.{◌≡◌, ◌+◌, ◌<◌, ◌++◌, ◌∷◌, [], List, ℕ, ℤ, length, take, get_or, ap, sym, ◌∙◌, arith}
-use Rattle.std.proofs.lemmas.List.{take_all}
-use Rattle.cert_check.specs.CertificateLines.{line, row_lines}
-use Rattle.cert_check.specs.Written.{line_text, lines_text}
+use Rattle.cert_check.proofs.Common
+use Common.{[], ℤ, ◌++◌, ◌∙◌, ap, arith, lines_text, List, row_lines, take_all}
 use Rattle.cert_check.proofs.WrittenLines.{rows-more}
 use Rattle.cert_check.proofs.certificate_writer.write_certificate_rows.Goals as goal
 

@@ -1,6 +1,4 @@
-use Rattle.std.proofs.Common.{◌≡◌, ◌++◌, take}
-use Rattle.cert_check.specs.CertificateLines.{row_lines}
-use Rattle.cert_check.specs.Written.{lines_text}
+use Rattle.cert_check.proofs.Common.{◌++◌, ◌≡◌, lines_text, row_lines, take}
 use Rattle.cert_check.proofs.certificate_writer.write_certificate_rows.Given as goal
 
 abbrev pub invariant-loop-i : goal.invariant-loop-i

@@ -1,11 +1,6 @@
-use Rattle.std.proofs.Common.{◌≡◌, Option, None, sym, ap, subst, ◌∙◌}
-use Rattle.qss_machine.proofs.Near.{quanta_positive}
-use Rattle.cert_check.specs.declared.inequality_checker.Fault.{Fault}
-use Rattle.cert_check.specs.Inequalities.{System, Holds}
-use Rattle.cert_check.specs.CertificateData.{certificate_data}
-use Rattle.cert_check.specs.Systems.{system_of}
-use Rattle.cert_check.specs.InequalityTable.{IsFirstFaultOf, fault_of, inequalities}
-use Rattle.cert_check.specs.declared.inequality_checker.Verdict.TheVariants.{Accepted}
+use Rattle.cert_check.proofs.Common
+use Common.{◌≡◌, Accepted, ap, certificate_data, Fault, fault_of, Holds, inequalities}
+use Common.{IsFirstFaultOf, None, Option, quanta_positive, subst, sym, System, system_of}
 use Rattle.cert_check.proofs.Accepted.{accepted-holds}
 use Rattle.cert_check.proofs.Exactly.{accepted-ranges, accepts}
 use Rattle.cert_check.proofs.Join.{promised}

@@ -1,5 +1,4 @@
-use Rattle.std.proofs.Common.{None}
-use Rattle.cert_check.specs.CertificateData.{certificate_data, system}
+use Rattle.cert_check.proofs.Common.{certificate_data, None, system}
 use Rattle.cert_check.proofs.InOrder.{passed, found, finished}
 use Rattle.cert_check.proofs.inequality_checker.check_inequalities_in_order.Goals as goal
 

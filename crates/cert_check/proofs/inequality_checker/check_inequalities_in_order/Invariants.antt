@@ -1,7 +1,4 @@
-use Rattle.std.proofs.Common.{Option, drop}
-use Rattle.cert_check.specs.declared.inequality_checker.Fault.{Fault}
-use Rattle.cert_check.specs.CertificateData.{certificate_data, system}
-use Rattle.cert_check.specs.InequalityTable.{IsFirstFaultOf}
+use Rattle.cert_check.proofs.Common.{certificate_data, drop, Fault, IsFirstFaultOf, Option, system}
 use Rattle.cert_check.proofs.inequality_checker.check_inequalities_in_order.Given as goal
 
 abbrev pub invariant-loop-inequality : goal.invariant-loop-inequality

@@ -1,6 +1,6 @@
-use Rattle.std.proofs.Common.{◌+◌, arith, below_more}
-use Rattle.cert_check.specs.CertificateData.{certificate_data, system}
-use Rattle.cert_check.specs.InequalityTable.{IsPlaceInRange, relation_of, left_of, right_of, number_of, start_of, places_of}
+use Rattle.cert_check.proofs.Common
+use Common.{◌+◌, arith, below_more, certificate_data, IsPlaceInRange, left_of, number_of, places_of}
+use Common.{relation_of, right_of, start_of, system}
 use Rattle.cert_check.proofs.Places.{place-says}
 use Rattle.cert_check.proofs.inequality_checker.check_inequality.Goals as goal
 

@@ -1,6 +1,5 @@
-use Rattle.cert_check.specs.CertificateData.{certificate_data, system}
-use Rattle.cert_check.specs.InequalityTable.{IsPlaceInRange, relation_of, left_of, right_of}
-use Rattle.cert_check.specs.FirstFailures.{AllPass}
+use Rattle.cert_check.proofs.Common
+use Common.{AllPass, certificate_data, IsPlaceInRange, left_of, relation_of, right_of, system}
 use Rattle.cert_check.proofs.inequality_checker.check_inequality.Given as goal
 
 abbrev pub invariant-loop-k : goal.invariant-loop-k

@@ -1,6 +1,4 @@
-use Rattle.std.proofs.Common.{sym, ap, ◌∙◌, of_z}
-use Rattle.std.specs.Int.{w128}
-use Rattle.cert_matrix.specs.Matrix.{vector}
+use Rattle.cert_check.proofs.Common.{◌∙◌, ap, of_z, sym, vector, w128}
 use Rattle.cert_check.proofs.Gaps.{apart-below}
 use Rattle.cert_check.proofs.inequality_sides.are_side_vectors_same.Goals as goal
 

@@ -1,6 +1,4 @@
-use Rattle.std.proofs.Common.{◌≡◌, true}
-use Rattle.cert_matrix.specs.Matrix.{vector}
-use Rattle.cert_check.specs.InequalityTable.{is_same_below}
+use Rattle.cert_check.proofs.Common.{◌≡◌, is_same_below, true, vector}
 use Rattle.cert_check.proofs.inequality_sides.are_side_vectors_same.Given as goal
 
 abbrev pub invariant-loop-k : goal.invariant-loop-k

@@ -1,8 +1,6 @@
-use Rattle.std.proofs.Common.{◌∙◌, refl, sym, FitsSigned, rules, to_z-of_z}
-use Rattle.std.specs.Int.{w128}
-use Rattle.cert_matrix.specs.Matrix.{table}
-use Rattle.cert_check.specs.Inequalities.{diagonal_surplus}
-use Rattle.cert_check.specs.CertificateData.{certificate_data}
+use Rattle.cert_check.proofs.Common
+use Common.{◌∙◌, certificate_data, diagonal_surplus, FitsSigned, refl, rules, sym, table, to_z-of_z}
+use Common.{w128}
 use Rattle.cert_check.proofs.Rowwise.{beside-row, in_range-row}
 use Rattle.cert_check.proofs.inequality_sides.bound_sides.Goals as goal
 

@@ -1,4 +1,4 @@
-use Rattle.std.proofs.Common.{◌≤◌, arith}
+use Rattle.cert_check.proofs.Common.{◌≤◌, arith}
 use Rattle.cert_check.proofs.Pairs.{pairs-few, pairs-more}
 use Rattle.cert_check.proofs.inequality_sides.count_side_pairs.Goals as goal
 

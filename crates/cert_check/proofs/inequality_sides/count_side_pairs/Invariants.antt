@@ -1,5 +1,4 @@
-use Rattle.std.proofs.Common.{◌≡◌}
-use Rattle.cert_check.specs.Pairs.{pairs}
+use Rattle.cert_check.proofs.Common.{◌≡◌, pairs}
 use Rattle.cert_check.proofs.inequality_sides.count_side_pairs.Given as goal
 
 abbrev pub invariant-loop-i : goal.invariant-loop-i

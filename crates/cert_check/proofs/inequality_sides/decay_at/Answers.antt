@@ -1,8 +1,6 @@
-use Rattle.std.proofs.Common.{◌≡◌, ◌∙◌, refl, FitsSigned, arith, rules, to_z-of_z}
-use Rattle.std.specs.Int.{w128}
-use Rattle.std.proofs.lemmas.Int.{ints}
-use Rattle.cert_check.specs.Inequalities.{decrease_matrix}
-use Rattle.cert_check.specs.CertificateData.{certificate_data, system}
+use Rattle.cert_check.proofs.Common
+use Common.{◌∙◌, ◌≡◌, arith, certificate_data, decrease_matrix, FitsSigned, ints, refl, rules}
+use Common.{system, to_z-of_z, w128}
 use Rattle.cert_check.proofs.inequality_sides.decay_at.Goals as goal
 
 pub returns-in_err-whole-clause-in_range : goal.returns-in_err-whole-clause-in_range

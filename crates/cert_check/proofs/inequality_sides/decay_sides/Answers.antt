@@ -1,8 +1,6 @@
-use Rattle.std.proofs.Common.{◌∙◌, refl, sym, FitsSigned, rules, to_z-of_z}
-use Rattle.std.specs.Int.{w128}
-use Rattle.cert_matrix.specs.Matrix.{table}
-use Rattle.cert_check.specs.Inequalities.{decrease_matrix}
-use Rattle.cert_check.specs.CertificateData.{certificate_data, system}
+use Rattle.cert_check.proofs.Common
+use Common.{◌∙◌, certificate_data, decrease_matrix, FitsSigned, refl, rules, sym, system, table}
+use Common.{to_z-of_z, w128}
 use Rattle.cert_check.proofs.Rowwise.{beside-row, in_range-row}
 use Rattle.cert_check.proofs.inequality_sides.decay_sides.Goals as goal
 

@@ -1,7 +1,5 @@
-use Rattle.std.proofs.Common.{◌∙◌, take, sym, refl, FitsSigned, rules, to_z-of_z}
-use Rattle.std.specs.Int.{w128}
-use Rattle.cert_matrix.specs.Matrix.{table, vector}
-use Rattle.cert_check.specs.Inequalities.{scaled_offset}
+use Rattle.cert_check.proofs.Common
+use Common.{◌∙◌, FitsSigned, refl, rules, scaled_offset, sym, table, take, to_z-of_z, vector, w128}
 use Rattle.cert_check.proofs.Gaps.{taken, form-same, form_range-same}
 use Rattle.cert_check.proofs.inequality_sides.gap_sides.Goals as goal
 

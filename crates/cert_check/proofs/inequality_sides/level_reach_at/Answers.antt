@@ -1,8 +1,6 @@
-use Rattle.std.proofs.Common.{◌≡◌, ◌∙◌, refl, FitsSigned, arith, rules, to_z-of_z}
-use Rattle.std.specs.Int.{w128}
-use Rattle.std.proofs.lemmas.Int.{ints}
-use Rattle.cert_check.specs.Inequalities.{level_range}
-use Rattle.cert_check.specs.CertificateData.{certificate_data}
+use Rattle.cert_check.proofs.Common
+use Common.{◌∙◌, ◌≡◌, arith, certificate_data, FitsSigned, ints, level_range, refl, rules}
+use Common.{to_z-of_z, w128}
 use Rattle.cert_check.proofs.inequality_sides.level_reach_at.Goals as goal
 
 pub returns-clause-value : goal.returns-clause-value

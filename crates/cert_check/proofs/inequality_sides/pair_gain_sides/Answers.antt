@@ -1,5 +1,4 @@
-use Rattle.std.proofs.Common.{refl, FitsSigned, rules, to_z-of_z}
-use Rattle.std.specs.Int.{w128}
+use Rattle.cert_check.proofs.Common.{FitsSigned, refl, rules, to_z-of_z, w128}
 use Rattle.cert_check.proofs.inequality_sides.pair_gain_sides.Goals as goal
 
 pub returns-clause-in_range : goal.returns-clause-in_range

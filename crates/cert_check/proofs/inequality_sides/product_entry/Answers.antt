@@ -1,7 +1,5 @@
-use Rattle.std.proofs.Common.{refl, FitsSigned, arith, rules, to_z-of_z}
-use Rattle.std.specs.Int.{w128}
-use Rattle.cert_matrix.specs.Matrix.{table}
-use Rattle.cert_matrix.proofs.Weights.{more, beyond}
+use Rattle.cert_check.proofs.Common
+use Common.{arith, beyond, FitsSigned, more, refl, rules, table, to_z-of_z, w128}
 use Rattle.cert_check.proofs.inequality_sides.product_entry.Goals as goal
 
 pub loop-k-preserved : goal.loop-k-preserved

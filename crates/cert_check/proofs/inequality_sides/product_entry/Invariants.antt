@@ -1,6 +1,4 @@
-use Rattle.std.proofs.Common.{◌≡◌, ◌*ℤ◌}
-use Rattle.mu_num.specs.IndexedSums.{sum_below}
-use Rattle.cert_matrix.specs.Matrix.{table, weight}
+use Rattle.cert_check.proofs.Common.{◌*ℤ◌, ◌≡◌, sum_below, table, weight}
 use Rattle.cert_check.proofs.inequality_sides.product_entry.Given as goal
 
 abbrev pub invariant-loop-k : goal.invariant-loop-k

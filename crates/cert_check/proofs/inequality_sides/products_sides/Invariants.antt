@@ -1,6 +1,4 @@
-use Rattle.std.proofs.Common.{ℕ, ◌<◌}
-use Rattle.cert_check.specs.CertificateData.{certificate_data, system}
-use Rattle.cert_check.specs.Ranges.{IsProductEntryInRange}
+use Rattle.cert_check.proofs.Common.{ℕ, ◌<◌, certificate_data, IsProductEntryInRange, system}
 use Rattle.cert_check.proofs.inequality_sides.products_sides.Given as goal
 
 abbrev pub invariant-loop-j : goal.invariant-loop-j

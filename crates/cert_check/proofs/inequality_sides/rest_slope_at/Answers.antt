@@ -1,10 +1,7 @@
-use Rattle.std.proofs.Common.{◌≡◌, ◌*◌, ◌∙◌, refl, unsigned_abs, FitsSigned, arith, rules, to_z-of_z}
-use Rattle.std.specs.Int.{w128}
-use Rattle.std.proofs.lemmas.Int.{ints}
-use Rattle.cert_matrix.specs.Matrix.{table, vector}
-use Rattle.cert_matrix.proofs.Weights.{more-from, beyond-base}
-use Rattle.cert_check.specs.Inequalities.{centre_slope}
-use Rattle.cert_check.specs.CertificateData.{certificate_data, system}
+use Rattle.cert_check.proofs.Common
+use Common.{◌*◌, ◌∙◌, ◌≡◌, arith, beyond-base, centre_slope, certificate_data, FitsSigned, ints}
+use Common.{refl, rules, system, table, to_z-of_z, unsigned_abs, vector, w128}
+use Rattle.cert_matrix.proofs.Weights.{more-from}
 use Rattle.cert_check.proofs.inequality_sides.rest_slope_at.Goals as goal
 
 pub loop-k-preserved : goal.loop-k-preserved

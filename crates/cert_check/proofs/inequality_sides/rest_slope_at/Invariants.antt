@@ -1,6 +1,4 @@
-use Rattle.std.proofs.Common.{◌≡◌, ◌+◌, ◌+ℤ◌, ◌*ℤ◌}
-use Rattle.mu_num.specs.IndexedSums.{sum_below}
-use Rattle.cert_matrix.specs.Matrix.{vector, table, weight}
+use Rattle.cert_check.proofs.Common.{◌*ℤ◌, ◌+ℤ◌, ◌+◌, ◌≡◌, sum_below, table, vector, weight}
 use Rattle.cert_check.proofs.inequality_sides.rest_slope_at.Given as goal
 
 abbrev pub invariant-loop-k : goal.invariant-loop-k

@@ -1,8 +1,5 @@
-use Rattle.std.proofs.Common.{◌≡◌, ◌∙◌, FitsSigned, arith, rules, to_z-of_z}
-use Rattle.std.specs.Int.{w128}
-use Rattle.std.proofs.lemmas.Int.{ints}
-use Rattle.cert_matrix.specs.Matrix.{vector}
-use Rattle.cert_check.specs.Inequalities.{scaled_offset}
+use Rattle.cert_check.proofs.Common
+use Common.{◌∙◌, ◌≡◌, arith, FitsSigned, ints, rules, scaled_offset, to_z-of_z, vector, w128}
 use Rattle.cert_check.proofs.inequality_sides.side_gap_at.Goals as goal
 
 pub returns-clause-value : goal.returns-clause-value

@@ -1,7 +1,7 @@
-use Rattle.std.proofs.Common.{◌<◌, length, FitsSigned, ◌∙◌, length-set, refl, arith, rules, to_z-of_z, below_more}
-use Rattle.std.specs.Int.{w128}
-use Rattle.cert_matrix.specs.Matrix.{vector}
-use Rattle.cert_check.specs.Inequalities.{scaled_offset}
+use Rattle.cert_check.proofs.Common
+use Common.{◌<◌, ◌∙◌, arith, below_more, FitsSigned, length, refl, rules, scaled_offset, to_z-of_z}
+use Common.{vector, w128}
+use Rattle.std.proofs.Common.{length-set}
 use Rattle.cert_check.proofs.Gaps.{written}
 use Rattle.cert_check.proofs.inequality_sides.side_gaps.Goals as goal
 

@@ -1,6 +1,5 @@
-use Rattle.std.proofs.Common.{◌≡◌, ℕ, ◌<◌, ◌+◌, ◌*◌, ◌^◌, ◌≤◌, unsigned_abs, length}
-use Rattle.cert_matrix.specs.Matrix.{vector}
-use Rattle.cert_check.specs.Inequalities.{scaled_offset}
+use Rattle.cert_check.proofs.Common
+use Common.{ℕ, ◌*◌, ◌+◌, ◌<◌, ◌^◌, ◌≡◌, ◌≤◌, length, scaled_offset, unsigned_abs, vector}
 use Rattle.cert_check.proofs.inequality_sides.side_gaps.Given as goal
 
 abbrev pub invariant-loop-k : goal.invariant-loop-k

@@ -1,4 +1,4 @@
-use Rattle.std.proofs.Common.{◌≡◌, ◌+◌, ◌-◌, ◌≤◌, suc, sym, ◌∙◌, arith}
+use Rattle.cert_check.proofs.Common.{◌+◌, ◌-◌, ◌∙◌, ◌≡◌, ◌≤◌, arith, suc, sym}
 use Rattle.cert_check.proofs.Pairs.{pair-later, pairs-later}
 use Rattle.cert_check.proofs.inequality_sides.side_pair_at.Goals as goal
 

@@ -1,5 +1,4 @@
-use Rattle.std.proofs.Common.{◌≡◌, ◌-◌, ◌<◌}
-use Rattle.cert_check.specs.Pairs.{pairs, pair_from, pair_of}
+use Rattle.cert_check.proofs.Common.{◌-◌, ◌<◌, ◌≡◌, pair_from, pair_of, pairs}
 use Rattle.cert_check.proofs.inequality_sides.side_pair_at.Given as goal
 
 abbrev pub invariant-loop-i : goal.invariant-loop-i

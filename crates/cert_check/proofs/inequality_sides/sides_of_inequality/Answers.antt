@@ -1,5 +1,4 @@
-use Rattle.std.proofs.Common.{FitsSigned, rules, to_z-of_z}
-use Rattle.std.specs.Int.{w128}
+use Rattle.cert_check.proofs.Common.{FitsSigned, rules, to_z-of_z, w128}
 use Rattle.cert_check.proofs.inequality_sides.sides_of_inequality.Goals as goal
 
 pub returns-in-SignP-clause-in_range : goal.returns-in-SignP-clause-in_range

@@ -1,11 +1,8 @@
-use Rattle.std.proofs.Common.{◌≡◌, ◌∙◌, refl, ◌+ℤ◌, unsigned_abs, FitsSigned, arith, rules, to_z-of_z, below_more}
-use Rattle.std.specs.Int.{w128}
-use Rattle.std.proofs.lemmas.Int.{ints}
-use Rattle.mu_num.specs.IndexedSums.{abs_of}
-use Rattle.cert_matrix.specs.Matrix.{table, vector}
-use Rattle.cert_matrix.proofs.Weights.{sizes-from, beyond-base}
-use Rattle.cert_check.specs.Inequalities.{slope_limit, centre_slope}
-use Rattle.cert_check.specs.CertificateData.{certificate_data, system}
+use Rattle.cert_check.proofs.Common
+use Common.{◌+ℤ◌, ◌∙◌, ◌≡◌, abs_of, arith, below_more, beyond-base, centre_slope, certificate_data}
+use Common.{FitsSigned, ints, refl, rules, slope_limit, system, table, to_z-of_z, unsigned_abs}
+use Common.{vector, w128}
+use Rattle.cert_matrix.proofs.Weights.{sizes-from}
 use Rattle.cert_check.proofs.inequality_sides.slope_bound_at.Goals as goal
 
 pub loop-k-preserved : goal.loop-k-preserved

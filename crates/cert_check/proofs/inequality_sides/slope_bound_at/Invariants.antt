@@ -1,7 +1,6 @@
-use Rattle.std.proofs.Common.{◌≡◌, ℕ, ◌<◌, ◌+◌, ◌+ℤ◌, ◌*ℤ◌}
-use Rattle.mu_num.specs.IndexedSums.{sum_below, abs_of}
-use Rattle.cert_matrix.specs.Matrix.{vector, table, weight}
-use Rattle.cert_check.specs.CertificateData.{certificate_data}
+use Rattle.cert_check.proofs.Common
+use Common.{ℕ, ◌*ℤ◌, ◌+ℤ◌, ◌+◌, ◌<◌, ◌≡◌, abs_of, certificate_data, sum_below, table, vector}
+use Common.{weight}
 use Rattle.cert_check.specs.Ranges.{IsReachSumInRange}
 use Rattle.cert_check.proofs.inequality_sides.slope_bound_at.Given as goal
 

@@ -1,8 +1,7 @@
-use Rattle.std.proofs.Common.{◌<◌, ◌∙◌, length, FitsSigned, refl, arith, rules, to_z-of_z, below_more}
-use Rattle.std.specs.Int.{w128}
-use Rattle.cert_matrix.proofs.Rows.{length-changed, length-zeros, zeros-square, changed-square}
-use Rattle.cert_check.specs.CertificateData.{certificate_data, system}
-use Rattle.cert_check.specs.Ranges.{matrix_of}
+use Rattle.cert_check.proofs.Common
+use Common.{◌<◌, ◌∙◌, arith, below_more, certificate_data, changed-square, FitsSigned, length}
+use Common.{length-changed, length-zeros, matrix_of, refl, rules, system, to_z-of_z, w128}
+use Common.{zeros-square}
 use Rattle.cert_check.proofs.Rowwise.{filled}
 use Rattle.cert_check.proofs.inequality_sides.stage_row.Goals as goal
 

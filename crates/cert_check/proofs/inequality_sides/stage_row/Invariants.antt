@@ -1,7 +1,6 @@
-use Rattle.std.proofs.Common.{◌≡◌, ℕ, ◌<◌, length}
-use Rattle.cert_matrix.specs.Matrix.{table, IsSquare}
-use Rattle.cert_check.specs.CertificateData.{certificate_data, system}
-use Rattle.cert_check.specs.Ranges.{IsPartInRange, matrix_of}
+use Rattle.cert_check.proofs.Common
+use Common.{ℕ, ◌<◌, ◌≡◌, certificate_data, IsPartInRange, IsSquare, length, matrix_of, system}
+use Common.{table}
 use Rattle.cert_check.proofs.inequality_sides.stage_row.Given as goal
 
 abbrev pub invariant-loop-j : goal.invariant-loop-j

@@ -1,10 +1,6 @@
-use Rattle.std.proofs.Common.{◌≡◌, ◌∙◌, refl, pos, FitsSigned, arith, rules, to_z-of_z}
-use Rattle.std.specs.Int.{w128}
-use Rattle.std.proofs.lemmas.Int.{ints}
-use Rattle.mu_num.specs.IndexedSums.{sum_below}
-use Rattle.cert_matrix.specs.Matrix.{vector}
-use Rattle.mu_num.proofs.Sums.{sum_below-same}
-use Rattle.cert_matrix.proofs.Weights.{more, beyond}
+use Rattle.cert_check.proofs.Common
+use Common.{◌∙◌, ◌≡◌, arith, beyond, FitsSigned, ints, more, pos, refl, rules, sum_below}
+use Common.{sum_below-same, to_z-of_z, vector, w128}
 use Rattle.cert_check.proofs.inequality_sides.sum_side_terms.Goals as goal
 
 pub loop-i-preserved : goal.loop-i-preserved

@@ -1,6 +1,4 @@
-use Rattle.std.proofs.Common.{◌≡◌, pos, ◌*ℤ◌}
-use Rattle.mu_num.specs.IndexedSums.{sum_below}
-use Rattle.cert_matrix.specs.Matrix.{vector, weight}
+use Rattle.cert_check.proofs.Common.{◌*ℤ◌, ◌≡◌, pos, sum_below, vector, weight}
 use Rattle.cert_check.proofs.inequality_sides.sum_side_terms.Given as goal
 
 abbrev pub invariant-loop-i : goal.invariant-loop-i

@@ -1,8 +1,6 @@
-use Rattle.std.proofs.Common.{◌≡◌, ◌∙◌, FitsSigned, arith, rules, to_z-of_z}
-use Rattle.std.specs.Int.{w128}
-use Rattle.std.proofs.lemmas.Int.{ints}
-use Rattle.cert_check.specs.Inequalities.{diagonal_surplus}
-use Rattle.cert_check.specs.CertificateData.{certificate_data}
+use Rattle.cert_check.proofs.Common
+use Common.{◌∙◌, ◌≡◌, arith, certificate_data, diagonal_surplus, FitsSigned, ints, rules, to_z-of_z}
+use Common.{w128}
 use Rattle.cert_check.proofs.inequality_sides.surplus_at.Goals as goal
 
 pub returns-clause-value : goal.returns-clause-value

@@ -1,9 +1,6 @@
-use Rattle.std.proofs.Common.{refl, FitsSigned, arith, rules, to_z-of_z, below_more}
-use Rattle.std.specs.Int.{w128}
-use Rattle.cert_matrix.specs.Matrix.{table}
-use Rattle.cert_matrix.proofs.Weights.{more, beyond}
-use Rattle.cert_check.specs.Inequalities.{centre_slope}
-use Rattle.cert_check.specs.CertificateData.{certificate_data, system}
+use Rattle.cert_check.proofs.Common
+use Common.{arith, below_more, beyond, centre_slope, certificate_data, FitsSigned, more, refl}
+use Common.{rules, system, table, to_z-of_z, w128}
 use Rattle.cert_check.proofs.inequality_sides.weighted_rest_at.Goals as goal
 
 pub loop-j-preserved : goal.loop-j-preserved

@@ -1,8 +1,5 @@
-use Rattle.std.proofs.Common.{◌≡◌, ℕ, ◌<◌, ◌*ℤ◌}
-use Rattle.mu_num.specs.IndexedSums.{sum_below}
-use Rattle.cert_matrix.specs.Matrix.{table, weight}
-use Rattle.cert_check.specs.Inequalities.{centre_slope}
-use Rattle.cert_check.specs.CertificateData.{certificate_data, system}
+use Rattle.cert_check.proofs.Common
+use Common.{ℕ, ◌*ℤ◌, ◌<◌, ◌≡◌, centre_slope, certificate_data, sum_below, system, table, weight}
 use Rattle.cert_check.specs.Ranges.{IsRestInRange}
 use Rattle.cert_check.proofs.inequality_sides.weighted_rest_at.Given as goal
 

@@ -1,9 +1,7 @@
-use Rattle.std.proofs.Common.{refl, FitsSigned, arith, rules, to_z-of_z, below_more}
-use Rattle.std.specs.Int.{w128}
-use Rattle.cert_matrix.specs.Form.{product}
-use Rattle.cert_matrix.proofs.Weights.{sizes-more, beyond}
-use Rattle.cert_check.specs.Inequalities.{level_error}
-use Rattle.cert_check.specs.CertificateData.{certificate_data, system}
+use Rattle.cert_check.proofs.Common
+use Common.{arith, below_more, beyond, certificate_data, FitsSigned, level_error, product, refl}
+use Common.{rules, system, to_z-of_z, w128}
+use Rattle.cert_matrix.proofs.Weights.{sizes-more}
 use Rattle.cert_check.proofs.inequality_sides.width_sum_at.Goals as goal
 
 pub loop-j-preserved : goal.loop-j-preserved

@@ -1,10 +1,7 @@
-use Rattle.std.proofs.Common.{◌≡◌, ℕ, ◌<◌, ◌*ℤ◌}
-use Rattle.mu_num.specs.IndexedSums.{sum_below, abs_of}
-use Rattle.cert_matrix.specs.Form.{product}
-use Rattle.cert_matrix.specs.Matrix.{weight}
-use Rattle.cert_check.specs.Inequalities.{level_error}
-use Rattle.cert_check.specs.CertificateData.{certificate_data, system}
-use Rattle.cert_check.specs.Ranges.{IsProductEntryInRange, IsWidthInRange}
+use Rattle.cert_check.proofs.Common
+use Common.{ℕ, ◌*ℤ◌, ◌<◌, ◌≡◌, abs_of, certificate_data, IsProductEntryInRange, level_error}
+use Common.{product, sum_below, system, weight}
+use Rattle.cert_check.specs.Ranges.{IsWidthInRange}
 use Rattle.cert_check.proofs.inequality_sides.width_sum_at.Given as goal
 
 abbrev pub invariant-loop-j : goal.invariant-loop-j

@@ -1,9 +1,6 @@
-use Rattle.std.proofs.Common.{◌≡◌, ℕ, ◌<◌, ◌≤◌, ◌+◌, ◌⊎◌, inl, inr, length, ◌∙◌, arith}
-use Rattle.std.proofs.lemmas.Bool.{cases_lt}
-use Rattle.qss_machine.specs.Machines.{state_count}
-use Rattle.qss_machine.specs.Legitimate.{start_coefficient}
-use Rattle.cert_matrix.specs.Matrix.{table}
-use Rattle.cert_matrix.proofs.Rows.{length-zeros, zeros-square}
+use Rattle.cert_check.proofs.Common
+use Common.{ℕ, ◌+◌, ◌<◌, ◌∙◌, ◌≡◌, ◌≤◌, ◌⊎◌, arith, cases_lt, inl, inr, length-zeros}
+use Common.{start_coefficient, state_count, table, zeros-square}
 use Rattle.cert_check.proofs.Tables.{table-filled}
 use Rattle.cert_check.proofs.machine_system.affine_coefficients.Goals as goal
 

@@ -1,7 +1,5 @@
-use Rattle.std.proofs.Common.{◌≡◌, ℕ, ◌<◌, length}
-use Rattle.qss_machine.specs.Machines.{state_count}
-use Rattle.qss_machine.specs.Legitimate.{start_coefficient}
-use Rattle.cert_matrix.specs.Matrix.{table, IsSquare}
+use Rattle.cert_check.proofs.Common
+use Common.{ℕ, ◌<◌, ◌≡◌, IsSquare, length, start_coefficient, state_count, table}
 use Rattle.cert_check.proofs.machine_system.affine_coefficients.Given as goal
 
 abbrev pub invariant-loop-j : goal.invariant-loop-j

@@ -1,10 +1,8 @@
-use Rattle.std.proofs.Common.{◌≡◌, ◌<◌, ◌++◌, ◌∷◌, [], List, ℤ, length, FitsSigned, sym, ap, ap₂, ◌∙◌, arith, rules, to_z-of_z}
-use Rattle.std.specs.Int.{w128}
-use Rattle.std.proofs.lemmas.List.FromFn.{length-map-range_with_len, map-range_with_len_more}
-use Rattle.qss_machine.specs.declared.machine_parts.SlopeRow.{SlopeRow}
-use Rattle.qss_machine.specs.Slopes.{constant_part}
-use Rattle.qss_machine.specs.Machines.{state_count, start_discretes}
-use Rattle.qss_machine.specs.Legitimate.{start_constant_part}
+use Rattle.cert_check.proofs.Common
+use Common.{[], ℤ, ◌++◌, ◌<◌, ◌∙◌, ◌∷◌, ◌≡◌, ap, ap₂, arith, constant_part, FitsSigned, length}
+use Common.{length-map-range_with_len, List, rules, SlopeRow, start_constant_part, start_discretes}
+use Common.{state_count, sym, to_z-of_z, w128}
+use Rattle.std.proofs.lemmas.List.FromFn.{map-range_with_len_more}
 use Rattle.cert_check.proofs.StartRows.{row-is}
 use Rattle.cert_check.proofs.machine_system.affine_constants.Goals as goal
 

@@ -1,6 +1,4 @@
-use Rattle.std.proofs.Common.{◌≡◌}
-use Rattle.mu_num.specs.IndexedSums.{tabulate}
-use Rattle.qss_machine.specs.Legitimate.{start_constant_part}
+use Rattle.cert_check.proofs.Common.{◌≡◌, start_constant_part, tabulate}
 use Rattle.cert_check.proofs.machine_system.affine_constants.Given as goal
 
 abbrev pub invariant-loop-row : goal.invariant-loop-row

@@ -1,13 +1,8 @@
-use Rattle.std.proofs.Common.{◌≡◌, ◌≤ℤ◌, ◌<ℤ◌, ◌^◌, ℕ, ℤ, pos, List, length, FitsSigned, ◌∙◌, sym, ap, subst, arith, rules, to_z-of_z}
-use Rattle.std.specs.Int.{w128}
-use Rattle.std.proofs.lemmas.Int.{ints}
-use Rattle.std.proofs.lemmas.List.FromFn.{length-map-range_with_len}
-use Rattle.mu_num.specs.IndexedSums.{tabulate}
-use Rattle.qss_machine.specs.Machines.{state_count, level_unit}
-use Rattle.qss_machine.specs.Legitimate.{start_coefficient}
-use Rattle.qss_machine.proofs.Near.{unit_positive, unit_high}
-use Rattle.cert_matrix.specs.Matrix.{table, vector}
-use Rattle.cert_check.specs.Inequalities.{System}
+use Rattle.cert_check.proofs.Common
+use Common.{ℕ, ℤ, ◌^◌, ◌∙◌, ◌≡◌, ◌≤ℤ◌, ap, FitsSigned, length, length-map-range_with_len}
+use Common.{level_unit, List, pos, rules, start_coefficient, state_count, subst, sym, System, table}
+use Common.{tabulate, to_z-of_z, unit_positive, vector, w128}
+use Rattle.qss_machine.proofs.Near.{unit_high}
 use Rattle.cert_check.proofs.machine_system.affine_system.Goals as goal
 
 -- a system by its lists

@@ -1,11 +1,7 @@
-use Rattle.std.proofs.Common.{◌≡◌, ◌≢◌, ◌<◌, ℕ, ◌∙◌, ℤ, length, FitsSigned, ap, arith, rules, to_z-of_z}
-use Rattle.std.specs.Int.{w128}
-use Rattle.qss_machine.specs.declared.machine_parts.SlopeRow.{SlopeRow}
-use Rattle.qss_machine.specs.declared.compiled_machine.Machine.{Machine}
-use Rattle.qss_machine.specs.Slopes.{mode_coefficient}
-use Rattle.qss_machine.specs.Machines.{state_count, start_discretes, row_at}
-use Rattle.qss_machine.specs.Legitimate.{start_coefficient}
-use Rattle.cert_matrix.proofs.Rows.{length-changed, changed-square}
+use Rattle.cert_check.proofs.Common
+use Common.{ℕ, ℤ, ◌<◌, ◌∙◌, ◌≡◌, ◌≢◌, ap, arith, changed-square, FitsSigned, length, length-changed}
+use Common.{Machine, mode_coefficient, row_at, rules, SlopeRow, start_coefficient, start_discretes}
+use Common.{state_count, to_z-of_z, w128}
 use Rattle.cert_check.proofs.Rowwise.{filled}
 use Rattle.cert_check.proofs.StartRows.{row-is}
 use Rattle.cert_check.proofs.Tables.{changed-elsewhere}

@@ -1,20 +1,14 @@
-use Rattle.std.proofs.Common.{◌≡◌, ℕ, ◌-◌, ◌*◌, ◌^◌, ◌≤◌, ◌<◌, List, length, get_or, ℤ, pos}
-use Rattle.std.proofs.Common.{◌+ℤ◌, ◌*ℤ◌, ap, sym, ◌∙◌, arith}
-use Rattle.std.proofs.Math.IntN.{*ℤ-zero}
-use Rattle.std.proofs.lemmas.Int.{ints, to_z-of_z}
+use Rattle.cert_check.proofs.Common
+use Common.{*ℤ-zero, ℕ, ℤ, ◌*ℤ◌, ◌*◌, ◌+ℤ◌, ◌-◌, ◌<◌, ◌^◌, ◌∙◌, ◌≡◌, ◌≤◌, ap, arith, discrete_count}
+use Common.{Entry, fits_below, get_or, int_at, ints, IsRow, length, List, Machine, of_z, pos}
+use Common.{SlopeRow, start_discretes, state_count, sum_step, sym, to_z, w64}
+use Rattle.std.proofs.lemmas.Int.{to_z-of_z}
 use Rattle.std.specs.Int.RustNames.{unsigned_abs, FitsSigned}
-use Rattle.mu_num.specs.IndexedSums.{int_at}
-use Rattle.qss_machine.specs.declared.compiled_machine.Machine.{Machine}
-use Rattle.qss_machine.specs.declared.machine_parts.Entry.{Entry}
-use Rattle.qss_machine.specs.declared.machine_parts.SlopeRow.{SlopeRow}
-use Rattle.qss_machine.specs.MachineLimits.{IsRow}
-use Rattle.qss_machine.specs.Machines.{state_count, discrete_count, start_discretes}
-use Rattle.qss_machine.proofs.Loops.{fits_below, sum_step, sum_done}
+use Rattle.qss_machine.proofs.Loops.{sum_done}
 use Rattle.cert_check.proofs.StartRows.{term_of, state-value, discrete-value, constant-is}
 use Rattle.cert_check.proofs.StartRows.{next-fits, sum-skips, few-entries}
+use mir.Syntax.{w128}
 use Rattle.cert_check.proofs.start_rows.slope_at_zero_levels.Goals as goal
-use mir.Syntax.{w64, w128}
-use mir.Val.{to_z, of_z}
 
 abbrev none : Entry
 none = record { var = 0; coef = pos 0 }

@@ -1,5 +1,4 @@
-use Rattle.std.proofs.Common.{◌≡◌, ◌*◌, ◌^◌, ◌≤◌, take, unsigned_abs}
-use Rattle.mu_num.specs.IndexedSums.{sum_over}
+use Rattle.cert_check.proofs.Common.{◌*◌, ◌^◌, ◌≡◌, ◌≤◌, sum_over, take, unsigned_abs}
 use Rattle.cert_check.proofs.StartRows.{term_of}
 use Rattle.cert_check.proofs.start_rows.slope_at_zero_levels.Given as goal
 

@@ -1,16 +1,15 @@
-use Rattle.std.proofs.Common.{◌≡◌, ◌+◌, ◌^◌, ◌≤◌, ℤ, pos, ◌+ℤ◌, ap, ap₂, sym, subst, ◌∙◌, arith}
+use Rattle.cert_check.proofs.Common
+use Common.{ℤ, ◌+ℤ◌, ◌+◌, ◌^◌, ◌∙◌, ◌≡◌, ◌≤◌, ap, ap₂, arith, Machine, of_z, pos, subst, sym, to_z}
 use Rattle.std.proofs.Math.Pow.{pow_mono}
 use Rattle.std.proofs.lemmas.Int.{to_z-of_z}
 use Rattle.std.specs.Int.RustNames.{unsigned_abs, FitsSigned}
 use Rattle.mu_num.specs.Rounding.{nearest_of}
 use Rattle.mu_num.proofs.Quotients.{nearest_bound, nearest_meets}
-use Rattle.qss_machine.specs.declared.compiled_machine.Machine.{Machine}
 use Rattle.qss_machine.proofs.Loops.{two_fit, two_sum}
 use Rattle.qss_machine.proofs.Powers.{power_positive}
 use Rattle.cert_check.proofs.StartRows.{few-entries}
-use Rattle.cert_check.proofs.start_rows.start_mode_coefficient.Goals as goal
 use mir.Syntax.{w128}
-use mir.Val.{to_z, of_z}
+use Rattle.cert_check.proofs.start_rows.start_mode_coefficient.Goals as goal
 
 -- the limit of a rounded sum of products
 abbrev IsRounded : ℤ → Type 0

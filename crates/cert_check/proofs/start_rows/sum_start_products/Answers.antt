@@ -1,18 +1,14 @@
-use Rattle.std.proofs.Common.{◌≡◌, ◌≢◌, ℕ, ◌-◌, ◌*◌, ◌^◌, ◌≤◌, ◌<◌, ◌==◌, List, length, get_or}
-use Rattle.std.proofs.Common.{ℤ, pos, ◌*ℤ◌, ap, sym, ◌∙◌, arith}
-use Rattle.std.specs.Prelude.{if◌then◌else◌}
-use Rattle.std.proofs.lemmas.Int.{ints, to_z-of_z}
+use Rattle.cert_check.proofs.Common
+use Common.{ℕ, ℤ, ◌*ℤ◌, ◌*◌, ◌-◌, ◌<◌, ◌==◌, ◌^◌, ◌∙◌, ◌≡◌, ◌≢◌, ◌≤◌, ap, arith, get_or}
+use Common.{if◌then◌else◌, int_at, ints, length, List, Machine, pos, start_discretes, state_count}
+use Common.{sum_step, sym, to_z, w64}
+use Rattle.std.proofs.lemmas.Int.{to_z-of_z}
 use Rattle.std.specs.Int.RustNames.{unsigned_abs, FitsSigned}
-use Rattle.mu_num.specs.IndexedSums.{int_at}
 use Rattle.mu_num.proofs.Tests.{if-true, if-false, eqb-yes, eqb-no}
-use Rattle.qss_machine.specs.declared.compiled_machine.Machine.{Machine}
 use Rattle.qss_machine.specs.declared.machine_parts.Product.{Product}
-use Rattle.qss_machine.specs.Machines.{state_count, start_discretes}
-use Rattle.qss_machine.proofs.Loops.{sum_step}
 use Rattle.cert_check.proofs.StartRows.{next-fits, sum-skips, few-products}
+use mir.Syntax.{w128}
 use Rattle.cert_check.proofs.start_rows.sum_start_products.Goals as goal
-use mir.Syntax.{w64, w128}
-use mir.Val.{to_z}
 
 abbrev none : Product
 none = record { state = 0; discrete = 0; coef = pos 0 }

@@ -1,5 +1,5 @@
-use Rattle.std.proofs.Common.{◌≡◌, ◌*◌, ◌^◌, ◌≤◌, take, unsigned_abs}
-use Rattle.qss_machine.specs.Machines.{state_count, start_discretes}
+use Rattle.cert_check.proofs.Common
+use Common.{◌*◌, ◌^◌, ◌≡◌, ◌≤◌, start_discretes, state_count, take, unsigned_abs}
 use Rattle.qss_machine.specs.Slopes.{products_of}
 use Rattle.cert_check.proofs.start_rows.sum_start_products.Given as goal
 

@@ -1,5 +1,4 @@
-use Rattle.std.proofs.Common.{refl, arith, below_more}
-use Rattle.std.proofs.lemmas.Int.{ints}
+use Rattle.cert_matrix.proofs.Common.{arith, below_more, ints, refl}
 use Rattle.cert_matrix.proofs.gram.test_gram_rows.Goals as goal
 
 pub loop-i-preserved : goal.loop-i-preserved

@@ -1,5 +1,4 @@
-use Rattle.std.proofs.Common.{ℕ, ◌<◌, length}
-use Rattle.cert_matrix.specs.Matrix.{table}
+use Rattle.cert_matrix.proofs.Common.{ℕ, ◌<◌, length, table}
 use Rattle.cert_matrix.specs.Gram.{IsRowDominant}
 use Rattle.cert_matrix.proofs.gram.test_gram_rows.Given as goal
 

@@ -1,6 +1,6 @@
-use Rattle.std.proofs.Common.{◌<◌, refl, get_or, length, pos, FitsSigned, arith, rules, to_z-of_z}
-use Rattle.std.specs.Int.{w128}
-use Rattle.cert_matrix.specs.Matrix.{table, vector}
+use Rattle.cert_matrix.proofs.Common
+use Common.{◌<◌, arith, FitsSigned, get_or, length, pos, refl, rules, table, to_z-of_z, vector}
+use Common.{w128}
 use Rattle.cert_matrix.proofs.Weights.{more, beyond}
 use Rattle.cert_matrix.proofs.matrix.multiply_matrix_row.Goals as goal
 

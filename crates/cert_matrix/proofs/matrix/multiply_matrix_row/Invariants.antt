@@ -1,6 +1,4 @@
-use Rattle.std.proofs.Common.{◌≡◌, ◌*ℤ◌}
-use Rattle.mu_num.specs.IndexedSums.{sum_below}
-use Rattle.cert_matrix.specs.Matrix.{vector, table, weight}
+use Rattle.cert_matrix.proofs.Common.{◌*ℤ◌, ◌≡◌, sum_below, table, vector, weight}
 use Rattle.cert_matrix.proofs.matrix.multiply_matrix_row.Given as goal
 
 abbrev pub invariant-loop-j : goal.invariant-loop-j

@@ -1,6 +1,5 @@
-use Rattle.std.proofs.Common.{get_or, pos, FitsSigned, arith, rules, to_z-of_z, refl}
-use Rattle.std.specs.Int.{w128}
-use Rattle.std.proofs.lemmas.Int.{ints}
+use Rattle.cert_matrix.proofs.Common
+use Common.{arith, FitsSigned, get_or, ints, pos, refl, rules, to_z-of_z, w128}
 use Rattle.cert_matrix.proofs.Products.{products-drop, weights-drop}
 use Rattle.cert_matrix.proofs.weighing.weigh.Goals as goal
 

@@ -1,5 +1,4 @@
-use Rattle.std.proofs.Common.{◌≡◌, ◌+◌, ◌+ℤ◌, drop}
-use Rattle.cert_matrix.specs.Sums.{products, weights}
+use Rattle.cert_matrix.proofs.Common.{◌+ℤ◌, ◌+◌, ◌≡◌, drop, products, weights}
 use Rattle.cert_matrix.proofs.weighing.weigh.Given as goal
 
 abbrev pub invariant-loop-term : goal.invariant-loop-term

@@ -1,10 +1,4 @@
-use Rattle.std.proofs.Common.{◌≡◌, ◌∙◌, ◌≤ℤ◌, pos, unsigned_abs, FitsSigned, refl, sym, ap, arith}
-use Rattle.std.proofs.Common.{rules, to_z-of_z}
-use Rattle.std.specs.Int.{w128}
-use Rattle.std.proofs.lemmas.Int.{ints}
-use Rattle.mu_num.specs.Rounding.{ceiling_of}
-use Rattle.cert_matrix.specs.Matrix.{vector}
-use Rattle.cert_propose.specs.RangedSums.{root_up_of}
+use Rattle.cert_propose.proofs.Common.{◌≡◌, ceiling_of, FitsSigned, rules, to_z-of_z, vector, w128}
 use Rattle.cert_propose.proofs.Candidates.{ceiling-bound}
 use Rattle.cert_propose.proofs.Roots.{root-is}
 use Rattle.cert_propose.proofs.candidate_basin.basin_root.Goals as goal

@@ -1,6 +1,4 @@
-use Rattle.std.proofs.Common.{◌≡◌, ◌∙◌, sym, FitsSigned, rules, to_z-of_z}
-use Rattle.std.specs.Int.{w128}
-use Rattle.cert_check.specs.CertificateData.{system}
+use Rattle.cert_propose.proofs.Common.{◌∙◌, FitsSigned, rules, sym, system, to_z-of_z, w128}
 use Rattle.cert_propose.proofs.Candidates.{round-bound}
 use Rattle.cert_propose.proofs.Rounds.{repeated-step, repeated-stop, repeated-end}
 use Rattle.cert_propose.proofs.candidate_basin.grow_basin_radius.Goals as goal

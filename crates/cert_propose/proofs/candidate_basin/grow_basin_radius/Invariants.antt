@@ -1,7 +1,4 @@
-use Rattle.std.proofs.Common.{◌≡◌, ◌-◌}
-use Rattle.cert_check.specs.CertificateData.{system}
-use Rattle.cert_propose.specs.ProposalLimits.{IsBound}
-use Rattle.cert_propose.specs.RangedSums.{repeated}
+use Rattle.cert_propose.proofs.Common.{◌-◌, ◌≡◌, IsBound, repeated, system}
 use Rattle.cert_propose.specs.Candidate as Step
 use Rattle.cert_propose.proofs.candidate_basin.grow_basin_radius.Given as goal
 

@@ -1,8 +1,6 @@
-use Rattle.std.proofs.Common.{◌≡◌, ◌∙◌, ◌≤ℤ◌, pos, refl, sym, FitsSigned, arith, rules, to_z-of_z}
-use Rattle.std.specs.Int.{w128}
-use Rattle.std.proofs.lemmas.Int.{ints}
-use Rattle.cert_matrix.specs.Matrix.{vector}
-use Rattle.cert_check.specs.CertificateData.{system}
+use Rattle.cert_propose.proofs.Common
+use Common.{◌∙◌, ◌≤ℤ◌, arith, FitsSigned, ints, pos, refl, rules, sym, system, to_z-of_z, vector}
+use Common.{w128}
 use Rattle.cert_propose.proofs.Candidates.{start-bound, grown_radius-bound}
 use Rattle.cert_propose.proofs.candidate_basin.search_basin.Goals as goal
 

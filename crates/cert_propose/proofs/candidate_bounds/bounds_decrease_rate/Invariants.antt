@@ -1,5 +1,4 @@
-use Rattle.std.proofs.Common.{◌≡◌}
-use Rattle.cert_propose.specs.Candidate.{least, quotient_at}
+use Rattle.cert_propose.proofs.Common.{◌≡◌, least, quotient_at}
 use Rattle.cert_propose.proofs.candidate_bounds.bounds_decrease_rate.Given as goal
 
 abbrev pub invariant-loop-i : goal.invariant-loop-i

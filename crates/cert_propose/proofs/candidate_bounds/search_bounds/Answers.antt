@@ -1,8 +1,4 @@
-use Rattle.std.proofs.Common.{◌≡◌, ◌∙◌, length, Some, None, refl, sym}
-use Rattle.cert_check.specs.CertificateData.{system}
-use Rattle.cert_matrix.specs.Matrix.{table}
-use Rattle.cert_propose.specs.RangedSums.{product_of}
-use Rattle.cert_propose.specs.Candidate.{over_sizes, falls_over, row_sizes, raised}
+use Rattle.cert_propose.proofs.Common.{◌∙◌, ◌≡◌, length, refl, sym}
 use Rattle.cert_propose.proofs.Collected.{collected-length}
 use Rattle.cert_propose.proofs.candidate_bounds.search_bounds.Goals as goal
 

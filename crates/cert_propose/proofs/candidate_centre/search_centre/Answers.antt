@@ -1,8 +1,6 @@
-use Rattle.std.proofs.Common.{◌≡◌, ◌∙◌, pos, refl, sym, rules}
-use Rattle.mu_num.specs.IndexedSums.{tabulate}
-use Rattle.cert_check.specs.CertificateData.{system}
-use Rattle.cert_propose.specs.Candidate as Step
+use Rattle.cert_propose.proofs.Common.{◌∙◌, pos, refl, rules, sym, system}
 use Rattle.cert_propose.proofs.Rounds.{repeated-step, repeated-stop, repeated-end}
+use Rattle.cert_propose.specs.Candidate as Step
 use Rattle.cert_propose.proofs.candidate_centre.search_centre.Goals as goal
 
 pub loop-round-init : goal.loop-round-init

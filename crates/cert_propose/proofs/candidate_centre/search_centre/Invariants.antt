@@ -1,6 +1,4 @@
-use Rattle.std.proofs.Common.{◌≡◌, ◌-◌}
-use Rattle.cert_check.specs.CertificateData.{system}
-use Rattle.cert_propose.specs.RangedSums.{repeated}
+use Rattle.cert_propose.proofs.Common.{◌-◌, ◌≡◌, repeated, system}
 use Rattle.cert_propose.specs.Candidate as Step
 use Rattle.cert_propose.proofs.candidate_centre.search_centre.Given as goal
 

@@ -1,6 +1,4 @@
-use Rattle.std.proofs.Common.{◌≡◌, sym, subst, FitsSigned, rules, to_z-of_z}
-use Rattle.std.specs.Int.{w128}
-use Rattle.cert_propose.specs.ProposalLimits.{IsBound}
+use Rattle.cert_propose.proofs.Common.{FitsSigned, IsBound, rules, subst, sym, to_z-of_z, w128}
 use Rattle.cert_propose.proofs.Candidates.{sum-bound, gains-≥, ceiling-bound}
 use Rattle.cert_propose.proofs.candidate_ellipsoid.search_ellipsoid.Goals as goal
 

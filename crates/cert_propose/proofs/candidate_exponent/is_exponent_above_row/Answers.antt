@@ -1,5 +1,4 @@
-use Rattle.std.proofs.Common.{sym, length}
-use Rattle.cert_matrix.specs.Matrix.{table}
+use Rattle.cert_propose.proofs.Common.{length, sym, table}
 use Rattle.cert_propose.proofs.Exponents.{far-above}
 use Rattle.cert_propose.proofs.candidate_exponent.is_exponent_above_row.Goals as goal
 

@@ -1,7 +1,5 @@
-use Rattle.std.proofs.Common.{◌≡◌, ◌<◌, ◌^◌, ◌*ℤ◌, ℕ, pos, length, sym, arith}
-use Rattle.std.specs.Prelude.{int_le}
-use Rattle.cert_matrix.specs.Matrix.{table}
-use Rattle.cert_propose.specs.Candidate.{row_size}
+use Rattle.cert_propose.proofs.Common
+use Common.{◌*ℤ◌, ◌<◌, ◌^◌, arith, int_le, length, pos, row_size, sym, table}
 use Rattle.cert_propose.proofs.Exponents.{all-below, one-below}
 use Rattle.cert_propose.proofs.candidate_exponent.is_exponent_enough.Goals as goal
 

@@ -1,7 +1,5 @@
-use Rattle.std.proofs.Common.{◌≡◌, ℕ, ◌<◌, ◌^◌, ◌*ℤ◌, pos, true, length}
-use Rattle.std.specs.Prelude.{int_le}
-use Rattle.cert_matrix.specs.Matrix.{table}
-use Rattle.cert_propose.specs.Candidate.{row_size}
+use Rattle.cert_propose.proofs.Common
+use Common.{ℕ, ◌*ℤ◌, ◌<◌, ◌^◌, ◌≡◌, int_le, length, pos, row_size, table, true}
 use Rattle.cert_propose.proofs.candidate_exponent.is_exponent_enough.Given as goal
 
 abbrev pub invariant-loop-i : goal.invariant-loop-i

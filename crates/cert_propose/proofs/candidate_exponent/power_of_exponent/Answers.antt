@@ -1,7 +1,7 @@
-use Rattle.std.proofs.Common.{◌≡◌, ◌∙◌, ap, to_z, arith}
-use Rattle.std.specs.Int.{w128}
+use Rattle.cert_propose.proofs.Common.{◌∙◌, ap, arith, pow_below, w128}
+use Rattle.std.proofs.Common.{to_z}
 use Rattle.std.proofs.lemmas.Int.{to_z_pos}
-use Rattle.std.proofs.lemmas.Nat.{one_shl, pow_below}
+use Rattle.std.proofs.lemmas.Nat.{one_shl}
 use Rattle.cert_propose.proofs.candidate_exponent.power_of_exponent.Goals as goal
 
 pub returns : goal.returns

@@ -1,7 +1,5 @@
-use Rattle.std.proofs.Common.{◌≡◌, ◌∙◌, length, refl, sym, ap, arith, rules}
+use Rattle.cert_propose.proofs.Common.{ap, arith, is_exponent, length, sym, table}
 use Rattle.std.specs.Prelude.{unwrap_or}
-use Rattle.cert_matrix.specs.Matrix.{table}
-use Rattle.cert_propose.specs.Candidate.{is_exponent}
 use Rattle.cert_propose.proofs.Exponents.{first-place, no-place}
 use Rattle.cert_propose.proofs.candidate_exponent.search_exponent.Goals as goal
 

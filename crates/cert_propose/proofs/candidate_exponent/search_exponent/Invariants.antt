@@ -1,6 +1,4 @@
-use Rattle.std.proofs.Common.{◌≡◌, ℕ, ◌<◌, false, length}
-use Rattle.cert_matrix.specs.Matrix.{table}
-use Rattle.cert_propose.specs.Candidate.{is_exponent}
+use Rattle.cert_propose.proofs.Common.{ℕ, ◌<◌, ◌≡◌, false, is_exponent, length, table}
 use Rattle.cert_propose.proofs.candidate_exponent.search_exponent.Given as goal
 
 abbrev pub invariant-loop-q : goal.invariant-loop-q

@@ -1,5 +1,4 @@
-use Rattle.std.proofs.Common.{◌≡◌, ◌∙◌, length, refl, sym, ap}
-use Rattle.std.proofs.lemmas.List.FromFn.{length-map-range_with_len}
+use Rattle.cert_propose.proofs.Common.{◌∙◌, ◌≡◌, ap, length, length-map-range_with_len, refl, sym}
 use Rattle.cert_propose.proofs.Collected.{collected-length}
 use Rattle.cert_propose.proofs.candidate_form.form_round.Goals as goal
 

@@ -1,4 +1,4 @@
-use Rattle.std.proofs.Common.{◌≡◌, ◌∙◌, length, refl, sym}
+use Rattle.cert_propose.proofs.Common.{◌∙◌, ◌≡◌, length, refl, sym}
 use Rattle.cert_propose.proofs.Collected.{collected-length}
 use Rattle.cert_propose.proofs.candidate_form.form_round_from.Goals as goal
 

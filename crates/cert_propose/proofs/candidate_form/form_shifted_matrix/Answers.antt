@@ -1,6 +1,4 @@
-use Rattle.std.proofs.Common.{◌+ℤ◌, ◌^◌, pos, rules}
-use Rattle.cert_check.specs.CertificateData.{system}
-use Rattle.cert_propose.specs.Candidate.{on_diagonal}
+use Rattle.cert_propose.proofs.Common.{◌+ℤ◌, ◌^◌, on_diagonal, pos, rules, system}
 use Rattle.cert_propose.proofs.candidate_form.form_shifted_matrix.Goals as goal
 
 pub returns : goal.returns

@@ -1,4 +1,4 @@
-use Rattle.std.proofs.Common.{◌≡◌, ◌∙◌, length, refl, sym, ap}
+use Rattle.cert_propose.proofs.Common.{◌∙◌, ap, length, refl, sym}
 use Rattle.cert_matrix.proofs.Rows.{length-zeros}
 use Rattle.cert_propose.proofs.Candidates.{form-length}
 use Rattle.cert_propose.proofs.Rounds.{repeated-step, repeated-stop, repeated-end}

@@ -1,6 +1,4 @@
-use Rattle.std.proofs.Common.{◌≡◌, ◌-◌, length}
-use Rattle.cert_matrix.specs.Matrix.{zeros}
-use Rattle.cert_propose.specs.RangedSums.{repeated}
+use Rattle.cert_propose.proofs.Common.{◌-◌, ◌≡◌, length, repeated, zeros}
 use Rattle.cert_propose.specs.Candidate as Step
 use Rattle.cert_propose.proofs.candidate_form.repeat_form_rounds.Given as goal
 

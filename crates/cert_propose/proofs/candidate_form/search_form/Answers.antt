@@ -1,5 +1,4 @@
-use Rattle.std.proofs.Common.{◌≡◌, ◌∙◌, length, ap}
-use Rattle.std.proofs.lemmas.List.FromFn.{length-map-range_with_len}
+use Rattle.cert_propose.proofs.Common.{◌∙◌, ◌≡◌, ap, length, length-map-range_with_len}
 use Rattle.cert_propose.proofs.candidate_form.search_form.Goals as goal
 
 pub returns : goal.returns

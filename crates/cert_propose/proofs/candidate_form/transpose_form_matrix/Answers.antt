@@ -1,5 +1,4 @@
-use Rattle.std.proofs.Common.{◌≡◌, ◌∙◌, refl, sym, ap, arith, rules}
-use Rattle.cert_matrix.specs.Matrix.{table}
+use Rattle.cert_propose.proofs.Common.{rules, table}
 use Rattle.cert_propose.proofs.candidate_form.transpose_form_matrix.Goals as goal
 
 pub returns : goal.returns

@@ -1,7 +1,6 @@
-use Rattle.std.proofs.Common.{◌≡◌, ◌∙◌, ◌+◌, ◌≤◌, ◌^◌, ◌+ℤ◌, neg_ℤ, Some, unsigned_abs, FitsSigned}
-use Rattle.std.proofs.Common.{sym, ap, arith, rules, to_z-of_z}
-use Rattle.std.specs.Int.{w128}
-use Rattle.std.proofs.lemmas.Int.{ints}
+use Rattle.cert_propose.proofs.Common
+use Common.{◌+ℤ◌, ◌+◌, ◌^◌, ◌∙◌, ◌≡◌, ◌≤◌, ap, arith, FitsSigned, ints, neg_ℤ, rules, Some, sym}
+use Common.{to_z-of_z, unsigned_abs, w128}
 use Rattle.cert_propose.proofs.Ranges.{within}
 use Rattle.cert_propose.proofs.candidate_matrices.add_candidate_negatives.Goals as goal
 

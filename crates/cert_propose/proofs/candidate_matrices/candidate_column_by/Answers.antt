@@ -1,6 +1,5 @@
-use Rattle.std.proofs.Common.{◌≡◌, ◌∙◌, ◌++◌, ◌∷◌, [], FitsSigned, refl, sym, ap, length}
-use Rattle.std.proofs.Common.{length-append, arith, rules, to_z-of_z}
-use Rattle.std.specs.Int.{w128}
+use Rattle.cert_propose.proofs.Common
+use Common.{[], ◌∙◌, ◌∷◌, arith, FitsSigned, length-append, rules, sym, to_z-of_z, w128}
 use Rattle.cert_propose.proofs.Collected.{collected-more, collected-stop}
 use Rattle.cert_propose.proofs.candidate_matrices.candidate_column_by.Goals as goal
 

@@ -1,6 +1,4 @@
-use Rattle.std.proofs.Common.{◌≡◌, ℕ, ◌<◌, ℤ, Option, Some, length}
-use Rattle.mu_num.specs.IndexedSums.{tabulate}
-use Rattle.cert_propose.specs.RangedSums.{collected}
+use Rattle.cert_propose.proofs.Common.{ℕ, ℤ, ◌<◌, ◌≡◌, collected, length, Option, Some, tabulate}
 use Rattle.cert_propose.proofs.candidate_matrices.candidate_column_by.Given as goal
 
 abbrev pub invariant-loop-k : goal.invariant-loop-k

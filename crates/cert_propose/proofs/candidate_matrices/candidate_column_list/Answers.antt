@@ -1,9 +1,6 @@
-use Rattle.std.proofs.Common.{◌≡◌, refl, subst, length, ◌∙◌, ◌++◌, ◌∷◌, [], List, ℤ, FitsSigned}
-use Rattle.std.proofs.Common.{sym, ap₂, arith, rules, to_z-of_z}
-use Rattle.std.specs.Int.{w128}
-use Rattle.std.proofs.lemmas.List.FromFn.{map-range_with_len_more}
-use Rattle.cert_matrix.specs.Matrix.{vector}
-use Rattle.cert_check.specs.CertificateLimits.{IsVector}
+use Rattle.cert_propose.proofs.Common
+use Common.{[], ℤ, ◌++◌, ◌∙◌, ◌∷◌, ◌≡◌, ap₂, arith, FitsSigned, IsVector, List}
+use Common.{map-range_with_len_more, rules, subst, sym, to_z-of_z, vector, w128}
 use Rattle.cert_propose.proofs.Small.{whole}
 use Rattle.cert_propose.proofs.candidate_matrices.candidate_column_list.Goals as goal
 

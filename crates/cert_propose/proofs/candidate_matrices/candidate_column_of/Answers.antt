@@ -1,7 +1,6 @@
-use Rattle.std.proofs.Common.{◌≡◌, ◌∙◌, ◌++◌, ◌∷◌, [], List, ℤ, FitsSigned, refl, sym, ap, ap₂}
-use Rattle.std.proofs.Common.{length, length-append, arith, rules, to_z-of_z}
-use Rattle.std.specs.Int.{w128}
-use Rattle.std.proofs.lemmas.List.FromFn.{map-range_with_len_more}
+use Rattle.cert_propose.proofs.Common
+use Common.{[], ℤ, ◌++◌, ◌∙◌, ◌∷◌, ap₂, arith, FitsSigned, length-append, List}
+use Common.{map-range_with_len_more, rules, sym, to_z-of_z, w128}
 use Rattle.cert_propose.proofs.candidate_matrices.candidate_column_of.Goals as goal
 
 pub loop-k-preserved : goal.loop-k-preserved

@@ -1,6 +1,4 @@
-use Rattle.std.proofs.Common.{◌≡◌, ℕ, ◌<◌, ℤ, length}
-use Rattle.mu_num.specs.IndexedSums.{tabulate}
-use Rattle.cert_matrix.specs.Form.{Vector}
+use Rattle.cert_propose.proofs.Common.{ℕ, ℤ, ◌<◌, ◌≡◌, length, tabulate, Vector}
 use Rattle.cert_propose.proofs.candidate_matrices.candidate_column_of.Given as goal
 
 abbrev pub invariant-loop-k : goal.invariant-loop-k

@@ -1,8 +1,6 @@
-use Rattle.std.proofs.Common.{◌≡◌, ◌∙◌, ◌⊎◌, inl, inr, ◌+◌, ◌<◌, ◌≤◌, ℕ, ℤ, length, Option, Some}
-use Rattle.std.proofs.Common.{None, refl, sym, ap, arith}
-use Rattle.std.proofs.lemmas.Bool.{cases_lt}
-use Rattle.cert_matrix.specs.Matrix.{table}
-use Rattle.cert_propose.specs.RangedSums.{vector_by}
+use Rattle.cert_propose.proofs.Common
+use Common.{ℕ, ℤ, ◌+◌, ◌<◌, ◌∙◌, ◌≡◌, ◌≤◌, ◌⊎◌, ap, arith, cases_lt, inl, inr, length, None, Option}
+use Common.{Some, sym, table, vector_by}
 use Rattle.cert_propose.proofs.Collected.{table-is, table-stop}
 use Rattle.cert_propose.proofs.candidate_matrices.candidate_matrix_by.Goals as goal
 

@@ -1,6 +1,4 @@
-use Rattle.std.proofs.Common.{◌≡◌, ℕ, ◌<◌, ℤ, Option, Some, length}
-use Rattle.cert_matrix.specs.Form.{Table}
-use Rattle.cert_matrix.specs.Matrix.{table, IsSquare}
+use Rattle.cert_propose.proofs.Common.{ℕ, ℤ, ◌<◌, ◌≡◌, IsSquare, length, Option, Some, table}
 use Rattle.cert_propose.proofs.candidate_matrices.candidate_matrix_by.Given as goal
 
 abbrev pub invariant-loop-i : goal.invariant-loop-i

@@ -1,7 +1,5 @@
-use Rattle.std.proofs.Common.{◌≡◌, ◌∙◌, ◌⊎◌, inl, inr, ◌+◌, ◌<◌, ◌≤◌, ℕ, length, refl, sym, arith}
-use Rattle.std.proofs.lemmas.Bool.{cases_lt}
-use Rattle.cert_matrix.specs.Form.{Table}
-use Rattle.cert_matrix.specs.Matrix.{table}
+use Rattle.cert_propose.proofs.Common
+use Common.{ℕ, ◌+◌, ◌<◌, ◌∙◌, ◌≡◌, ◌≤◌, ◌⊎◌, arith, cases_lt, inl, inr, length, Table, table}
 use Rattle.cert_check.proofs.Tables.{table-filled}
 use Rattle.cert_propose.proofs.candidate_matrices.candidate_matrix_of.Goals as goal
 

@@ -1,7 +1,6 @@
-use Rattle.std.proofs.Common.{◌≡◌, ◌≢◌, ◌∙◌, ◌<◌, length, FitsSigned, arith, rules, to_z-of_z}
-use Rattle.std.specs.Int.{w128}
-use Rattle.cert_matrix.proofs.Rows.{length-changed, changed-square}
-use Rattle.cert_check.proofs.Tables.{changed-elsewhere}
+use Rattle.cert_propose.proofs.Common
+use Common.{◌<◌, ◌∙◌, ◌≢◌, arith, changed-elsewhere, changed-square, FitsSigned, length}
+use Common.{length-changed, rules, to_z-of_z, w128}
 use Rattle.cert_propose.proofs.Entries.{entry-filled}
 use Rattle.cert_propose.proofs.candidate_matrices.fill_candidate_row.Goals as goal
 

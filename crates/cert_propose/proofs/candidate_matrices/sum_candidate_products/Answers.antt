@@ -1,10 +1,7 @@
-use Rattle.std.proofs.Common.{◌≡◌, ◌+◌, ◌*◌, ◌^◌, ◌<◌, ◌≤◌, ◌∙◌, ◌+ℤ◌, ◌*ℤ◌, pos, Some, refl, sym}
-use Rattle.std.proofs.Common.{ap, unsigned_abs, FitsSigned, arith, rules, to_z-of_z}
-use Rattle.std.specs.Int.{w128}
-use Rattle.std.proofs.lemmas.Int.{ints}
-use Rattle.mu_num.specs.IndexedSums.{sum_below}
-use Rattle.cert_matrix.specs.Matrix.{weight}
-use Rattle.cert_matrix.proofs.Weights.{more-from, beyond-base}
+use Rattle.cert_propose.proofs.Common
+use Common.{◌*ℤ◌, ◌+ℤ◌, ◌+◌, ◌^◌, ◌∙◌, ◌≡◌, ◌≤◌, ap, arith, beyond-base, FitsSigned, ints, refl}
+use Common.{rules, Some, sum_below, sym, to_z-of_z, unsigned_abs, w128, weight}
+use Rattle.cert_matrix.proofs.Weights.{more-from}
 use Rattle.cert_propose.proofs.Ranges.{within, beyond}
 use Rattle.cert_propose.proofs.candidate_matrices.sum_candidate_products.Goals as goal
 

@@ -1,7 +1,4 @@
-use Rattle.std.proofs.Common.{◌≡◌, ℕ, ◌<◌, ◌+◌, ℤ, ◌+ℤ◌, ◌*ℤ◌}
-use Rattle.mu_num.specs.IndexedSums.{sum_below}
-use Rattle.cert_matrix.specs.Form.{Vector}
-use Rattle.cert_matrix.specs.Matrix.{weight}
+use Rattle.cert_propose.proofs.Common.{ℕ, ℤ, ◌*ℤ◌, ◌+ℤ◌, ◌+◌, ◌<◌, ◌≡◌, sum_below, Vector, weight}
 use Rattle.cert_propose.proofs.candidate_matrices.sum_candidate_products.Given as goal
 
 abbrev pub invariant-loop-k : goal.invariant-loop-k

@@ -1,9 +1,7 @@
-use Rattle.std.proofs.Common.{◌≡◌, ◌+◌, ◌*◌, ◌^◌, ◌<◌, ◌≤◌, ◌∙◌, ◌+ℤ◌, ◌*ℤ◌, Some, refl, sym, ap}
-use Rattle.std.proofs.Common.{unsigned_abs, FitsSigned, arith, rules, to_z-of_z}
-use Rattle.std.specs.Int.{w128}
-use Rattle.mu_num.specs.IndexedSums.{sum_below, abs_of}
-use Rattle.cert_matrix.specs.Matrix.{weight}
-use Rattle.cert_matrix.proofs.Weights.{sizes-from, beyond-base}
+use Rattle.cert_propose.proofs.Common
+use Common.{◌*ℤ◌, ◌+ℤ◌, ◌+◌, ◌^◌, ◌∙◌, ◌≡◌, ◌≤◌, abs_of, ap, arith, beyond-base, FitsSigned, refl}
+use Common.{rules, Some, sum_below, sym, to_z-of_z, w128, weight}
+use Rattle.cert_matrix.proofs.Weights.{sizes-from}
 use Rattle.cert_propose.proofs.Ranges.{within, beyond}
 use Rattle.cert_propose.proofs.candidate_matrices.sum_candidate_sizes.Goals as goal
 

@@ -1,7 +1,5 @@
-use Rattle.std.proofs.Common.{◌≡◌, ℕ, ◌<◌, ◌+◌, ℤ, ◌+ℤ◌, ◌*ℤ◌}
-use Rattle.mu_num.specs.IndexedSums.{sum_below, abs_of}
-use Rattle.cert_matrix.specs.Form.{Vector}
-use Rattle.cert_matrix.specs.Matrix.{weight}
+use Rattle.cert_propose.proofs.Common
+use Common.{ℕ, ℤ, ◌*ℤ◌, ◌+ℤ◌, ◌+◌, ◌<◌, ◌≡◌, abs_of, sum_below, Vector, weight}
 use Rattle.cert_propose.proofs.candidate_matrices.sum_candidate_sizes.Given as goal
 
 abbrev pub invariant-loop-k : goal.invariant-loop-k

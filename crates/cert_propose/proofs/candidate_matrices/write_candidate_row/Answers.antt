@@ -1,8 +1,6 @@
-use Rattle.std.proofs.Common.{◌≡◌, ◌≢◌, ◌∙◌, ◌<◌, length, FitsSigned, refl, sym, arith, rules}
-use Rattle.std.proofs.Common.{to_z-of_z}
-use Rattle.std.specs.Int.{w128}
-use Rattle.cert_matrix.proofs.Rows.{length-changed, changed-square}
-use Rattle.cert_check.proofs.Tables.{changed-elsewhere}
+use Rattle.cert_propose.proofs.Common
+use Common.{◌<◌, ◌∙◌, ◌≢◌, arith, changed-elsewhere, changed-square, FitsSigned, length}
+use Common.{length-changed, rules, sym, to_z-of_z, w128}
 use Rattle.cert_propose.proofs.Collected.{collected-stop}
 use Rattle.cert_propose.proofs.Entries.{entry-more}
 use Rattle.cert_propose.proofs.candidate_matrices.write_candidate_row.Goals as goal

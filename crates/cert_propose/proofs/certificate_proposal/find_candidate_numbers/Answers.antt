@@ -1,8 +1,6 @@
-use Rattle.std.proofs.Common.{◌≡◌, ◌∙◌, length, None, Some, refl, sym, ap}
-use Rattle.cert_matrix.specs.Matrix.{table}
-use Rattle.cert_check.specs.CertificateData.{system}
-use Rattle.cert_propose.specs.Candidate as Step
+use Rattle.cert_propose.proofs.Common.{◌∙◌, ◌≡◌, ap, None, refl, Some, sym, system, table}
 use Rattle.cert_propose.proofs.Candidates.{form-fits, bounds-kept}
+use Rattle.cert_propose.specs.Candidate as Step
 use Rattle.cert_propose.proofs.certificate_proposal.find_candidate_numbers.Goals as goal
 
 pub returns-in_default : goal.returns-in_default

@@ -1,5 +1,4 @@
-use Rattle.std.proofs.Common.{◌≡◌, FitsSigned, arith, rules, to_z-of_z}
-use Rattle.std.specs.Int.{w128}
+use Rattle.cert_propose.proofs.Common.{arith, FitsSigned, rules, to_z-of_z, w128}
 use Rattle.cert_propose.proofs.Candidates.{number-of}
 use Rattle.cert_propose.proofs.Small.{zeros-fit}
 use Rattle.cert_propose.proofs.certificate_proposal.proposal_certificate.Goals as goal

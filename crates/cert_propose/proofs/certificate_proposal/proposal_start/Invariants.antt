@@ -1,4 +1,4 @@
-use Rattle.std.proofs.Common.{◌≡◌, map, take}
+use Rattle.cert_propose.proofs.Common.{◌≡◌, map, take}
 use Rattle.cert_propose.proofs.certificate_proposal.proposal_start.Given as goal
 
 abbrev pub invariant-loop-state : goal.invariant-loop-state

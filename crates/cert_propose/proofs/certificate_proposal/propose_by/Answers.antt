@@ -1,13 +1,8 @@
-use Rattle.std.proofs.Common.{◌≡◌, ◌∙◌, ◌≤◌, ◌≤ℤ◌, pos, List, ℤ, refl, sym, ap, ap₂, subst, arith}
-use Rattle.std.specs.Prelude.{Ok}
-use Rattle.std.proofs.lemmas.Int.{ints}
-use Rattle.cert_matrix.specs.Form.{Vector}
-use Rattle.cert_matrix.specs.Matrix.{vector}
-use Rattle.cert_check.specs.Inequalities.{System}
-use Rattle.cert_check.specs.CertificateData.{system}
-use Rattle.cert_propose.specs.Candidate.{candidate, candidate_of}
-use Rattle.cert_propose.specs.ProposalLimits.{AreSmall}
-use Rattle.cert_propose.specs.Proposals.{HasCandidate, IsCandidate}
+use Rattle.cert_propose.proofs.Common
+use Common.{ℤ, ◌∙◌, ◌≡◌, ◌≤ℤ◌, ◌≤◌, ap₂, AreSmall, arith, candidate, ints, List, Ok, pos, subst}
+use Common.{sym, System, system, vector}
+use Rattle.cert_propose.specs.Candidate.{candidate_of}
+use Rattle.cert_propose.specs.Proposals.{HasCandidate}
 use Rattle.cert_propose.proofs.Candidates.{candidate-fits}
 use Rattle.cert_propose.proofs.Machines.{starts-fit, quanta-fit, coefficients-small}
 use Rattle.cert_propose.proofs.Parts.{if-err}

@@ -1,28 +1,22 @@
-use Rattle.std.proofs.Common.{◌≡◌, ◌∙◌, List, ap, sym, subst, map, length, rules}
-use Rattle.std.specs.Prelude.{Result, Ok, Err, pos}
+use Rattle.mu_affine.proofs.Common
+use Common.{◌∙◌, ◌≡◌, AffineForm, ap, constant_form, Context, context_of, Err, err_from_is_err_and}
+use Common.{flat_expression, flat_factors_of, flat_scaled, flat_signed, flat_terms_of, FlatExpr}
+use Common.{FlatFactor, FlatTerm, form_meaning, form_of, IsAnswer, IsNumbered, IsOver, join_forms}
+use Common.{length, List, map, multiply_forms, none, Ok, out-FlatFactor, out-FlatTerm, pos}
+use Common.{product_of, Result, subst, sum_form, sum_meaning, sym, whole}
+use Rattle.std.proofs.Common.{rules}
 use Rattle.std.proofs.lemmas.List.{at_drop_all}
-use Rattle.std.proofs.lemmas.Result.{err_from_is_err_and}
-use Rattle.mu_num.specs.Fraction.{whole}
-use Rattle.mu_tree.specs.FlatExpression.{FlatExpression, flat_expression, flat_signed, flat_scaled}
-use Rattle.mu_tree.specs.FlatExpression.{flat_terms_of, flat_factors_of}
-use Rattle.mu_tree.specs.FlatExpression as tree
-use Rattle.mu_tree.specs.declared.flat.FlatExpr.{FlatExpr, the_lemmas}
-use Rattle.mu_tree.specs.declared.flat.FlatTerm.{FlatTerm, out-FlatTerm}
-use Rattle.mu_tree.specs.declared.flat.FlatFactor.{FlatFactor, out-FlatFactor}
+use Rattle.mu_tree.specs.declared.flat.FlatExpr.{the_lemmas}
 use Rattle.mu_affine.proofs.FlatShapes.{flat_expression-Const, flat_expression-Var}
 use Rattle.mu_affine.proofs.FlatShapes.{flat_expression-Pre, flat_expression-Time}
 use Rattle.mu_affine.proofs.FlatShapes.{flat_expression-Sum, flat_expression-Product}
 use Rattle.mu_affine.proofs.FlatShapes.{flat_expression-Pow}
-use Rattle.mu_affine.specs.AffineForm.{AffineForm, constant_form, none}
-use Rattle.mu_affine.specs.FinishedForms.{form_meaning, sum_meaning, IsOver}
-use Rattle.mu_affine.specs.FormParts.{IsAnswer, join_forms, multiply_forms}
-use Rattle.mu_affine.specs.FormOf.{Context, form_of, sum_form, product_of}
-use Rattle.mu_affine.specs.Walks.{context_of, IsNumbered}
 use Rattle.mu_affine.proofs.Walking.{IsOver-constant, fault_passes, sum_answer, said, power_is}
 use Rattle.mu_affine.proofs.Walking.{power_fault}
 use Rattle.mu_affine.proofs.Left.{terms_left, factors_left, sum_more, sum_fails_at}
 use Rattle.mu_affine.proofs.Left.{sum_join_fails_at, terms_numbered_at, product_more}
 use Rattle.mu_affine.proofs.Left.{product_fails_at, product_part_fails_at, factors_numbered_at}
+use Rattle.mu_tree.specs.FlatExpression as tree
 use Rattle.mu_affine.proofs.expression_form.+walking.Goals as goal
 
 pub expression_form-form_of_variable-requires-clause-within : goal.expression_form-form_of_variable-requires-clause-within

@@ -1,12 +1,7 @@
-use Rattle.std.proofs.Common.{◌≡◌, map, drop, length}
-use Rattle.std.specs.Prelude.{Ok, pos}
-use Rattle.mu_num.specs.Fraction.{whole}
-use Rattle.mu_tree.specs.FlatExpression.{flat_signed, flat_scaled, flat_terms_of, flat_factors_of}
-use Rattle.mu_affine.specs.AffineForm.{constant_form, none}
-use Rattle.mu_affine.specs.FinishedForms.{form_meaning, sum_meaning, IsOver, IsFinished}
-use Rattle.mu_affine.specs.FinishedForms.{IsReducedSum}
-use Rattle.mu_affine.specs.FormOf.{sum_form, product_of}
-use Rattle.mu_affine.specs.Walks.{context_of, AreNumbered, AreNumberedFactors}
+use Rattle.mu_affine.proofs.Common
+use Common.{◌≡◌, AreNumbered, AreNumberedFactors, constant_form, context_of, drop, flat_factors_of}
+use Common.{flat_scaled, flat_signed, flat_terms_of, form_meaning, IsFinished, IsOver, IsReducedSum}
+use Common.{length, map, none, Ok, pos, product_of, sum_form, sum_meaning, whole}
 use Rattle.mu_affine.proofs.expression_form.+walking.Given as goal
 
 -- the sum so far, with the terms that are left, is the whole sum

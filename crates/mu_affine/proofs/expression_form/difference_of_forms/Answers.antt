@@ -1,9 +1,6 @@
-use Rattle.std.proofs.Common.{◌≡◌, ◌∙◌, sym, ap, subst, true, false}
-use Rattle.std.specs.Prelude.{Err}
-use Rattle.std.proofs.lemmas.Result.{err_from_is_err_and}
-use Rattle.mu_affine.specs.AffineForm.{AffineForm}
-use Rattle.mu_affine.specs.FinishedForms.{form_meaning, sum_meaning}
-use Rattle.mu_affine.specs.FormParts.{join_forms, IsAnswer}
+use Rattle.mu_affine.proofs.Common
+use Common.{◌∙◌, ◌≡◌, AffineForm, ap, Err, err_from_is_err_and, false, form_meaning, IsAnswer}
+use Common.{join_forms, subst, sum_meaning, sym, true}
 use Rattle.mu_affine.proofs.Walking.{fault_passes, sum_answer}
 use Rattle.mu_affine.proofs.Conditions.{sum_begins, never_fails}
 use Rattle.mu_affine.proofs.expression_form.difference_of_forms.Goals as goal

@@ -1,6 +1,4 @@
-use Rattle.std.proofs.Common.{◌∙◌, sym, ap, arith}
-use Rattle.std.specs.Prelude.{Ok}
-use Rattle.std.proofs.lemmas.Bool.{false≢true}
+use Rattle.mu_affine.proofs.Common.{◌∙◌, ap, arith, false≢true, Ok, sym}
 use Rattle.mu_affine.proofs.expression_form.form_of_previous.Goals as goal
 
 pub returns : goal.returns

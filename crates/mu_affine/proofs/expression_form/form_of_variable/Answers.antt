@@ -1,14 +1,13 @@
-use Rattle.std.proofs.Common.{◌≡◌, ◌∙◌, sym, ap, subst, inl, inr, [], true, length}
-use Rattle.std.specs.Prelude.{Ok, ◌⊎◌, ◌==◌}
-use Rattle.std.proofs.lemmas.Bool.{false≢true}
-use Rattle.mu_affine.specs.FinishedForms.{form_meaning, IsFinished}
+use Rattle.mu_affine.proofs.Common
+use Common.{[], ◌==◌, ◌∙◌, ◌≡◌, ◌⊎◌, ap, false≢true, form_meaning, inl, inr, IsFinished, length, Ok}
+use Common.{subst, sym, true}
 use Rattle.mu_affine.proofs.Showing.{not_true, not_false}
 use Rattle.mu_affine.proofs.Walking.{name_is, MayStand-below, algebraic_is, algebraic_refused}
 use Rattle.mu_affine.proofs.Walking.{finished_anywhere, place_at, fits_place, pairs_left}
 use Rattle.mu_affine.proofs.Walking.{empty_list}
-use Rattle.mu_affine.proofs.expression_form.form_of_variable.Goals as goal
 use Rattle.mu_affine.proofs.expression_form.form_of_variable.Goals.{else-not-place-via-then-not-place+else-not-is_empty}
 use Rattle.mu_affine.proofs.expression_form.form_of_variable.Goals.{else-not-place-via-else-not-place}
+use Rattle.mu_affine.proofs.expression_form.form_of_variable.Goals as goal
 
 pub returns-then-var-place : goal.returns-then-var-place
 returns-then-var-place c =

@@ -1,5 +1,4 @@
-use Rattle.std.proofs.Common.{ap, sym}
-use Rattle.std.specs.Prelude.{Ok}
+use Rattle.mu_affine.proofs.Common.{ap, Ok, sym}
 use Rattle.mu_affine.proofs.expression_form.time.Goals as goal
 
 pub returns-else-place : goal.returns-else-place

@@ -1,5 +1,4 @@
-use Rattle.std.proofs.lemmas.Bool.{false≢true}
-use Rattle.std.proofs.Common.{refl, ◌∙◌, ap}
+use Rattle.mu_affine.proofs.Common.{◌∙◌, ap, false≢true, refl}
 use Rattle.mu_affine.specs.FormParts.{placed}
 use Rattle.mu_affine.proofs.Multiplying.{nonzero_else, quotient_is, quotient_by_zero}
 use Rattle.mu_affine.proofs.Multiplying.{quotient_refused}

@@ -1,4 +1,4 @@
-use Rattle.std.proofs.Common.{refl, ap}
+use Rattle.mu_affine.proofs.Common.{ap, refl}
 use Rattle.mu_affine.specs.FormParts.{placed}
 use Rattle.mu_affine.proofs.Multiplying.{form_times_zero}
 use Rattle.mu_affine.proofs.form_product.multiply_form_at.Goals as goal

@@ -1,5 +1,4 @@
-use Rattle.std.proofs.Common.{sym}
-use Rattle.mu_affine.specs.declared.exact_form.ExactForm.{ExactForm}
+use Rattle.mu_affine.proofs.Common.{ExactForm, sym}
 use Rattle.mu_affine.proofs.Checks.{time_fails, constant_fails}
 use Rattle.mu_affine.proofs.Scalings.{form_scaled, form_unscaled_names, form_unscaled_pairs}
 use Rattle.mu_affine.proofs.form_product.multiply_form_by.Goals as goal

@@ -1,6 +1,4 @@
-use Rattle.std.proofs.Common.{refl, sym}
-use Rattle.mu_affine.specs.declared.exact_form.ExactEntry.{ExactEntry}
-use Rattle.mu_affine.specs.FormRows.{named}
+use Rattle.mu_affine.proofs.Common.{ExactEntry, named, refl, sym}
 use Rattle.mu_affine.proofs.Scalings.{entry_unscaled, Scales-more}
 use Rattle.mu_affine.proofs.form_product.multiply_form_entries.Goals as goal
 

@@ -1,6 +1,4 @@
-use Rattle.std.proofs.Common.{take, map}
-use Rattle.mu_affine.specs.FormRows.{named}
-use Rattle.mu_affine.specs.Scaling.{Scales}
+use Rattle.mu_affine.proofs.Common.{map, named, Scales, take}
 use Rattle.mu_affine.proofs.form_product.multiply_form_entries.Given as goal
 
 abbrev pub invariant-loop-entry : goal.invariant-loop-entry

@@ -1,6 +1,4 @@
-use Rattle.std.proofs.Common.{◌∙◌, ap, sym, subst}
-use Rattle.std.specs.Prelude.{Ok}
-use Rattle.mu_affine.specs.FinishedForms.{IsOver}
+use Rattle.mu_affine.proofs.Common.{◌∙◌, ap, IsOver, Ok, subst, sym}
 use Rattle.mu_affine.specs.FormParts.{placed}
 use Rattle.mu_affine.proofs.Crossing.{IsCrossing, crossed_passes, crossed_reduced, crossed_over}
 use Rattle.mu_affine.proofs.Crossing.{crossed_fails}

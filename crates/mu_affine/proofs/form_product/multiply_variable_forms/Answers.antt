@@ -1,7 +1,4 @@
-use Rattle.std.proofs.Common.{refl, sym, subst, ◌∙◌}
-use Rattle.std.proofs.lemmas.Bool.{false≢true}
-use Rattle.mu_affine.specs.FinishedForms.{form_meaning}
-use Rattle.mu_affine.specs.FormParts.{IsAnswer}
+use Rattle.mu_affine.proofs.Common.{◌∙◌, false≢true, form_meaning, IsAnswer, refl, subst, sym}
 use Rattle.mu_affine.proofs.Showing.{not_true, not_false}
 use Rattle.mu_affine.proofs.Products.{cross_is, multiply_forms-comm, product_outside}
 use Rattle.mu_affine.proofs.Products.{product_refused}

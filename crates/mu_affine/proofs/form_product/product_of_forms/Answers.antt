@@ -1,6 +1,4 @@
-use Rattle.std.proofs.Common.{refl, sym, subst}
-use Rattle.std.proofs.lemmas.Bool.{false≢true}
-use Rattle.mu_affine.specs.FormParts.{IsAnswer}
+use Rattle.mu_affine.proofs.Common.{false≢true, IsAnswer, refl, subst, sym}
 use Rattle.mu_affine.proofs.Products.{times_left, times_right, constant_time}
 use Rattle.mu_affine.proofs.form_product.product_of_forms.Goals as goal
 

@@ -1,6 +1,4 @@
-use Rattle.std.proofs.lemmas.Bool.{false≢true}
-use Rattle.std.proofs.Common.{refl, ◌∙◌, ap, sym}
-use Rattle.std.specs.Prelude.{Ok}
+use Rattle.mu_affine.proofs.Common.{◌∙◌, ap, false≢true, Ok, refl, sym}
 use Rattle.mu_affine.proofs.Multiplying.{power_refused, power_is, power_fails}
 use Rattle.mu_affine.proofs.form_product.raise_to_power.Goals as goal
 

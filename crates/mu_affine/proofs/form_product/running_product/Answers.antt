@@ -1,5 +1,4 @@
-use Rattle.std.proofs.Common.{sym, ap}
-use Rattle.mu_affine.specs.AffineForm.{AffineForm}
+use Rattle.mu_affine.proofs.Common.{AffineForm, ap, sym}
 use Rattle.mu_affine.proofs.form_product.running_product.Goals as goal
 
 pub returns-in-Ok-mul : goal.returns-in-Ok-mul

@@ -1,6 +1,4 @@
-use Rattle.std.proofs.Common.{refl, sym}
-use Rattle.mu_affine.specs.declared.exact_form.ExactProduct.{ExactProduct}
-use Rattle.mu_affine.specs.FormRows.{paired}
+use Rattle.mu_affine.proofs.Common.{ExactProduct, paired, refl, sym}
 use Rattle.mu_affine.proofs.Scalings.{entry_unscaled, Scales-more}
 use Rattle.mu_affine.proofs.form_product.scale_pair_products.Goals as goal
 

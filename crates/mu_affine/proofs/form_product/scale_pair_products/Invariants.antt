@@ -1,6 +1,4 @@
-use Rattle.std.proofs.Common.{take, map}
-use Rattle.mu_affine.specs.FormRows.{paired}
-use Rattle.mu_affine.specs.Scaling.{Scales}
+use Rattle.mu_affine.proofs.Common.{map, paired, Scales, take}
 use Rattle.mu_affine.proofs.form_product.scale_pair_products.Given as goal
 
 abbrev pub invariant-loop-product : goal.invariant-loop-product

@@ -1,5 +1,4 @@
-use Rattle.std.proofs.Common.{take, map}
-use Rattle.mu_affine.specs.FormRows.{named}
+use Rattle.mu_affine.proofs.Common.{map, named, take}
 use Rattle.mu_affine.proofs.Settings.{SetsStates}
 use Rattle.mu_affine.proofs.form_product.set_pair_products.Given as goal
 

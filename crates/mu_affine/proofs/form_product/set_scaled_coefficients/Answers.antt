@@ -1,6 +1,4 @@
-use Rattle.std.proofs.Common.{sym}
-use Rattle.std.specs.Ordering.{nat_cmp}
-use Rattle.mu_affine.specs.FormRows.{named}
+use Rattle.mu_affine.proofs.Common.{named, nat_cmp, sym}
 use Rattle.mu_affine.proofs.RowForms.{nat_order, entry_at}
 use Rattle.mu_affine.proofs.Settings.{entry_set}
 use Rattle.mu_affine.proofs.form_product.set_scaled_coefficients.Goals as goal

@@ -1,7 +1,4 @@
-use Rattle.std.proofs.Common.{take, map}
-use Rattle.std.specs.Ordering.{nat_cmp}
-use Rattle.mu_affine.specs.FormRows.{named}
-use Rattle.mu_affine.specs.ProductRows.{SetsAll}
+use Rattle.mu_affine.proofs.Common.{map, named, nat_cmp, SetsAll, take}
 use Rattle.mu_affine.proofs.form_product.set_scaled_coefficients.Given as goal
 
 abbrev pub invariant-loop-entry : goal.invariant-loop-entry

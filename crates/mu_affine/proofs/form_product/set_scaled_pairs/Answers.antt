@@ -1,6 +1,4 @@
-use Rattle.std.proofs.Common.{sym}
-use Rattle.mu_affine.specs.FormRows.{pair_cmp}
-use Rattle.mu_affine.specs.ProductRows.{beside}
+use Rattle.mu_affine.proofs.Common.{beside, pair_cmp, sym}
 use Rattle.mu_affine.proofs.RowForms.{pair_order, entry_at}
 use Rattle.mu_affine.proofs.Settings.{entry_set, IsRising-beside}
 use Rattle.mu_affine.proofs.form_product.set_scaled_pairs.Goals as goal

@@ -1,6 +1,4 @@
-use Rattle.std.proofs.Common.{take, map}
-use Rattle.mu_affine.specs.FormRows.{pair_cmp}
-use Rattle.mu_affine.specs.ProductRows.{SetsAll, beside}
+use Rattle.mu_affine.proofs.Common.{beside, map, pair_cmp, SetsAll, take}
 use Rattle.mu_affine.proofs.form_product.set_scaled_pairs.Given as goal
 
 abbrev pub invariant-loop-discrete : goal.invariant-loop-discrete

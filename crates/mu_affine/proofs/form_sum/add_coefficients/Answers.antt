@@ -1,5 +1,4 @@
-use Rattle.std.specs.Ordering.{nat_cmp}
-use Rattle.mu_affine.specs.FormRows.{named}
+use Rattle.mu_affine.proofs.Common.{named, nat_cmp}
 use Rattle.mu_affine.proofs.RowForms.{JoinsAll-none, entry_joined, entry_failed, nat_order}
 use Rattle.mu_affine.proofs.form_sum.add_coefficients.Goals as goal
 

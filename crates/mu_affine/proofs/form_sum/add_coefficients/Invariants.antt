@@ -1,6 +1,4 @@
-use Rattle.std.proofs.Common.{take, map}
-use Rattle.std.specs.Ordering.{nat_cmp}
-use Rattle.mu_affine.specs.FormRows.{JoinsAll, named}
+use Rattle.mu_affine.proofs.Common.{JoinsAll, map, named, nat_cmp, take}
 use Rattle.mu_affine.proofs.form_sum.add_coefficients.Given as goal
 
 abbrev pub invariant-loop-entry : goal.invariant-loop-entry

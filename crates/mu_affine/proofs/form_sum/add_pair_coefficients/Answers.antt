@@ -1,4 +1,4 @@
-use Rattle.mu_affine.specs.FormRows.{paired, pair_cmp}
+use Rattle.mu_affine.proofs.Common.{pair_cmp, paired}
 use Rattle.mu_affine.proofs.RowForms.{JoinsAll-none, entry_joined, entry_failed, pair_order}
 use Rattle.mu_affine.proofs.form_sum.add_pair_coefficients.Goals as goal
 

@@ -1,5 +1,4 @@
-use Rattle.std.proofs.Common.{take, map}
-use Rattle.mu_affine.specs.FormRows.{JoinsAll, paired, pair_cmp}
+use Rattle.mu_affine.proofs.Common.{JoinsAll, map, pair_cmp, paired, take}
 use Rattle.mu_affine.proofs.form_sum.add_pair_coefficients.Given as goal
 
 abbrev pub invariant-loop-product : goal.invariant-loop-product

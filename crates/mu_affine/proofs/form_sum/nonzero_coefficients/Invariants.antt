@@ -1,7 +1,4 @@
-use Rattle.std.proofs.Common.{◌≡◌, ◌++◌, map}
-use Rattle.std.specs.List.{filter}
-use Rattle.mu_affine.specs.AffineForm.{is_nonzero}
-use Rattle.mu_affine.specs.FormRows.{named}
+use Rattle.mu_affine.proofs.Common.{◌++◌, ◌≡◌, filter, is_nonzero, map, named}
 use Rattle.mu_affine.proofs.form_sum.nonzero_coefficients.Given as goal
 
 abbrev pub invariant-loop-var : goal.invariant-loop-var

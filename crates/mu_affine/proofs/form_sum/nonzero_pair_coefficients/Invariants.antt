@@ -1,7 +1,4 @@
-use Rattle.std.proofs.Common.{◌≡◌, ◌++◌, map}
-use Rattle.std.specs.List.{filter}
-use Rattle.mu_affine.specs.AffineForm.{is_nonzero}
-use Rattle.mu_affine.specs.FormRows.{paired}
+use Rattle.mu_affine.proofs.Common.{◌++◌, ◌≡◌, filter, is_nonzero, map, paired}
 use Rattle.mu_affine.proofs.form_sum.nonzero_pair_coefficients.Given as goal
 
 abbrev pub invariant-loop-pair : goal.invariant-loop-pair

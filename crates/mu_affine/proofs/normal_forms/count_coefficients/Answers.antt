@@ -1,7 +1,4 @@
-use Rattle.std.proofs.Common.{◌∙◌, length, sym, ap}
-use Rattle.std.specs.Prelude.{Err}
-use Rattle.std.proofs.lemmas.Result.{err_from_is_err_and}
-use Rattle.mu_affine.specs.Takings.{with_more}
+use Rattle.mu_affine.proofs.Common.{◌∙◌, ap, Err, err_from_is_err_and, length, sym, with_more}
 use Rattle.mu_affine.proofs.Counts.{names_fault, pairs_fault, counted_timeless, counted_timed}
 use Rattle.mu_affine.proofs.normal_forms.count_coefficients.Goals as goal
 

@@ -1,7 +1,5 @@
-use Rattle.std.proofs.Common.{◌≡◌, ◌≤◌, ◌+◌, map, drop}
-use Rattle.mu_tree.specs.declared.flat.FlatRole.TheVariants.{State, Discrete}
-use Rattle.mu_tree.specs.FlatExpression.{flat_variable}
-use Rattle.mu_affine.specs.Solution.{count_of_role}
+use Rattle.mu_affine.proofs.Common
+use Common.{◌+◌, ◌≡◌, ◌≤◌, count_of_role, Discrete, drop, flat_variable, map, State}
 use Rattle.mu_affine.proofs.normal_forms.count_states_and_discretes.Given as goal
 
 -- the variables so far and those that are left are all

@@ -1,7 +1,6 @@
-use Rattle.std.proofs.Common.{◌∙◌, ◌<◌, ◌-◌, ℕ, length, get_or, length-set, refl, sym, subst, arith}
-use Rattle.std.proofs.lemmas.List.{get_or_default}
-use Rattle.mu_tree.specs.declared.flat.FlatEquation.{FlatEquation}
-use Rattle.mu_tree.specs.FlatExpression.{flat_equation}
+use Rattle.mu_affine.proofs.Common
+use Common.{ℕ, ◌-◌, ◌<◌, ◌∙◌, arith, flat_equation, FlatEquation, get_or, get_or_default, length}
+use Common.{length-set, refl, subst, sym}
 use Rattle.mu_affine.proofs.Equations.{mapped_one, no_firsts, first_more}
 use Rattle.mu_affine.proofs.normal_forms.first_normal_equations.Goals as goal
 

@@ -1,7 +1,5 @@
-use Rattle.std.proofs.Common.{◌≡◌, ◌≤◌, ◌<◌, ℕ, length, map, drop, get_or}
-use Rattle.mu_tree.specs.FlatExpression.{flat_equation}
-use Rattle.mu_affine.specs.FormSequence.{right_side}
-use Rattle.mu_affine.specs.Takings.{side_at}
+use Rattle.mu_affine.proofs.Common
+use Common.{ℕ, ◌<◌, ◌≡◌, ◌≤◌, drop, flat_equation, get_or, length, map, right_side, side_at}
 use Rattle.mu_affine.proofs.normal_forms.first_normal_equations.Given as goal
 
 -- the first equations of those that were looked at, from the last one down

@@ -1,16 +1,7 @@
-use Rattle.std.proofs.Common.{◌∙◌, length, map, sym}
-use Rattle.std.specs.Prelude.{Result}
-use Rattle.std.proofs.lemmas.Result.{err_from_is_err_and}
-use Rattle.mu_tree.specs.declared.flat.FlatStatement.{FlatStatement}
-use Rattle.mu_tree.specs.FlatExpression.{flat_action}
-use Rattle.mu_affine.specs.declared.affine_fault.AffineErr.{AffineErr}
-use Rattle.mu_affine.specs.declared.exact_form.ExactForm.{ExactForm}
-use Rattle.mu_affine.specs.AffineForm.{AffineForm, coefficient_count}
-use Rattle.mu_affine.specs.FinishedForms.{form_meaning}
-use Rattle.mu_affine.specs.declared.normal_forms.CountedForms.{CountedForms}
-use Rattle.mu_affine.specs.FormSequence.{keep_actions}
-use Rattle.mu_affine.specs.Walks.{IsNumberedAction}
-use Rattle.mu_affine.specs.Takings.{of_clauses, kept_so_far}
+use Rattle.mu_affine.proofs.Common
+use Common.{◌∙◌, AffineErr, AffineForm, coefficient_count, CountedForms, err_from_is_err_and}
+use Common.{ExactForm, flat_action, FlatStatement, form_meaning, IsNumberedAction, keep_actions}
+use Common.{kept_so_far, length, map, of_clauses, Result, sym}
 use Rattle.mu_affine.proofs.Counts.{counted_few}
 use Rattle.mu_affine.proofs.Equations.{mapped_one}
 use Rattle.mu_affine.proofs.Steps.{answer_fault}

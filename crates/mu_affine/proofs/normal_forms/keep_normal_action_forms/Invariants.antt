@@ -1,7 +1,4 @@
-use Rattle.std.proofs.Common.{◌≡◌, drop, map}
-use Rattle.mu_tree.specs.FlatExpression.{flat_action}
-use Rattle.mu_affine.specs.FormSequence.{keep_actions}
-use Rattle.mu_affine.specs.Takings.{kept_so_far, IsKept}
+use Rattle.mu_affine.proofs.Common.{◌≡◌, drop, flat_action, IsKept, keep_actions, kept_so_far, map}
 use Rattle.mu_affine.proofs.normal_forms.keep_normal_action_forms.Given as goal
 
 -- the statements that are left after the forms so far are all

@@ -1,16 +1,8 @@
-use Rattle.std.proofs.Common.{◌≡◌, ◌∙◌, length, map, sym, ap, subst}
-use Rattle.std.specs.Prelude.{Result, Ok, All}
-use Rattle.std.proofs.lemmas.Result.{err_from_is_err_and}
-use Rattle.mu_tree.specs.declared.flat.FlatBranch.{FlatBranch}
-use Rattle.mu_tree.specs.FlatExpression.{flat_action, flat_branch}
-use Rattle.mu_affine.specs.declared.affine_fault.AffineErr.{AffineErr}
-use Rattle.mu_affine.specs.declared.exact_form.ExactForm.{ExactForm}
-use Rattle.mu_affine.specs.AffineForm.{AffineForm, coefficient_count}
-use Rattle.mu_affine.specs.FinishedForms.{form_meaning}
-use Rattle.mu_affine.specs.declared.normal_forms.CountedForms.{CountedForms}
-use Rattle.mu_affine.specs.FormSequence.{keep_actions, keep_branches}
-use Rattle.mu_affine.specs.Walks.{IsNumberedAction}
-use Rattle.mu_affine.specs.Takings.{of_clauses, kept_so_far, IsNumberedBranch, IsFaultOf}
+use Rattle.mu_affine.proofs.Common
+use Common.{◌∙◌, ◌≡◌, AffineErr, AffineForm, All, ap, coefficient_count, CountedForms}
+use Common.{err_from_is_err_and, ExactForm, flat_action, flat_branch, FlatBranch, form_meaning}
+use Common.{IsFaultOf, IsNumberedAction, IsNumberedBranch, keep_actions, keep_branches, kept_so_far}
+use Common.{length, map, of_clauses, Ok, Result, subst, sym}
 use Rattle.mu_affine.proofs.Counts.{counted_few}
 use Rattle.mu_affine.proofs.Equations.{mapped_one}
 use Rattle.mu_affine.proofs.Steps.{answer_fault}

@@ -1,7 +1,4 @@
-use Rattle.std.proofs.Common.{◌≡◌, drop, map}
-use Rattle.mu_tree.specs.FlatExpression.{flat_branch}
-use Rattle.mu_affine.specs.FormSequence.{keep_branches}
-use Rattle.mu_affine.specs.Takings.{kept_so_far, IsKept}
+use Rattle.mu_affine.proofs.Common.{◌≡◌, drop, flat_branch, IsKept, keep_branches, kept_so_far, map}
 use Rattle.mu_affine.proofs.normal_forms.keep_normal_branch_forms.Given as goal
 
 -- the branches that are left after the forms so far are all

@@ -1,12 +1,7 @@
-use Rattle.std.proofs.Common.{◌≡◌, ◌∙◌, length, map, sym, ap, subst}
-use Rattle.std.specs.Prelude.{Ok, All}
-use Rattle.std.proofs.lemmas.Result.{err_from_is_err_and}
-use Rattle.mu_tree.specs.declared.flat.FlatClause.{FlatClause}
-use Rattle.mu_tree.specs.FlatExpression.{flat_branch, flat_clause}
-use Rattle.mu_affine.specs.declared.affine_fault.AffineErr.{AffineErr}
-use Rattle.mu_affine.specs.declared.normal_forms.CountedForms.{CountedForms}
-use Rattle.mu_affine.specs.FormSequence.{keep_branches, keep_clauses}
-use Rattle.mu_affine.specs.Takings.{of_clauses, kept_so_far, IsNumberedBranch, IsFaultOf}
+use Rattle.mu_affine.proofs.Common
+use Common.{◌∙◌, ◌≡◌, AffineErr, All, ap, CountedForms, err_from_is_err_and, flat_branch}
+use Common.{flat_clause, FlatClause, IsFaultOf, IsNumberedBranch, keep_branches, keep_clauses}
+use Common.{kept_so_far, length, map, of_clauses, Ok, subst, sym}
 use Rattle.mu_affine.proofs.Equations.{mapped_one}
 use Rattle.mu_affine.proofs.KeptForms.{clause_more, clause_fails}
 use Rattle.mu_affine.proofs.normal_forms.keep_normal_clause_forms.Goals as goal

@@ -1,17 +1,8 @@
-use Rattle.std.proofs.Common.{◌≡◌, ◌∙◌, ◌≤◌, ◌+◌, ℕ, length, map, refl, sym, ap, arith}
-use Rattle.std.specs.Prelude.{Result, Ok}
-use Rattle.std.proofs.lemmas.Result.{err_from_is_err_and}
-use Rattle.mu_tree.specs.FlatExpression.{flat_model, flat_equation}
-use Rattle.mu_affine.specs.declared.affine_fault.AffineErr.{AffineErr}
-use Rattle.mu_affine.specs.declared.exact_form.ExactForm.{ExactForm}
-use Rattle.mu_affine.specs.AffineForm.{AffineForm, coefficient_count}
-use Rattle.mu_affine.specs.FinishedForms.{form_meaning}
-use Rattle.mu_affine.specs.declared.normal_forms.CountedForms.{CountedForms}
-use Rattle.mu_affine.specs.FormOf.{form_of}
-use Rattle.mu_affine.specs.Solution.{equation_context}
-use Rattle.mu_affine.specs.FormSequence.{right_side, keep_states}
-use Rattle.mu_affine.specs.Walks.{forms_in}
-use Rattle.mu_affine.specs.Takings.{of_equations, kept_so_far}
+use Rattle.mu_affine.proofs.Common
+use Common.{ℕ, ◌+◌, ◌∙◌, ◌≡◌, ◌≤◌, AffineErr, AffineForm, ap, arith, coefficient_count}
+use Common.{CountedForms, equation_context, err_from_is_err_and, ExactForm, flat_equation}
+use Common.{flat_model, form_meaning, form_of, forms_in, keep_states, kept_so_far, length, map}
+use Common.{of_equations, Ok, refl, Result, right_side, sym}
 use Rattle.mu_affine.proofs.Counts.{counted_few}
 use Rattle.mu_affine.proofs.Steps.{answer_fault, fault_same}
 use Rattle.mu_affine.proofs.FormsInOrder.{part_along}

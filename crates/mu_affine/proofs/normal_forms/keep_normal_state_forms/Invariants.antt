@@ -1,7 +1,5 @@
-use Rattle.std.proofs.Common.{◌≡◌, ◌≤◌, ◌-◌, ◌^◌, length}
-use Rattle.mu_tree.specs.FlatExpression.{flat_model}
-use Rattle.mu_affine.specs.FormSequence.{keep_states}
-use Rattle.mu_affine.specs.Takings.{kept_so_far, AreKept}
+use Rattle.mu_affine.proofs.Common
+use Common.{◌-◌, ◌^◌, ◌≡◌, ◌≤◌, AreKept, flat_model, keep_states, kept_so_far, length}
 use Rattle.mu_affine.proofs.normal_forms.keep_normal_state_forms.Given as goal
 
 -- the states that are left after the forms so far are all

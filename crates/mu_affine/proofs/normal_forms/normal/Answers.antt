@@ -1,17 +1,9 @@
-use Rattle.std.proofs.Common.{◌≡◌, ◌∙◌, ◌<◌, ℕ, List, length, map, refl, sym, ap, subst}
-use Rattle.std.specs.Prelude.{All, Ok}
-use Rattle.std.proofs.lemmas.Result.{err_from_is_err_and}
-use Rattle.mu_tree.specs.declared.flat.FlatRole.TheVariants.{State, Discrete}
-use Rattle.mu_tree.specs.FlatExpression.{FlatModelTree, flat_model, flat_variable, flat_clause}
-use Rattle.mu_affine.specs.declared.affine_fault.AffineErr.{AffineErr}
-use Rattle.mu_affine.specs.declared.exact_form.Forms.{Forms}
-use Rattle.mu_affine.specs.declared.exact_form.Sizes.{Sizes}
-use Rattle.mu_affine.specs.declared.normal_forms.CountedForms.{CountedForms}
-use Rattle.mu_affine.specs.Solution.{count_of_role, sizes_of}
-use Rattle.mu_affine.specs.FormSequence.{solve_all, nothing_taken, keep_states, keep_clauses}
-use Rattle.mu_affine.specs.Walks.{AreSolved}
-use Rattle.mu_affine.specs.Takings.{of_equations, of_clauses, solved_so_far, kept_so_far}
-use Rattle.mu_affine.specs.Takings.{IsNumberedBranch, IsFaultOf}
+use Rattle.mu_affine.proofs.Common
+use Common.{ℕ, ◌<◌, ◌∙◌, ◌≡◌, AffineErr, All, ap, AreSolved, count_of_role, CountedForms, Discrete}
+use Common.{err_from_is_err_and, flat_clause, flat_model, flat_variable, FlatModelTree, Forms}
+use Common.{IsFaultOf, IsNumberedBranch, keep_clauses, keep_states, kept_so_far, length, List, map}
+use Common.{nothing_taken, of_clauses, of_equations, Ok, refl, Sizes, sizes_of, solve_all}
+use Common.{solved_so_far, State, subst, sym}
 use Rattle.mu_affine.proofs.WholeModels.{sizes_same, sizes_small, states_few, one_for_each}
 use Rattle.mu_affine.proofs.WholeModels.{equations_numbered, clauses_numbered, order_within}
 use Rattle.mu_affine.proofs.WholeModels.{whole_done, whole_clauses_fault}

@@ -1,10 +1,5 @@
-use Rattle.std.proofs.Common.{◌∙◌, sym, ap}
-use Rattle.std.specs.Prelude.{Ok}
-use Rattle.mu_affine.specs.AffineForm.{constant_form}
-use Rattle.mu_affine.specs.FormOf.{form_of}
-use Rattle.mu_affine.specs.Solution.{equation_context}
-use Rattle.mu_affine.specs.Walks.{forms_in}
-use Rattle.mu_affine.specs.Takings.{of_equations}
+use Rattle.mu_affine.proofs.Common
+use Common.{◌∙◌, ap, constant_form, equation_context, form_of, forms_in, of_equations, Ok, sym}
 use Rattle.mu_affine.proofs.Equations.{no_side}
 use Rattle.mu_affine.proofs.normal_forms.right_side_form.Goals as goal
 

@@ -1,7 +1,4 @@
-use Rattle.std.proofs.Common.{length, refl, sym, ap}
-use Rattle.mu_tree.specs.FlatExpression.{flat_model}
-use Rattle.mu_affine.specs.declared.normal_forms.CountedForms.{CountedForms}
-use Rattle.mu_affine.specs.FormSequence.{solve_all}
+use Rattle.mu_affine.proofs.Common.{ap, CountedForms, flat_model, length, refl, solve_all, sym}
 use Rattle.mu_affine.proofs.FormsInOrder.{nothing_solved, zeros_solved}
 use Rattle.mu_affine.proofs.normal_forms.solve_algebraic_variables.Goals as goal
 

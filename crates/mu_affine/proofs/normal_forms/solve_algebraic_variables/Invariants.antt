@@ -1,7 +1,5 @@
-use Rattle.std.proofs.Common.{◌≡◌, length, drop}
-use Rattle.mu_tree.specs.FlatExpression.{flat_model}
-use Rattle.mu_affine.specs.FormSequence.{solve_all, nothing_taken}
-use Rattle.mu_affine.specs.Takings.{solved_so_far, IsSolved}
+use Rattle.mu_affine.proofs.Common
+use Common.{◌≡◌, drop, flat_model, IsSolved, length, nothing_taken, solve_all, solved_so_far}
 use Rattle.mu_affine.proofs.normal_forms.solve_algebraic_variables.Given as goal
 
 -- what is left of the order after the forms so far is all

@@ -1,18 +1,9 @@
-use Rattle.std.proofs.Common.{◌≡◌, ◌∙◌, ◌<◌, length, length-set, map, refl, sym, subst, arith}
-use Rattle.std.specs.Prelude.{Ok}
+use Rattle.mu_affine.proofs.Common
+use Common.{◌<◌, ◌∙◌, ◌≡◌, AffineErr, AreSolved, arith, coefficient_count, CountedForms}
+use Common.{equation_context, err_from_is_err_and, ExactForm, flat_equation, flat_model}
+use Common.{form_meaning, form_of, forms_in, length, length-set, map, of_equations, Ok, refl}
+use Common.{right_side, solve, solved_so_far, subst, sym}
 use Rattle.std.specs.Vec.{with_item}
-use Rattle.std.proofs.lemmas.Result.{err_from_is_err_and}
-use Rattle.mu_tree.specs.FlatExpression.{flat_model, flat_equation}
-use Rattle.mu_affine.specs.declared.affine_fault.AffineErr.{AffineErr}
-use Rattle.mu_affine.specs.declared.exact_form.ExactForm.{ExactForm}
-use Rattle.mu_affine.specs.AffineForm.{coefficient_count}
-use Rattle.mu_affine.specs.FinishedForms.{form_meaning}
-use Rattle.mu_affine.specs.declared.normal_forms.CountedForms.{CountedForms}
-use Rattle.mu_affine.specs.FormOf.{form_of}
-use Rattle.mu_affine.specs.Solution.{equation_context}
-use Rattle.mu_affine.specs.FormSequence.{right_side, solve}
-use Rattle.mu_affine.specs.Walks.{forms_in, AreSolved}
-use Rattle.mu_affine.specs.Takings.{of_equations, solved_so_far}
 use Rattle.mu_affine.proofs.Counts.{counted_few}
 use Rattle.mu_affine.proofs.Steps.{is_fault}
 use Rattle.mu_affine.proofs.FormsInOrder.{part_along, solve_count_fault, solve_done, solved_more}

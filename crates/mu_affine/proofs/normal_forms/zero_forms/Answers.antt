@@ -1,8 +1,6 @@
-use Rattle.std.proofs.Common.{◌∙◌, ◌+◌, length, sym, ap, subst}
-use Rattle.std.proofs.lemmas.List.{length_push}
-use Rattle.std.proofs.lemmas.List.Elements.{All-push}
-use Rattle.mu_affine.specs.AffineForm.{constant_form}
-use Rattle.mu_affine.specs.Takings.{IsZero, AreZeros}
+use Rattle.mu_affine.proofs.Common
+use Common.{◌+◌, ◌∙◌, All-push, ap, AreZeros, constant_form, IsZero, length, length_push, subst}
+use Common.{sym}
 use Rattle.mu_affine.proofs.normal_forms.zero_forms.Goals as goal
 
 pub loop-made-preserved : goal.loop-made-preserved

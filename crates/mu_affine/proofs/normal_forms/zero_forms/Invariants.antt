@@ -1,5 +1,4 @@
-use Rattle.std.proofs.Common.{◌≡◌, length}
-use Rattle.mu_affine.specs.Takings.{AreZeros}
+use Rattle.mu_affine.proofs.Common.{◌≡◌, AreZeros, length}
 use Rattle.mu_affine.proofs.normal_forms.zero_forms.Given as goal
 
 -- the forms so far

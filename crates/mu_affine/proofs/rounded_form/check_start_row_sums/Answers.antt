@@ -1,9 +1,6 @@
-use Rattle.std.proofs.Common.{length, sym, ◌∙◌, subst, arith}
-use Rattle.mu_affine.specs.declared.exact_form.ExactForm.{ExactForm}
-use Rattle.mu_affine.specs.declared.machine_fault.MachineErr.TheVariants.{Start}
-use Rattle.mu_affine.specs.Rounded.{rounded_row}
-use Rattle.mu_affine.specs.MachineChecks.{row_fits_at_start}
-use Rattle.mu_affine.specs.RoundedMachines.{IsRightSide}
+use Rattle.mu_affine.proofs.Common
+use Common.{◌∙◌, arith, ExactForm, IsRightSide, length, rounded_row, row_fits_at_start, Start}
+use Common.{subst, sym}
 use Rattle.mu_affine.proofs.Failing.{fail_turn, pass_turn}
 use Rattle.mu_affine.proofs.rounded_form.check_start_row_sums.Goals as goal
 

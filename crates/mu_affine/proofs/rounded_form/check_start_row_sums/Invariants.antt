@@ -1,7 +1,5 @@
-use Rattle.std.proofs.Common.{◌≡◌, None, take}
-use Rattle.mu_affine.specs.declared.machine_fault.MachineErr.TheVariants.{Start}
-use Rattle.mu_affine.specs.Rounded.{rounded_row}
-use Rattle.mu_affine.specs.MachineChecks.{checks, first_failed, row_fits_at_start}
+use Rattle.mu_affine.proofs.Common
+use Common.{◌≡◌, checks, first_failed, None, rounded_row, row_fits_at_start, Start, take}
 use Rattle.mu_affine.proofs.rounded_form.check_start_row_sums.Given as goal
 
 -- no row so far weighs too much

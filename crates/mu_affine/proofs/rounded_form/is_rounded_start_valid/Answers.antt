@@ -1,5 +1,4 @@
-use Rattle.std.proofs.Common.{length, sym, subst}
-use Rattle.qss_machine.specs.MachineLimits.{IsRow}
+use Rattle.mu_affine.proofs.Common.{IsRow, length, subst, sym}
 use Rattle.mu_affine.proofs.RowLaws.{row_is}
 use Rattle.mu_affine.proofs.rounded_form.is_rounded_start_valid.Goals as goal
 

@@ -1,10 +1,7 @@
-use Rattle.std.proofs.Common.{◌+◌, sym, ◌∙◌, refl}
-use Rattle.std.proofs.lemmas.Int.{to_z-of_z}
-use Rattle.std.specs.Int.RustNames.{FitsSigned}
-use Rattle.mu_affine.specs.Rounded.{rounded, rounded_entries}
+use Rattle.mu_affine.proofs.Common
+use Common.{◌+◌, ◌∙◌, FitsSigned, refl, rounded, rounded_entries, sym, to_z-of_z, w128}
 use Rattle.mu_affine.proofs.FormLaws.{unfit_entries, form_made}
 use Rattle.mu_affine.proofs.rounded_form.round_form.Goals as goal
-use mir.Syntax.{w128}
 
 pub returns-in_default-clause-none : goal.returns-in_default-clause-none
 returns-in_default-clause-none c =

@@ -1,11 +1,6 @@
-use Rattle.std.proofs.Common.{sym, ◌∙◌}
-use Rattle.std.proofs.lemmas.Int.{to_z-of_z}
-use Rattle.std.specs.Int.RustNames.{FitsSigned}
-use Rattle.qss_machine.specs.declared.machine_parts.Entry.{Entry}
-use Rattle.mu_affine.specs.Rounded.{entry_of}
+use Rattle.mu_affine.proofs.Common.{◌∙◌, Entry, entry_of, FitsSigned, sym, to_z-of_z, w128}
 use Rattle.mu_affine.proofs.KeptNumbers.{kept_large, small_turn, kept_end, cast_small, entry_turn}
 use Rattle.mu_affine.proofs.rounded_form.round_form_entries.Goals as goal
-use mir.Syntax.{w128}
 
 pub returns-then-exceeds_power_of_two-clause-none : goal.returns-then-exceeds_power_of_two-clause-none
 returns-then-exceeds_power_of_two-clause-none c =

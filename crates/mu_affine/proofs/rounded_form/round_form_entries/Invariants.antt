@@ -1,7 +1,5 @@
-use Rattle.std.proofs.Common.{◌≡◌, true, not, take}
-use Rattle.std.specs.List.{list_all}
-use Rattle.mu_num.specs.Sizes.{exceeds}
-use Rattle.mu_affine.specs.Rounded.{rounded, rounded_entries}
+use Rattle.mu_affine.proofs.Common
+use Common.{◌≡◌, exceeds, list_all, not, rounded, rounded_entries, take, true}
 use Rattle.mu_affine.proofs.rounded_form.round_form_entries.Given as goal
 
 -- the entries of the coefficients so far, of which none passes the limit

@@ -1,7 +1,5 @@
-use Rattle.std.proofs.Common.{◌≡◌, true, not, take}
-use Rattle.std.specs.List.{list_all}
-use Rattle.mu_num.specs.Sizes.{exceeds}
-use Rattle.mu_affine.specs.Rounded.{rounded, rounded_products}
+use Rattle.mu_affine.proofs.Common
+use Common.{◌≡◌, exceeds, list_all, not, rounded, rounded_products, take, true}
 use Rattle.mu_affine.proofs.rounded_form.round_form_products.Given as goal
 
 -- the products of the coefficients so far, of which none passes the limit

@@ -1,7 +1,4 @@
-use Rattle.std.proofs.Common.{◌+◌, ◌∙◌, arith}
-use Rattle.mu_affine.specs.declared.machine_fault.MachineErr.TheVariants.{Coefficient}
-use Rattle.mu_affine.specs.Rounded.{rounded_row}
-use Rattle.mu_affine.specs.MachineChecks.{row_fits}
+use Rattle.mu_affine.proofs.Common.{◌+◌, ◌∙◌, arith, Coefficient, rounded_row, row_fits}
 use Rattle.mu_affine.proofs.Failing.{fail_turn, pass_turn}
 use Rattle.mu_affine.proofs.Turns.{map_turn}
 use Rattle.mu_affine.proofs.rounded_form.round_form_rows.Goals as goal

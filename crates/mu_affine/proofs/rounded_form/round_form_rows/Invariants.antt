@@ -1,7 +1,5 @@
-use Rattle.std.proofs.Common.{◌≡◌, None, map, take}
-use Rattle.mu_affine.specs.declared.machine_fault.MachineErr.TheVariants.{Coefficient}
-use Rattle.mu_affine.specs.Rounded.{rounded_row}
-use Rattle.mu_affine.specs.MachineChecks.{checks, first_failed, row_fits}
+use Rattle.mu_affine.proofs.Common
+use Common.{◌≡◌, checks, Coefficient, first_failed, map, None, rounded_row, row_fits, take}
 use Rattle.mu_affine.proofs.rounded_form.round_form_rows.Given as goal
 
 -- the rows so far, of which none is past a limit

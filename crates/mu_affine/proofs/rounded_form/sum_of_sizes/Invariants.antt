@@ -1,4 +1,5 @@
-use Rattle.std.proofs.Common.{◌≡◌, ◌*◌, ◌^◌, ◌≤◌, take, sum_by, unsigned_abs}
+use Rattle.mu_affine.proofs.Common.{◌*◌, ◌^◌, ◌≡◌, ◌≤◌, sum_by, take}
+use Rattle.std.proofs.Common.{unsigned_abs}
 use Rattle.mu_affine.proofs.rounded_form.sum_of_sizes.Given as goal
 
 -- the sum so far, to which each entry adds at most 2 ^ 63

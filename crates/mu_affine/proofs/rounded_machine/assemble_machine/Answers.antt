@@ -1,6 +1,5 @@
-use Rattle.std.proofs.Common.{refl}
+use Rattle.mu_affine.proofs.Common.{◌+◌, ◌^◌, pos, refl}
 use Rattle.mu_affine.proofs.Assembled.{variables_for, rows_for, clauses_for}
-use Rattle.std.proofs.Common.{◌+◌, ◌^◌, pos}
 use Rattle.mu_affine.proofs.rounded_machine.assemble_machine.Goals as goal
 
 pub invariant_of-result : goal.invariant_of-result

@@ -1,10 +1,6 @@
-use Rattle.std.proofs.Common.{◌≡◌, ◌+◌, length, take, sym, ◌∙◌, ap, arith}
-use Rattle.std.proofs.lemmas.List.{take_all, length-take-le}
-use Rattle.std.proofs.lemmas.Result.{err_from_is_err_and}
-use Rattle.std.specs.Prelude.{sum_by}
-use Rattle.mu_tree.specs.declared.flat.FlatStatement.{FlatStatement}
-use Rattle.mu_tree.specs.FlatExpression.{FlatAction, flat_action}
-use Rattle.mu_affine.specs.FormPlaces.{action_of, placed}
+use Rattle.mu_affine.proofs.Common
+use Common.{◌+◌, ◌∙◌, ◌≡◌, action_of, ap, arith, err_from_is_err_and, flat_action, FlatAction}
+use Common.{FlatStatement, length, length-take-le, placed, sum_by, sym, take, take_all}
 use Rattle.mu_affine.proofs.Placing.{forms_turn, forms_refused, placed_turn, ones}
 use Rattle.mu_affine.proofs.Turns.{placed_map}
 use Rattle.mu_affine.proofs.rounded_machine.round_machine_actions.Goals as goal

@@ -1,8 +1,6 @@
-use Rattle.std.proofs.Common.{◌≡◌, None, take}
-use Rattle.mu_tree.specs.declared.flat.FlatStatement.{FlatStatement}
-use Rattle.mu_tree.specs.FlatExpression.{flat_action}
-use Rattle.mu_affine.specs.FormPlaces.{action_of, placed}
-use Rattle.mu_affine.specs.MachineChecks.{first_failed, form_checks}
+use Rattle.mu_affine.proofs.Common
+use Common.{◌≡◌, action_of, first_failed, flat_action, FlatStatement, form_checks, None, placed}
+use Common.{take}
 use Rattle.mu_affine.proofs.rounded_machine.round_machine_actions.Given as goal
 
 -- the statements so far, of which none has a form past a limit

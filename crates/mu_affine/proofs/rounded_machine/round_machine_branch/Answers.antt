@@ -1,10 +1,6 @@
-use Rattle.std.proofs.Common.{◌≡◌, ◌+◌, ℕ, List, length, map, sym, ◌∙◌, ap, arith}
-use Rattle.std.proofs.lemmas.List.{length-map}
-use Rattle.std.proofs.lemmas.Result.{err_from_is_err_and}
-use Rattle.mu_tree.specs.declared.flat.FlatStatement.{FlatStatement}
-use Rattle.mu_tree.specs.FlatExpression.{flat_action, flat_branch}
-use Rattle.mu_affine.specs.FormPlaces.{actions_of}
-use Rattle.mu_affine.specs.MachineChecks.{first_failed, form_checks}
+use Rattle.mu_affine.proofs.Common
+use Common.{ℕ, ◌+◌, ◌∙◌, ◌≡◌, actions_of, ap, arith, err_from_is_err_and, first_failed, flat_action}
+use Common.{flat_branch, FlatStatement, form_checks, length, length-map, List, map, sym}
 use Rattle.mu_affine.proofs.Branches.{branch_made}
 use Rattle.mu_affine.proofs.Placing.{forms_turn, forms_refused, forms_refused_first}
 use Rattle.mu_affine.proofs.rounded_machine.round_machine_branch.Goals as goal

@@ -1,11 +1,7 @@
-use Rattle.std.proofs.Common.{◌+◌, ℕ, sym, ◌∙◌, ap, arith}
-use Rattle.std.proofs.lemmas.List.{take_all, length-map}
-use Rattle.std.proofs.lemmas.Result.{err_from_is_err_and}
-use Rattle.std.specs.Prelude.{sum_by}
-use Rattle.mu_tree.specs.declared.flat.FlatBranch.{FlatBranch}
-use Rattle.mu_tree.specs.FlatExpression.{flat_action, flat_branch}
-use Rattle.mu_affine.specs.FormPlaces.{branch_forms, branch_of, placed}
-use Rattle.mu_affine.specs.MachineChecks.{first_failed, form_checks}
+use Rattle.mu_affine.proofs.Common
+use Common.{ℕ, ◌+◌, ◌∙◌, ap, arith, branch_forms, branch_of, err_from_is_err_and, first_failed}
+use Common.{flat_action, flat_branch, FlatBranch, form_checks, length-map, placed, sum_by, sym}
+use Common.{take_all}
 use Rattle.mu_affine.proofs.Placing.{place_turn, place_within, placed_turn, none_turn, refused_turn}
 use Rattle.mu_affine.proofs.Turns.{placed_map, sum_by_map}
 use Rattle.mu_affine.proofs.rounded_machine.round_machine_branches.Goals as goal

@@ -1,8 +1,6 @@
-use Rattle.std.proofs.Common.{◌≡◌, ◌+◌, None, take, sum_by}
-use Rattle.mu_tree.specs.declared.flat.FlatBranch.{FlatBranch}
-use Rattle.mu_tree.specs.FlatExpression.{flat_branch}
-use Rattle.mu_affine.specs.FormPlaces.{branch_forms, branch_of, placed}
-use Rattle.mu_affine.specs.MachineChecks.{first_failed, form_checks}
+use Rattle.mu_affine.proofs.Common
+use Common.{◌+◌, ◌≡◌, branch_forms, branch_of, first_failed, flat_branch, FlatBranch, form_checks}
+use Common.{None, placed, sum_by, take}
 use Rattle.mu_affine.proofs.rounded_machine.round_machine_branches.Given as goal
 
 -- the branches so far, of which none has a form past a limit

@@ -1,11 +1,6 @@
-use Rattle.std.proofs.Common.{ℕ, sym, ◌∙◌, ap, arith}
-use Rattle.std.proofs.lemmas.List.{take_all}
-use Rattle.std.proofs.lemmas.Result.{err_from_is_err_and}
-use Rattle.std.specs.Prelude.{sum_by}
-use Rattle.mu_tree.specs.declared.flat.FlatClause.{FlatClause}
-use Rattle.mu_tree.specs.FlatExpression.{flat_clause}
-use Rattle.mu_affine.specs.FormPlaces.{clause_forms, clause_of, placed}
-use Rattle.mu_affine.specs.MachineChecks.{first_failed, form_checks}
+use Rattle.mu_affine.proofs.Common
+use Common.{ℕ, ◌∙◌, ap, arith, clause_forms, clause_of, err_from_is_err_and, first_failed}
+use Common.{flat_clause, FlatClause, form_checks, placed, sum_by, sym, take_all}
 use Rattle.mu_affine.proofs.Branches.{clause_made}
 use Rattle.mu_affine.proofs.Placing.{place_turn, place_within, placed_turn, none_turn, refused_turn}
 use Rattle.mu_affine.proofs.Turns.{placed_map, sum_by_map}

@@ -1,8 +1,6 @@
-use Rattle.std.proofs.Common.{◌≡◌, ◌+◌, None, take, sum_by}
-use Rattle.mu_tree.specs.declared.flat.FlatClause.{FlatClause}
-use Rattle.mu_tree.specs.FlatExpression.{flat_clause}
-use Rattle.mu_affine.specs.FormPlaces.{clause_forms, clause_of, placed}
-use Rattle.mu_affine.specs.MachineChecks.{first_failed, form_checks}
+use Rattle.mu_affine.proofs.Common
+use Common.{◌+◌, ◌≡◌, clause_forms, clause_of, first_failed, flat_clause, FlatClause, form_checks}
+use Common.{None, placed, sum_by, take}
 use Rattle.mu_affine.proofs.rounded_machine.round_machine_clauses.Given as goal
 
 -- the clauses so far, of which none has a form past a limit

@@ -1,7 +1,4 @@
-use Rattle.std.proofs.Common.{◌≡◌, map, take}
-use Rattle.mu_tree.specs.declared.flat.FlatVar.{FlatVar}
-use Rattle.mu_tree.specs.FlatExpression.{flat_variable}
-use Rattle.mu_affine.specs.Rounded.{rounded_discrete}
+use Rattle.mu_affine.proofs.Common.{◌≡◌, flat_variable, FlatVar, map, rounded_discrete, take}
 use Rattle.mu_affine.proofs.rounded_machine.round_machine_discretes.Given as goal
 
 -- the discrete variables so far

@@ -1,8 +1,5 @@
-use Rattle.std.proofs.Common.{[], ◌∙◌, ap, pos}
+use Rattle.mu_affine.proofs.Common.{[], ◌∙◌, ap, ExactForm, pos, rounded_form, whole}
 use Rattle.std.proofs.lemmas.List.{get_or_read}
-use Rattle.mu_num.specs.Fraction.{whole}
-use Rattle.mu_affine.specs.declared.exact_form.ExactForm.{ExactForm}
-use Rattle.mu_affine.specs.Rounded.{rounded_form}
 use Rattle.mu_affine.proofs.Placing.{one_form_holds, one_form_fails}
 use Rattle.mu_affine.proofs.rounded_machine.round_machine_form.Goals as goal
 

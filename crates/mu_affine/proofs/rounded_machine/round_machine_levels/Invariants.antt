@@ -1,9 +1,6 @@
-use Rattle.std.proofs.Common.{◌≡◌, None, map, take}
-use Rattle.std.specs.Prelude.{All}
-use Rattle.mu_num.specs.Sizes.{IsWithin}
-use Rattle.mu_tree.specs.declared.flat.FlatVar.{FlatVar}
-use Rattle.mu_affine.specs.declared.machine_fault.MachineErr.TheVariants.{Start}
-use Rattle.mu_affine.specs.MachineChecks.{checks, first_failed, is_start, start_level}
+use Rattle.mu_affine.proofs.Common
+use Common.{◌≡◌, All, checks, first_failed, FlatVar, is_start, IsWithin, map, None, Start}
+use Common.{start_level, take}
 use Rattle.mu_affine.proofs.rounded_machine.round_machine_levels.Given as goal
 
 -- the levels so far, and no start so far is past a limit

@@ -1,14 +1,9 @@
-use Rattle.std.proofs.Common.{◌≡◌, ◌+◌, false, not, sym, ◌∙◌, ap, subst}
-use Rattle.std.proofs.lemmas.Bool.{and_from}
-use Rattle.std.proofs.lemmas.Int.{to_z-of_z}
-use Rattle.std.specs.Int.RustNames.{FitsSigned}
-use Rattle.mu_num.specs.Sizes.{IsWithin, exceeds}
-use Rattle.mu_affine.specs.Rounded.{rounded}
-use Rattle.mu_affine.specs.MachineChecks.{start_level}
+use Rattle.mu_affine.proofs.Common
+use Common.{◌+◌, ◌∙◌, ◌≡◌, and_from, ap, exceeds, false, FitsSigned, IsWithin, not, rounded}
+use Common.{start_level, subst, sym, to_z-of_z, w128}
 use Rattle.mu_affine.proofs.KeptNumbers.{cast_level}
 use Rattle.mu_affine.proofs.RowLaws.{within}
 use Rattle.mu_affine.proofs.rounded_machine.round_machine_start_level.Goals as goal
-use mir.Syntax.{w128}
 
 pub returns-clause-some : goal.returns-clause-some
 returns-clause-some c =

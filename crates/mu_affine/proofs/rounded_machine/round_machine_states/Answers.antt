@@ -1,17 +1,10 @@
-use Rattle.std.proofs.Common.{◌∙◌, arith}
-use Rattle.std.proofs.lemmas.Int.{to_z-of_z}
-use Rattle.std.specs.Int.RustNames.{FitsSigned}
-use Rattle.mu_tree.specs.declared.flat.FlatVar.{FlatVar}
-use Rattle.mu_tree.specs.FlatExpression.{flat_variable}
-use Rattle.mu_affine.specs.declared.machine_fault.MachineErr.TheVariants.{Quantum}
-use Rattle.mu_affine.specs.Rounded.{rounded_state}
-use Rattle.mu_affine.specs.MachineChecks.{is_quantum}
+use Rattle.mu_affine.proofs.Common
+use Common.{◌∙◌, arith, FitsSigned, flat_variable, FlatVar, is_quantum, of_z, Quantum}
+use Common.{rounded_state, to_z, to_z-of_z, w128, w64}
 use Rattle.mu_affine.proofs.Failing.{fail_turn, pass_turn, checks_done}
 use Rattle.mu_affine.proofs.Turns.{map_turn}
 use Rattle.mu_affine.proofs.VariableLaws.{state_made, quantum_kept}
 use Rattle.mu_affine.proofs.rounded_machine.round_machine_states.Goals as goal
-use mir.Syntax.{w64, w128}
-use mir.Val.{to_z, of_z}
 
 pub returns-in_default-clause-err : goal.returns-in_default-clause-err
 returns-in_default-clause-err c =

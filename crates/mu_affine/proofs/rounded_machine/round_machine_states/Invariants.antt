@@ -1,9 +1,6 @@
-use Rattle.std.proofs.Common.{◌≡◌, None, map, take}
-use Rattle.mu_tree.specs.declared.flat.FlatVar.{FlatVar}
-use Rattle.mu_tree.specs.FlatExpression.{flat_variable}
-use Rattle.mu_affine.specs.declared.machine_fault.MachineErr.TheVariants.{Quantum}
-use Rattle.mu_affine.specs.Rounded.{rounded_state}
-use Rattle.mu_affine.specs.MachineChecks.{checks, first_failed, is_quantum}
+use Rattle.mu_affine.proofs.Common
+use Common.{◌≡◌, checks, first_failed, flat_variable, FlatVar, is_quantum, map, None, Quantum}
+use Common.{rounded_state, take}
 use Rattle.mu_affine.proofs.rounded_machine.round_machine_states.Given as goal
 
 -- the states so far, and no quantum so far is past a limit

@@ -1,17 +1,9 @@
-use Rattle.std.proofs.Common.{◌+◌, ◌^◌, ◌≤◌, sym, ◌∙◌, subst, arith}
-use Rattle.std.proofs.lemmas.Int.{ints, to_z-of_z}
-use Rattle.std.proofs.lemmas.List.Elements.{All-push}
-use Rattle.std.specs.Int.RustNames.{unsigned_abs, FitsSigned}
-use Rattle.mu_num.specs.Sizes.{IsWithin}
-use Rattle.mu_tree.specs.declared.flat.FlatVar.{FlatVar}
-use Rattle.mu_affine.specs.declared.machine_fault.MachineErr.TheVariants.{Start}
-use Rattle.mu_affine.specs.Rounded.{rounded}
-use Rattle.mu_affine.specs.MachineChecks.{is_value}
+use Rattle.mu_affine.proofs.Common
+use Common.{◌+◌, ◌^◌, ◌∙◌, ◌≤◌, All-push, arith, FitsSigned, FlatVar, ints, is_value, IsWithin}
+use Common.{of_z, rounded, Start, subst, sym, to_z, to_z-of_z, unsigned_abs, w64}
 use Rattle.mu_affine.proofs.Failing.{fail_turn, pass_turn, checks_done}
 use Rattle.mu_affine.proofs.Turns.{map_turn, map_end}
 use Rattle.mu_affine.proofs.rounded_machine.round_machine_values.Goals as goal
-use mir.Syntax.{w64}
-use mir.Val.{to_z, of_z}
 
 pub returns-in_default-clause-err : goal.returns-in_default-clause-err
 returns-in_default-clause-err c =

@@ -1,10 +1,6 @@
-use Rattle.std.proofs.Common.{◌≡◌, None, map, take}
-use Rattle.std.specs.Prelude.{All}
-use Rattle.mu_num.specs.Sizes.{IsWithin}
-use Rattle.mu_tree.specs.declared.flat.FlatVar.{FlatVar}
-use Rattle.mu_affine.specs.declared.machine_fault.MachineErr.TheVariants.{Start}
-use Rattle.mu_affine.specs.Rounded.{rounded}
-use Rattle.mu_affine.specs.MachineChecks.{checks, first_failed, is_value}
+use Rattle.mu_affine.proofs.Common
+use Common.{◌≡◌, All, checks, first_failed, FlatVar, is_value, IsWithin, map, None, rounded, Start}
+use Common.{take}
 use Rattle.mu_affine.proofs.rounded_machine.round_machine_values.Given as goal
 
 -- the starts so far, of which none is past its limit

@@ -1,5 +1,5 @@
-use Rattle.std.proofs.Common.{◌≡◌, ◌+◌, ◌-◌, take, drop, map, ◌∙◌, ap, arith, ℕ}
-use Rattle.mu_tree.specs.FlatExpression.{flat_variable}
+use Rattle.mu_affine.proofs.Common
+use Common.{ℕ, ◌+◌, ◌-◌, ◌∙◌, ◌≡◌, ap, arith, drop, flat_variable, map, take}
 use Rattle.mu_affine.proofs.Seen.{counts_within, states_seen, discretes_seen}
 use Rattle.mu_affine.proofs.rounded_machine.split_variables.Goals as goal
 

@@ -1,18 +1,9 @@
-use Rattle.std.proofs.Common.{◌≡◌, ℕ, ◌+◌, ◌^◌, List, length, take, map, pos, sym, ◌∙◌, ap, subst}
-use Rattle.std.proofs.Common.{arith, inr}
-use Rattle.std.proofs.lemmas.List.{length-map, length-take-le}
-use Rattle.std.proofs.lemmas.Result.{err_from_is_err_and}
-use Rattle.std.specs.Prelude.{All, sum_by}
-use Rattle.mu_num.specs.Sizes.{IsWithin}
-use Rattle.mu_affine.specs.declared.exact_form.ExactForm.{ExactForm}
-use Rattle.mu_tree.specs.declared.flat.FlatVar.{FlatVar}
-use Rattle.mu_tree.specs.declared.flat.FlatClause.{FlatClause}
-use Rattle.mu_tree.specs.FlatExpression.{flat_clause, flat_model, flat_variable}
-use Rattle.mu_affine.specs.Rounded.{rounded, rounded_row, rounded_state, rounded_discrete}
-use Rattle.mu_affine.specs.FormPlaces.{state_count, discrete_count, states_of, discretes_of}
-use Rattle.mu_affine.specs.FormPlaces.{clause_forms, clauses_of}
-use Rattle.mu_affine.specs.MachineChecks.{Check, IsRefusal, bits_of, first_failed, form_checks}
-use Rattle.mu_affine.specs.MachineChecks.{start_level}
+use Rattle.mu_affine.proofs.Common
+use Common.{ℕ, ◌+◌, ◌^◌, ◌∙◌, ◌≡◌, All, ap, arith, bits_of, Check, clause_forms, clauses_of}
+use Common.{discrete_count, discretes_of, err_from_is_err_and, ExactForm, first_failed, flat_clause}
+use Common.{flat_model, FlatClause, FlatVar, form_checks, inr, IsRefusal, IsWithin, length}
+use Common.{length-map, length-take-le, List, map, pos, rounded, rounded_discrete, rounded_row}
+use Common.{rounded_state, start_level, state_count, states_of, subst, sum_by, sym, take}
 use Rattle.mu_affine.proofs.Assembled.{right_sides_for, variables_for, rows_for, clauses_for}
 use Rattle.mu_affine.proofs.Assembled.{machine_is, HasParts}
 use Rattle.mu_affine.proofs.ChecksInOrder.{counts_fit}

@@ -3,8 +3,9 @@ use Rattle.mu_tree.specs.Canonical.{joined}
 use Rattle.mu_tree.specs.Nests.{range_of}
 use Rattle.mu_tree.proofs.Nesting.{body_smaller}
 use Rattle.mu_canonical.proofs.Writing.{item_written, loop_written}
+use Rattle.mu_canonical.proofs.item_text.+write_items.Goals.{in-One+in_ok-write_one-in-One}
+use Rattle.mu_canonical.proofs.item_text.+write_items.Goals.{in-Each+in_ok-write_loop_head-in-Each+in_ok-write_items-in-Each+in_ok-write_loop_end-in-Each}
 use Rattle.mu_canonical.proofs.item_text.+write_items.Goals as goal
-use Rattle.mu_canonical.proofs.item_text.+write_items.Goals.{in-One+in_ok-write_one-in-One, in-Each+in_ok-write_loop_head-in-Each+in_ok-write_items-in-Each+in_ok-write_loop_end-in-Each}
 
 pub write_items-requires : goal.write_items-requires
 write_items-requires g t c κs within =

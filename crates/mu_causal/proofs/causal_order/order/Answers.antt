@@ -1,9 +1,6 @@
-use Rattle.std.proofs.Common.{◌≡◌, ◌∙◌, map, ap}
-use Rattle.mu_tree.specs.FlatExpression.{flat_model, flat_variable, FlatVariable}
-use Rattle.mu_causal.specs.Causality.{IsOrder, IsCycle}
-use Rattle.mu_causal.specs.Dependencies.{IsAlgebraic, DependsOn}
-use Rattle.mu_causal.specs.Flat.{IsGraphOf, is_known}
-use Rattle.mu_causal.specs.VisitMarks.{IsOpen, Needs}
+use Rattle.mu_causal.proofs.Common
+use Common.{◌∙◌, ◌≡◌, ap, DependsOn, flat_model, flat_variable, FlatVariable, is_known, IsAlgebraic}
+use Common.{IsCycle, IsGraphOf, IsOpen, IsOrder, map, Needs}
 use Rattle.mu_causal.proofs.FlatGraphs.{says_same, closed_of, known_in}
 use Rattle.mu_causal.proofs.Orders.{SaySame, IsOrder-same, IsCycle-weaker}
 use Rattle.mu_causal.proofs.causal_order.order.Goals as goal

@@ -1,4 +1,4 @@
-use Rattle.mu_causal.specs.Dependencies.{IsAlgebraic, DependsOn}
+use Rattle.mu_causal.proofs.Common.{DependsOn, IsAlgebraic}
 use Rattle.mu_causal.proofs.Cycles.{no_closed_chain}
 use Rattle.mu_causal.proofs.causal_order.order_excludes_chains.Goals as goal
 

@@ -1,4 +1,4 @@
-use Rattle.mu_causal.specs.Dependencies.{IsAlgebraic, DependsOn}
+use Rattle.mu_causal.proofs.Common.{DependsOn, IsAlgebraic}
 use Rattle.mu_causal.proofs.Orders.{one_order}
 use Rattle.mu_causal.proofs.causal_order.order_is_unique.Goals as goal
 

@@ -1,6 +1,6 @@
-use Rattle.std.proofs.Common.{◌∙◌, ◌++◌, ◌+◌, map, drop, ap, sym, append_assoc}
-use Rattle.mu_tree.specs.FlatExpression.{flat_expression, flat_signed, flat_scaled, flat_terms_of, flat_factors_of}
-use Rattle.mu_causal.specs.Dependencies.{names_of, names_of_terms, names_of_factors}
+use Rattle.mu_causal.proofs.Common
+use Common.{◌++◌, ◌+◌, ◌∙◌, ap, append_assoc, drop, flat_expression, flat_factors_of, flat_scaled}
+use Common.{flat_signed, flat_terms_of, map, names_of, names_of_factors, names_of_terms, sym}
 use Rattle.mu_causal.proofs.FlatShapes.{flat_expression-Pow, flat_terms_from, flat_factors_from}
 use Rattle.mu_causal.proofs.dependency_graph.+naming.Goals as goal
 

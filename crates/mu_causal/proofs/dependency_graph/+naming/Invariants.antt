@@ -1,6 +1,6 @@
-use Rattle.std.proofs.Common.{◌≡◌, map, drop, ◌++◌}
-use Rattle.mu_tree.specs.FlatExpression.{flat_signed, flat_scaled, flat_terms_of, flat_factors_of}
-use Rattle.mu_causal.specs.Dependencies.{names_of_terms, names_of_factors}
+use Rattle.mu_causal.proofs.Common
+use Common.{◌++◌, ◌≡◌, drop, flat_factors_of, flat_scaled, flat_signed, flat_terms_of, map}
+use Common.{names_of_factors, names_of_terms}
 use Rattle.mu_causal.proofs.dependency_graph.+naming.Given as goal
 
 -- the names so far and those of what is left are all

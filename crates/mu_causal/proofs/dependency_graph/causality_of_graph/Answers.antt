@@ -1,8 +1,8 @@
-use Rattle.std.proofs.Common.{◌≡◌, ◌∙◌, ◌<◌, subst, arith, length, take, drop, ◌++◌}
-use Rattle.mu_causal.specs.VisitMarks.{IsListing, IsMarked}
-use Rattle.mu_causal.specs.VisitMarks as marks
+use Rattle.mu_causal.proofs.Common
+use Common.{◌++◌, ◌<◌, ◌∙◌, ◌≡◌, arith, drop, IsListing, IsMarked, length, subst, take}
 use Rattle.mu_causal.proofs.Orders.{IsCycle-weaker}
 use Rattle.mu_causal.proofs.Listing.{order_from, unknown_of, written_back}
+use Rattle.mu_causal.specs.VisitMarks as marks
 use Rattle.mu_causal.proofs.dependency_graph.causality_of_graph.Goals as goal
 
 pub returns-then-not-index : goal.returns-then-not-index

@@ -1,5 +1,4 @@
-use Rattle.std.proofs.Common.{ℕ, ◌<◌}
-use Rattle.mu_causal.specs.VisitMarks.{IsMarked}
+use Rattle.mu_causal.proofs.Common.{ℕ, ◌<◌, IsMarked}
 use Rattle.mu_causal.proofs.dependency_graph.causality_of_graph.Given as goal
 
 abbrev pub invariant-loop-v : goal.invariant-loop-v

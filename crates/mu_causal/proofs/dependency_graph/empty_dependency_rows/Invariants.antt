@@ -1,5 +1,4 @@
-use Rattle.std.proofs.Common.{◌≡◌, ℕ, length, []}
-use Rattle.mu_causal.specs.Flat.{row_at}
+use Rattle.mu_causal.proofs.Common.{[], ℕ, ◌≡◌, length, row_at}
 use Rattle.mu_causal.proofs.dependency_graph.empty_dependency_rows.Given as goal
 
 -- the rows so far

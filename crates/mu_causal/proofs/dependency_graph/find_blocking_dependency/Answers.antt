@@ -1,6 +1,5 @@
-use Rattle.std.proofs.Common.{◌≡◌, ◌∙◌, ◌<◌, ap, arith, get_or, length}
-use Rattle.std.specs.Prelude.{slice_get, Some}
-use Rattle.std.proofs.lemmas.List.{get_or_default}
+use Rattle.mu_causal.proofs.Common
+use Common.{◌<◌, ◌∙◌, ◌≡◌, ap, arith, get_or, get_or_default, length, slice_get, Some}
 use Rattle.mu_causal.proofs.Passing.{row_there, names_known, blocked_within, names_at}
 use Rattle.mu_causal.proofs.dependency_graph.find_blocking_dependency.Goals as goal
 

@@ -1,4 +1,4 @@
-use Rattle.std.proofs.Common.{◌≡◌, ℕ, ◌<◌, get_or}
+use Rattle.mu_causal.proofs.Common.{ℕ, ◌<◌, ◌≡◌, get_or}
 use Rattle.mu_causal.proofs.dependency_graph.find_cycle_place.Given as goal
 
 abbrev pub invariant-loop-place : goal.invariant-loop-place

@@ -1,13 +1,11 @@
-use Rattle.std.proofs.Common.{◌≡◌, ◌∙◌, ◌<◌, ap, sym, arith, length, drop}
-use Rattle.std.specs.Prelude.{false}
-use Rattle.std.proofs.lemmas.List.{take_rest, get_or_default}
+use Rattle.mu_causal.proofs.Common
+use Common.{◌<◌, ◌∙◌, ◌≡◌, ap, arith, drop, false, get_or_default, IsCycle, IsMarked, IsTurned}
+use Common.{IsUnmarked, length, length-set, Needs, sym}
+use Rattle.std.proofs.lemmas.List.{take_rest}
 use Rattle.std.proofs.lemmas.Result.{IfOk-weaker}
-use Rattle.std.proofs.Math.ListN.{length-set}
-use Rattle.mu_causal.specs.Causality.{IsCycle}
-use Rattle.mu_causal.specs.VisitMarks.{IsMarked, IsUnmarked, Needs}
-use Rattle.mu_causal.specs.Rounds.{IsTurned}
 use Rattle.mu_causal.proofs.Listing.{unmarked_count-set}
-use Rattle.mu_causal.proofs.Rounds.{Leads-push, IsRound, AreDistinct, round_from, cycle_from_round, on_path_push, seen_push, distinct_push, distinct_drop}
+use Rattle.mu_causal.proofs.Rounds.{Leads-push, IsRound, AreDistinct, round_from, cycle_from_round}
+use Rattle.mu_causal.proofs.Rounds.{on_path_push, seen_push, distinct_push, distinct_drop}
 use Rattle.mu_causal.proofs.dependency_graph.find_dependency_cycle.Goals as goal
 
 pub loop-seen-smaller : goal.loop-seen-smaller

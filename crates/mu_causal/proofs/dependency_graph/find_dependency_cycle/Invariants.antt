@@ -1,6 +1,4 @@
-use Rattle.std.proofs.Common.{◌≡◌, ℕ, ◌<◌, length}
-use Rattle.std.specs.Prelude.{Contains}
-use Rattle.mu_causal.specs.VisitMarks.{IsMarked, IsUnmarked, Needs}
+use Rattle.mu_causal.proofs.Common.{ℕ, ◌<◌, ◌≡◌, Contains, IsMarked, IsUnmarked, length, Needs}
 use Rattle.mu_causal.proofs.Listing.{unmarked_count}
 use Rattle.mu_causal.proofs.Rounds.{Leads, AreDistinct}
 use Rattle.mu_causal.proofs.dependency_graph.find_dependency_cycle.Given as goal

@@ -1,7 +1,6 @@
 -- One more row lowers the first readers of the numbers that it reads.
-use Rattle.std.proofs.Common.{◌≡◌, ◌∙◌, ◌<◌, length, arith, inl, inr}
-use Rattle.std.specs.Prelude.{slice_get, Some, All}
-use Rattle.std.proofs.lemmas.Bool.{cases_lt}
+use Rattle.mu_causal.proofs.Common
+use Common.{◌<◌, ◌∙◌, ◌≡◌, All, arith, cases_lt, inl, inr, length, slice_get, Some}
 use Rattle.mu_causal.proofs.Passing.{row_there, names_known, edge_within, lowered}
 use Rattle.mu_causal.proofs.dependency_graph.first_readers.Goals as goal
 

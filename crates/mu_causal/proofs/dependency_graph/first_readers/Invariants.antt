@@ -1,5 +1,4 @@
-use Rattle.std.proofs.Common.{◌≡◌, ◌≤◌, ◌<◌, ℕ, length, get_or}
-use Rattle.mu_causal.specs.Graphs.{HasEdge}
+use Rattle.mu_causal.proofs.Common.{ℕ, ◌<◌, ◌≡◌, ◌≤◌, get_or, HasEdge, length}
 use Rattle.mu_causal.proofs.dependency_graph.first_readers.Given as goal
 
 -- the readers so far

@@ -1,5 +1,4 @@
-use Rattle.std.proofs.Common.{ℕ, ◌<◌, ◌≤◌, get_or}
-use Rattle.mu_causal.specs.VisitMarks.{IsMarked}
+use Rattle.mu_causal.proofs.Common.{ℕ, ◌<◌, ◌≤◌, get_or, IsMarked}
 use Rattle.mu_causal.proofs.dependency_graph.first_unmarked_dependency.Given as goal
 
 abbrev pub invariant-loop-place : goal.invariant-loop-place

@@ -1,6 +1,4 @@
-use Rattle.std.proofs.Common.{◌≡◌, map, take}
-use Rattle.mu_tree.specs.FlatExpression.{flat_variable}
-use Rattle.mu_causal.specs.Flat.{is_known}
+use Rattle.mu_causal.proofs.Common.{◌≡◌, flat_variable, is_known, map, take}
 use Rattle.mu_causal.proofs.dependency_graph.known_dependencies.Given as goal
 
 abbrev pub invariant-loop-variable : goal.invariant-loop-variable

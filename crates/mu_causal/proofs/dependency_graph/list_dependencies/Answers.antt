@@ -1,10 +1,9 @@
 -- The names of one more equation are in its row, and at the end all are.
-use Rattle.std.proofs.Common.{◌≡◌, ◌∙◌, ◌+◌, List, [], ◌∷◌, ◌++◌, Bool, length, map, drop, refl}
-use Rattle.std.proofs.Common.{sym, ap, append_assoc, append-nil}
-use Rattle.std.proofs.lemmas.List.{drop_all, length-map}
-use Rattle.mu_tree.specs.FlatExpression.{flat_equation, flat_model, flat_variable}
-use Rattle.mu_tree.specs.FlatExpression.{FlatEquationTree, FlatVariable}
-use Rattle.mu_causal.specs.Flat.{is_known, row_at, open_names, AddsEquation}
+use Rattle.mu_causal.proofs.Common
+use Common.{[], ◌++◌, ◌+◌, ◌∙◌, ◌∷◌, ◌≡◌, AddsEquation, ap, append-nil, append_assoc, Bool, drop}
+use Common.{flat_equation, flat_model, flat_variable, FlatEquationTree, FlatVariable, is_known}
+use Common.{length, length-map, List, map, open_names, refl, row_at, sym}
+use Rattle.std.proofs.lemmas.List.{drop_all}
 use Rattle.mu_causal.proofs.GraphRows.{equations_from, graph_of, open_names-cons, open_names-nil}
 use Rattle.mu_causal.proofs.dependency_graph.list_dependencies.Goals as goal
 

@@ -1,6 +1,5 @@
-use Rattle.std.proofs.Common.{◌≡◌, ℕ, ◌++◌, length, map, drop}
-use Rattle.mu_tree.specs.FlatExpression.{flat_equation}
-use Rattle.mu_causal.specs.Flat.{row_at, open_names}
+use Rattle.mu_causal.proofs.Common
+use Common.{ℕ, ◌++◌, ◌≡◌, drop, flat_equation, length, map, open_names, row_at}
 use Rattle.mu_causal.proofs.dependency_graph.list_dependencies.Given as goal
 
 -- the rows so far and the names of the equations that are left are the whole rows

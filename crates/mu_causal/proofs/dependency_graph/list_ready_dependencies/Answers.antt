@@ -1,7 +1,6 @@
-use Rattle.std.proofs.Common.{◌≡◌, ◌∙◌, ◌<◌, ◌++◌, ◌∷◌, [], ℕ, List, arith, length, get_or, sym}
-use Rattle.std.proofs.lemmas.List.{get_or_default}
-use Rattle.mu_causal.specs.Causality.{IsNext}
-use Rattle.mu_causal.specs.VisitMarks.{IsOpen, Needs}
+use Rattle.mu_causal.proofs.Common
+use Common.{[], ℕ, ◌++◌, ◌<◌, ◌∙◌, ◌∷◌, ◌≡◌, arith, get_or, get_or_default, IsNext, IsOpen, length}
+use Common.{List, Needs, sym}
 use Rattle.mu_causal.proofs.Listing.{unmarked_count-set, next_is, Follow-push, AreMarks-push}
 use Rattle.mu_causal.proofs.Listing.{ArePassed-more, still_blocked, written_back}
 use Rattle.mu_causal.proofs.dependency_graph.list_ready_dependencies.Goals as goal

@@ -1,6 +1,5 @@
-use Rattle.std.proofs.Common.{ℕ, ◌<◌, []}
-use Rattle.mu_causal.specs.Causality.{Follow}
-use Rattle.mu_causal.specs.VisitMarks.{IsUnmarked, IsBlocked, ArePassed, AreMarks, IsOpen, Needs}
+use Rattle.mu_causal.proofs.Common
+use Common.{[], ℕ, ◌<◌, AreMarks, ArePassed, Follow, IsBlocked, IsOpen, IsUnmarked, Needs}
 use Rattle.mu_causal.proofs.Listing.{unmarked_count}
 use Rattle.mu_causal.proofs.dependency_graph.list_ready_dependencies.Given as goal
 

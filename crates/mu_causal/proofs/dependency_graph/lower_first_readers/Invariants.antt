@@ -1,4 +1,4 @@
-use Rattle.std.proofs.Common.{◌≡◌, ◌≤◌, ◌<◌, ℕ, length, get_or}
+use Rattle.mu_causal.proofs.Common.{ℕ, ◌<◌, ◌≡◌, ◌≤◌, get_or, length}
 use Rattle.mu_causal.proofs.dependency_graph.lower_first_readers.Given as goal
 
 -- the numbers of the row so far

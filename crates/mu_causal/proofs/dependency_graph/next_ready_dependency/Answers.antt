@@ -1,7 +1,10 @@
-use Rattle.std.proofs.Common.{◌≡◌, ◌∙◌, ◌<◌, ◌≤◌, ap, sym, arith, length, below_more}
-use Rattle.std.specs.Prelude.{slice_get, Some, true, false}
-use Rattle.mu_causal.proofs.Passing.{row_there, names_known, passed_more, unblocked_at_end, blocked_at}
-use Rattle.mu_causal.proofs.dependency_graph.next_ready_dependency.Goals.{then-not-marks-v+else-place-len, else-not-marks-v}
+use Rattle.mu_causal.proofs.Common
+use Common.{◌<◌, ◌∙◌, ◌≡◌, ◌≤◌, ap, arith, false, length, slice_get, Some, sym, true}
+use Rattle.std.proofs.Common.{below_more}
+use Rattle.mu_causal.proofs.Passing.{row_there, names_known, passed_more, unblocked_at_end}
+use Rattle.mu_causal.proofs.Passing.{blocked_at}
+use Rattle.mu_causal.proofs.dependency_graph.next_ready_dependency.Goals.{then-not-marks-v+else-place-len}
+use Rattle.mu_causal.proofs.dependency_graph.next_ready_dependency.Goals.{else-not-marks-v}
 use Rattle.mu_causal.proofs.dependency_graph.next_ready_dependency.Goals as goal
 
 pub first_unmarked_dependency-place-requires-clause-known : goal.first_unmarked_dependency-place-requires-clause-known

@@ -1,5 +1,4 @@
-use Rattle.std.proofs.Common.{ℕ, ◌<◌}
-use Rattle.mu_causal.specs.VisitMarks.{IsUnmarked, IsBlocked, ArePassed}
+use Rattle.mu_causal.proofs.Common.{ℕ, ◌<◌, ArePassed, IsBlocked, IsUnmarked}
 use Rattle.mu_causal.proofs.dependency_graph.next_ready_dependency.Given as goal
 
 abbrev pub invariant-loop-v : goal.invariant-loop-v

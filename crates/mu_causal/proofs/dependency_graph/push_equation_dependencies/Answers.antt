@@ -1,7 +1,6 @@
 -- The names are appended to one row, or nothing changes.
-use Rattle.std.proofs.Common.{◌∙◌, ◌<◌, true, false, length, arith}
-use Rattle.std.proofs.lemmas.List.{get_or_default}
-use Rattle.mu_tree.specs.FlatExpression.{flat_equation}
+use Rattle.mu_causal.proofs.Common
+use Common.{◌<◌, ◌∙◌, arith, false, flat_equation, get_or_default, length, true}
 use Rattle.mu_causal.proofs.GraphRows.{appended, known_past, unchanged}
 use Rattle.mu_causal.proofs.dependency_graph.push_equation_dependencies.Goals as goal
 

@@ -1,11 +1,10 @@
-use Rattle.std.proofs.Common.{◌≡◌, ◌<◌, ◌∙◌, sym, ap, arith, inl, inr, length, map}
-use Rattle.std.specs.Prelude.{Some, slice_get}
-use Rattle.std.proofs.lemmas.List.{length-map}
-use Rattle.mu_tree.specs.FlatExpression.{flat_model, flat_variable}
-use Rattle.mu_causal.specs.OrderResults.{IsGiven}
+use Rattle.mu_causal.proofs.Common
+use Common.{◌<◌, ◌∙◌, ◌≡◌, ap, arith, flat_model, flat_variable, inl, inr, IsGiven, length}
+use Common.{length-map, map, slice_get, Some, sym}
 use Rattle.mu_causal.specs.Dependencies.{equation_numbers}
 use Rattle.mu_causal.proofs.Counting.{variable_there, counted_more, counted_all, given_there}
-use Rattle.mu_causal.proofs.equation_counts.check_one_equation_each.Goals.{then-needs_equation+in-Once, else-needs_equation}
+use Rattle.mu_causal.proofs.equation_counts.check_one_equation_each.Goals.{then-needs_equation+in-Once}
+use Rattle.mu_causal.proofs.equation_counts.check_one_equation_each.Goals.{else-needs_equation}
 use Rattle.mu_causal.proofs.equation_counts.check_one_equation_each.Goals as goal
 
 pub returns-in-Never-clause-err : goal.returns-in-Never-clause-err

@@ -1,5 +1,4 @@
-use Rattle.mu_tree.specs.FlatExpression.{flat_model}
-use Rattle.mu_causal.specs.Dependencies.{EachBelowHasOneEquation}
+use Rattle.mu_causal.proofs.Common.{EachBelowHasOneEquation, flat_model}
 use Rattle.mu_causal.proofs.equation_counts.check_one_equation_each.Given as goal
 
 abbrev pub invariant-loop-place : goal.invariant-loop-place

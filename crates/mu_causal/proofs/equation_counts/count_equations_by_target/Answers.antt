@@ -1,14 +1,12 @@
 -- An equation changes what its target has, and nothing else.
-use Rattle.std.proofs.Common.{◌≡◌, ◌∙◌, ℕ, ◌+◌, ◌<◌, length, get_or, set, map, take, sym, ap, subst, arith, inl, inr}
-use Rattle.std.proofs.lemmas.Bool.{cases_eq}
-use Rattle.std.proofs.lemmas.List.{get_or-set_same, get_or-set_other, get_or_default, length-set}
-use Rattle.mu_tree.specs.declared.flat.FlatEquation.{FlatEquation}
-use Rattle.mu_tree.specs.FlatExpression.{flat_equation}
-use Rattle.mu_causal.specs.declared.equation_counts.Given.TheVariants.{Never}
-use Rattle.mu_causal.specs.OrderResults.{IsGiven}
-use Rattle.mu_causal.specs.Dependencies.{numbers_from}
+use Rattle.mu_causal.proofs.Common
+use Common.{ℕ, ◌+◌, ◌<◌, ◌∙◌, ◌≡◌, ap, arith, cases_eq, flat_equation, FlatEquation, get_or}
+use Common.{get_or-set_other, get_or-set_same, get_or_default, inl, inr, IsGiven, length, map}
+use Common.{Never, numbers_from, set, subst, sym, take}
+use Rattle.std.proofs.lemmas.List.{length-set}
 use Rattle.mu_causal.proofs.Counting.{numbers_more, numbers_same}
-use Rattle.mu_causal.proofs.equation_counts.count_equations_by_target.Goals.{then-target-count, else-target-count}
+use Rattle.mu_causal.proofs.equation_counts.count_equations_by_target.Goals.{then-target-count}
+use Rattle.mu_causal.proofs.equation_counts.count_equations_by_target.Goals.{else-target-count}
 use Rattle.mu_causal.proofs.equation_counts.count_equations_by_target.Goals as goal
 
 pub loop-place-preserved : goal.loop-place-preserved

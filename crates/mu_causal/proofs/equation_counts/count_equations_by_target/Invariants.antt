@@ -1,8 +1,5 @@
-use Rattle.std.proofs.Common.{◌≡◌, ℕ, ◌<◌, length, get_or, map, take}
-use Rattle.mu_tree.specs.FlatExpression.{flat_equation}
-use Rattle.mu_causal.specs.declared.equation_counts.Given.TheVariants.{Never}
-use Rattle.mu_causal.specs.OrderResults.{IsGiven}
-use Rattle.mu_causal.specs.Dependencies.{numbers_from}
+use Rattle.mu_causal.proofs.Common
+use Common.{ℕ, ◌<◌, ◌≡◌, flat_equation, get_or, IsGiven, length, map, Never, numbers_from, take}
 use Rattle.mu_causal.proofs.equation_counts.count_equations_by_target.Given as goal
 
 -- each variable has what the equations so far give

@@ -1,5 +1,4 @@
-use Rattle.mu_grammar.specs.ModelMachine.{model_machine}
-use Rattle.mu_grammar.specs.ModelGrammar.{SpellsModel}
+use Rattle.mu_grammar.proofs.Common.{model_machine, SpellsModel}
 use Rattle.mu_grammar.proofs.Fronts.{unique}
 use Rattle.mu_grammar.proofs.ModelDecides.{model_decides}
 use Rattle.mu_grammar.proofs.grammar_laws.grammar_is_unambiguous.Goals as goal

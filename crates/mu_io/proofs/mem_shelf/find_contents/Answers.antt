@@ -1,4 +1,4 @@
-use Rattle.std.proofs.Common.{sym}
+use Rattle.mu_io.proofs.Common.{sym}
 use Rattle.mu_io.proofs.HeldFiles.{held_at, held_nowhere}
 use Rattle.mu_io.proofs.mem_shelf.find_contents.Goals as goal
 

@@ -1,4 +1,4 @@
-use Rattle.std.proofs.Common.{rules}
+use Rattle.mu_io.proofs.Common.{rules}
 use Rattle.mu_io.proofs.Readings.{added_read}
 use Rattle.mu_io.proofs.shelf.read_all.Goals as goal
 

@@ -1,8 +1,8 @@
-use Rattle.std.proofs.Common.{rules}
+use Rattle.mu_io.proofs.Common.{rules}
 use Rattle.std.proofs.KnownBytes.{Appends-kept}
 use Rattle.mu_io.proofs.Pieces.{taken_more}
-use Rattle.mu_io.proofs.std_sink.write_accepted_bytes.Goals as goal
 use Rattle.mu_io.proofs.std_sink.write_accepted_bytes.Goals.{in-Ok, in-Err}
+use Rattle.mu_io.proofs.std_sink.write_accepted_bytes.Goals as goal
 
 pub loop-preserved : goal.loop-preserved
 loop-preserved g c =

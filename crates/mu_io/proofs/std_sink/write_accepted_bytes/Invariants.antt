@@ -1,5 +1,4 @@
-use Rattle.std.proofs.Common.{◌≤◌, length, take}
-use Rattle.std.specs.Io.KnownBytes.{Appends}
+use Rattle.mu_io.proofs.Common.{◌≤◌, Appends, length, take}
 use Rattle.mu_io.proofs.std_sink.write_accepted_bytes.Given as goal
 
 -- the writer has accepted the first `taken` bytes

@@ -1,4 +1,4 @@
-use Rattle.std.proofs.Common.{arith, sym, ◌∙◌}
+use Rattle.mu_lexer.proofs.Common.{◌∙◌, arith, sym}
 use Rattle.mu_lexer.proofs.Scans.{block_on, block_end}
 use Rattle.mu_lexer.proofs.lexer.block_comment_length.Goals as goal
 

@@ -1,6 +1,4 @@
-use Rattle.std.proofs.Common.{◌≡◌, ◌+◌, ◌-◌, ◌≤◌, drop, length}
-use Rattle.std.specs.Option.{option_map}
-use Rattle.mu_lexer.specs.Tokens.{block_length}
+use Rattle.mu_lexer.proofs.Common.{◌+◌, ◌-◌, ◌≡◌, ◌≤◌, block_length, drop, length, option_map}
 use Rattle.mu_lexer.proofs.lexer.block_comment_length.Given as goal
 
 -- no star and slash stand below i

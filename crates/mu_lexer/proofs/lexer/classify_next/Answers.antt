@@ -1,8 +1,9 @@
-use Rattle.std.proofs.Common.{◌≡◌, false, get_or, drop, sym, ap, ◌∙◌, arith, length-drop}
+use Rattle.mu_lexer.proofs.Common
+use Common.{◌∙◌, ◌≡◌, ap, arith, begins_slash, block_length, drop, false, get_or, is_blank}
+use Common.{length-drop, sym, take_rest}
 use Rattle.std.proofs.lemmas.Bool.{eq-eqb}
-use Rattle.std.proofs.lemmas.List.{take_rest}
-use Rattle.mu_lexer.specs.Tokens.{is_blank, begins_slash, block_length}
-use Rattle.mu_lexer.proofs.Places.{found_longest, found_none, either_false, block_length-within, begins_blank-first, begins_quote-first, eqb_no}
+use Rattle.mu_lexer.proofs.Places.{found_longest, found_none, either_false, block_length-within}
+use Rattle.mu_lexer.proofs.Places.{begins_blank-first, begins_quote-first, eqb_no}
 use Rattle.mu_lexer.proofs.lexer.classify_next.Goals as goal
 
 pub overflow_add-result-in-Some : goal.overflow_add-result-in-Some

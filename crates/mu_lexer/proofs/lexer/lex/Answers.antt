@@ -1,9 +1,10 @@
-use Rattle.std.proofs.Common.{◌≡◌, ℕ, ◌+◌, ◌<◌, ◌≤◌, inl, inr, length, drop, arith}
-use Rattle.mu_lexer.specs.declared.lexer.NextItem.TheVariants as standing
+use Rattle.mu_lexer.proofs.Common.{ℕ, ◌+◌, ◌<◌, ◌≡◌, ◌≤◌, arith, drop, inl, inr, IsWithin, length}
 use Rattle.std.proofs.lemmas.List.Elements.{All-push}
-use Rattle.mu_lexer.specs.Tokens.{IsWithin}
 use Rattle.mu_lexer.proofs.Places.{size_within}
-use Rattle.mu_lexer.proofs.Progress.{here, over_blank, over_comment, over_token, steps_within, finished, only_tokens, no_error, fault_here, no_tokens, only_error}
+use Rattle.mu_lexer.proofs.Progress.{here, over_blank, over_comment, over_token, steps_within}
+use Rattle.mu_lexer.proofs.Progress.{finished, only_tokens, no_error, fault_here, no_tokens}
+use Rattle.mu_lexer.proofs.Progress.{only_error}
+use Rattle.mu_lexer.specs.declared.lexer.NextItem.TheVariants as standing
 use Rattle.mu_lexer.proofs.lexer.lex.Goals as goal
 
 pub loop-at-preserved-in-Blank : goal.loop-at-preserved-in-Blank

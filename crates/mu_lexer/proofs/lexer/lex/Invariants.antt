@@ -1,6 +1,5 @@
-use Rattle.std.proofs.Common.{◌-◌, ◌≤◌, length, vec_len}
-use Rattle.std.specs.List.{All}
-use Rattle.mu_lexer.specs.Tokens.{IsWithin}
+use Rattle.mu_lexer.proofs.Common.{◌-◌, ◌≤◌, All, IsWithin, length}
+use Rattle.std.proofs.Common.{vec_len}
 use Rattle.mu_lexer.proofs.Progress.{Progress}
 use Rattle.mu_lexer.proofs.lexer.lex.Given as goal
 

@@ -1,5 +1,4 @@
-use Rattle.std.proofs.Common.{◌≡◌, drop}
-use Rattle.mu_lexer.specs.Automaton.{word_among}
+use Rattle.mu_lexer.proofs.Common.{◌≡◌, drop, word_among}
 use Rattle.mu_lexer.proofs.lexer.lex_reserved_word.Given as goal
 
 -- the word is none of those so far

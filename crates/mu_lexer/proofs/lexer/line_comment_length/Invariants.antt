@@ -1,5 +1,4 @@
-use Rattle.std.proofs.Common.{◌≡◌, ◌+◌, drop}
-use Rattle.mu_lexer.specs.Tokens.{line_length}
+use Rattle.mu_lexer.proofs.Common.{◌+◌, ◌≡◌, drop, line_length}
 use Rattle.mu_lexer.proofs.lexer.line_comment_length.Given as goal
 
 -- the bytes so far are of the line

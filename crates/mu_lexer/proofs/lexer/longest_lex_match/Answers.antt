@@ -1,7 +1,6 @@
-use Rattle.std.proofs.Common.{◌≡◌, ◌+◌, length, take, Some, None, sym, ◌∙◌, arith}
-use Rattle.mu_lexer.specs.Automaton.{run}
-use Rattle.mu_lexer.specs.declared.lexer.Phase.TheVariants as phase
+use Rattle.mu_lexer.proofs.Common.{◌+◌, ◌∙◌, ◌≡◌, arith, length, None, run, Some, sym, take}
 use Rattle.mu_lexer.proofs.Runs.{run-take_more, best_more, best_stuck}
+use Rattle.mu_lexer.specs.declared.lexer.Phase.TheVariants as phase
 use Rattle.mu_lexer.proofs.lexer.longest_lex_match.Goals as goal
 
 pub returns-in-None : goal.returns-in-None

@@ -1,5 +1,4 @@
-use Rattle.std.proofs.Common.{◌≡◌, take, Some}
-use Rattle.mu_lexer.specs.Automaton.{run, BestUpTo}
+use Rattle.mu_lexer.proofs.Common.{◌≡◌, BestUpTo, run, Some, take}
 use Rattle.mu_lexer.specs.declared.lexer.Phase.TheVariants as phase
 use Rattle.mu_lexer.proofs.lexer.longest_lex_match.Given as goal
 

@@ -1,6 +1,9 @@
-use Rattle.std.proofs.Common.{◌≡◌, ◌∙◌, ◌+◌, ◌++◌, map, drop, ap, sym, refl}
-use Rattle.mu_tree.specs.Expression.{signed, scaled, terms_of, factors_of, expression, reference, Power}
-use Rattle.mu_names.specs.Constant.{faults, sum_value, product_value, sum_faults, product_faults, both, both_faults, joined, multiplied, one_faults, raised, indexed_faults, reference_faults, previous_faults}
+use Rattle.mu_names.proofs.Common
+use Common.{◌++◌, ◌+◌, ◌∙◌, ◌≡◌, ap, drop, expression, factors_of, faults, map, Power}
+use Common.{product_faults, product_value, reference, refl, scaled, signed, sum_faults, sum_value}
+use Common.{sym, terms_of}
+use Rattle.mu_names.specs.Constant.{both, both_faults, joined, multiplied, one_faults, raised}
+use Rattle.mu_names.specs.Constant.{indexed_faults, reference_faults, previous_faults}
 use Rattle.mu_names.proofs.LeastLemmas.{noted_both, noted_two_of_three}
 use Rattle.mu_names.proofs.Shapes.{expression-Pow, reference_some, terms_from, factors_from}
 use Rattle.mu_names.proofs.constant_values.+evaluate_constant.Goals as goal

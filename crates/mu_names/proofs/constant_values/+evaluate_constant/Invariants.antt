@@ -1,9 +1,6 @@
-use Rattle.std.proofs.Common.{◌≡◌, map, drop, pos}
-use Rattle.std.specs.Prelude.{Some}
-use Rattle.mu_num.specs.Fraction.{whole}
-use Rattle.mu_tree.specs.Expression.{signed, scaled, terms_of, factors_of}
-use Rattle.mu_names.specs.LeastFaults.{least_of}
-use Rattle.mu_names.specs.Constant.{sum_value, product_value, sum_faults, product_faults}
+use Rattle.mu_names.proofs.Common
+use Common.{◌≡◌, drop, factors_of, least_of, map, pos, product_faults, product_value, scaled}
+use Common.{signed, Some, sum_faults, sum_value, terms_of, whole}
 use Rattle.mu_names.proofs.constant_values.+evaluate_constant.Given as goal
 
 -- the value and the faults of what is left are those of the whole

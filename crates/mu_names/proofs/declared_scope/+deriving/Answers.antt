@@ -1,9 +1,7 @@
-use Rattle.std.proofs.Common.{◌≡◌, ◌∙◌, ap, sym, List, ℕ, [], ◌∷◌}
-use Rattle.std.specs.Prelude.{is_some, ◌||◌, Option}
-use Rattle.std.proofs.lemmas.Result.{on_ok_weaker}
-use Rattle.mu_names.specs.DeclaredRoles.{derived, is_among}
-use Rattle.mu_names.specs.NameTables.{entry_at, is_entry}
-use Rattle.mu_tree.specs.ModelTree.{equation}
+use Rattle.mu_names.proofs.Common
+use Common.{[], ℕ, ◌||◌, ◌∙◌, ◌∷◌, ◌≡◌, ap, entry_at, equation, is_among, is_entry, is_some, List}
+use Common.{on_ok_weaker, Option, sym}
+use Rattle.mu_names.specs.DeclaredRoles.{derived}
 use Rattle.mu_tree.proofs.Nesting.{equation-Der}
 use Rattle.mu_names.proofs.TableLemmas.{entry_added, name_of-reference}
 use Rattle.mu_names.proofs.declared_scope.+deriving.Goals as goal

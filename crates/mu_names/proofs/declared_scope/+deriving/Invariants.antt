@@ -1,8 +1,6 @@
-use Rattle.std.proofs.Common.{◌≡◌, ℕ, List, map, drop}
-use Rattle.std.specs.Prelude.{◌||◌}
-use Rattle.mu_tree.specs.ModelTree.{equation, equations_of}
-use Rattle.mu_names.specs.DeclaredRoles.{derived_all, is_among}
-use Rattle.mu_names.specs.NameTables.{is_entry}
+use Rattle.mu_names.proofs.Common
+use Common.{ℕ, ◌||◌, ◌≡◌, drop, equation, equations_of, is_among, is_entry, List, map}
+use Rattle.mu_names.specs.DeclaredRoles.{derived_all}
 use Rattle.mu_names.proofs.declared_scope.+deriving.Given as goal
 
 -- the names so far and those of what is left are all

@@ -1,15 +1,13 @@
-use Rattle.std.proofs.Common.{◌≡◌, ◌∙◌, ◌+◌, ◌<◌, ◌++◌, ◌∷◌, [], List, ℕ, length, map, take, drop, get_or, ap, sym, rules}
-use Rattle.std.specs.Prelude.{is_some, unwrap_or, Option}
+use Rattle.mu_names.proofs.Common
+use Common.{[], ℕ, ◌++◌, ◌+◌, ◌<◌, ◌∙◌, ◌∷◌, ◌≡◌, added_at, ap, Declaration, declaration}
+use Common.{declared_by, derived_in, drop, expression, first_declared, get_or, is_some, least_of}
+use Common.{length, List, map, model, NameKind, Option, repeated_faults, role_by, role_of, sym}
+use Common.{take}
+use Rattle.std.specs.Prelude.{unwrap_or}
 use Rattle.std.proofs.lemmas.List.{take_all}
-use Rattle.mu_tree.specs.Expression.{expression}
-use Rattle.mu_tree.specs.ModelTree.{declaration, model, Declaration}
-use Rattle.mu_names.specs.declared.name_kind.NameKind.{NameKind}
 use Rattle.mu_names.specs.declared.name_kind.NameKind.TheVariants.{Declared, Missing}
-use Rattle.mu_names.specs.DeclarationFaults.{repeated_faults}
-use Rattle.mu_names.specs.LeastFaults.{least_of}
 use Rattle.mu_names.specs.Naming.{taken_faults}
-use Rattle.mu_names.specs.DeclaredRoles.{derived_in, declared_as, declared_by, first_declared, role_by, role_of}
-use Rattle.mu_names.specs.NameTables.{added_at, entry_at}
+use Rattle.mu_names.specs.DeclaredRoles.{declared_as}
 use Rattle.mu_names.proofs.LeastLemmas.{noted_first}
 use Rattle.mu_names.proofs.Shapes.{declarations_from, declarations_so_far}
 use Rattle.mu_names.proofs.TableLemmas.{first_declared-push, is_some-option_map}

@@ -1,9 +1,6 @@
-use Rattle.std.proofs.Common.{◌≡◌, map, take, drop, []}
-use Rattle.mu_tree.specs.ModelTree.{declaration, model}
-use Rattle.mu_names.specs.DeclarationFaults.{repeated_faults}
-use Rattle.mu_names.specs.DeclaredRoles.{derived_in, first_declared}
-use Rattle.mu_names.specs.LeastFaults.{least_of}
-use Rattle.mu_names.specs.NameTables.{entry_at}
+use Rattle.mu_names.proofs.Common
+use Common.{[], ◌≡◌, declaration, derived_in, drop, entry_at, first_declared, least_of, map, model}
+use Common.{repeated_faults, take}
 use Rattle.mu_names.proofs.declared_scope.declared_names.Given as goal
 
 -- the table has the declarations so far; what was noted and the faults of what is left are those of all

@@ -1,7 +1,8 @@
-use Rattle.std.proofs.Common.{◌≡◌, ◌∙◌, refl, sym, ap, pos}
+use Rattle.mu_names.proofs.Common.{◌∙◌, ◌≡◌, ap, Fraction, pos, refl, sym, whole}
 use Rattle.std.specs.Prelude.{Result, Ok, Err}
 use Rattle.mu_num.specs.declared.NumErr.{NumErr}
-use Rattle.mu_num.specs.Fraction.{Fraction, whole, checked_quotient, checked, lowest, least_denominator, least_multiplier}
+use Rattle.mu_num.specs.Fraction.{checked_quotient, checked, lowest, least_denominator}
+use Rattle.mu_num.specs.Fraction.{least_multiplier}
 use Rattle.mu_names.proofs.declared_scope.default_scope_quantum.Goals as goal
 
 -- one over 1,024 in lowest terms

@@ -1,8 +1,8 @@
-use Rattle.std.proofs.Common.{◌≡◌, ◌∙◌, ◌+◌, ◌++◌, ◌∷◌, [], map, drop, ap, sym, append_assoc}
-use Rattle.mu_tree.specs.ModelTree.{declaration, Declaration}
-use Rattle.mu_names.specs.DeclarationFaults.{all_valued, constants_after, constants_with, declaration_faults, declarations_faults, meaning_after, valued}
-use Rattle.mu_names.specs.LeastFaults.{least_of}
-use Rattle.mu_names.specs.NameTables.{entry_at, name_kind_at}
+use Rattle.mu_names.proofs.Common
+use Common.{[], ◌++◌, ◌+◌, ◌∙◌, ◌∷◌, ◌≡◌, all_valued, ap, append_assoc, constants_after}
+use Common.{constants_with, Declaration, declaration, declarations_faults, drop, entry_at, least_of}
+use Common.{map, meaning_after, name_kind_at, sym}
+use Rattle.mu_names.specs.DeclarationFaults.{declaration_faults, valued}
 use Rattle.mu_names.proofs.LeastLemmas.{noted_first}
 use Rattle.mu_names.proofs.Shapes.{declarations_from}
 use Rattle.mu_names.proofs.declared_scope.evaluate_declarations.Goals as goal

@@ -1,8 +1,6 @@
-use Rattle.std.proofs.Common.{◌≡◌, ◌++◌, map, drop}
-use Rattle.mu_tree.specs.ModelTree.{declaration}
-use Rattle.mu_names.specs.DeclarationFaults.{all_valued, constants_after, declarations_faults}
-use Rattle.mu_names.specs.LeastFaults.{least_of}
-use Rattle.mu_names.specs.NameTables.{entry_at, name_kind_at}
+use Rattle.mu_names.proofs.Common
+use Common.{◌++◌, ◌≡◌, all_valued, constants_after, declaration, declarations_faults, drop}
+use Common.{entry_at, least_of, map, name_kind_at}
 use Rattle.mu_names.proofs.declared_scope.evaluate_declarations.Given as goal
 
 -- what there is so far and what is left are all

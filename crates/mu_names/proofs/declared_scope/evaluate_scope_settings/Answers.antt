@@ -1,13 +1,10 @@
-use Rattle.std.proofs.Common.{◌≡◌, ◌∙◌, ◌+◌, ◌<◌, ◌++◌, ◌∷◌, [], length, map, take, drop, get_or, set, ap, sym, subst}
-use Rattle.std.specs.Prelude.{true, false, if◌then◌else◌}
+use Rattle.mu_names.proofs.Common
+use Common.{[], ◌++◌, ◌+◌, ◌∙◌, ◌∷◌, ◌≡◌, ap, drop, Duplicate, expression, false, faults, get_or}
+use Common.{if◌then◌else◌, is_set, least_of, map, set, Setting, setting, setting_number}
+use Common.{settings_faults, settings_from, sym, take, true}
 use Rattle.std.proofs.Math.ListN.{length-set}
-use Rattle.mu_tree.specs.declared.tree.SettingName.{SettingName}
-use Rattle.mu_tree.specs.Expression.{expression}
-use Rattle.mu_tree.specs.ModelTree.{setting, Setting}
-use Rattle.mu_names.specs.declared.name_fault.NameErr.TheVariants.{Duplicate}
-use Rattle.mu_names.specs.Constant.{value, faults}
-use Rattle.mu_names.specs.LeastFaults.{least_of}
-use Rattle.mu_names.specs.Roles.{is_set, setting_number, settings_faults, settings_from, with_setting}
+use Rattle.mu_names.specs.Constant.{value}
+use Rattle.mu_names.specs.Roles.{with_setting}
 use Rattle.mu_names.proofs.LeastLemmas.{noted_two_of_three}
 use Rattle.mu_names.proofs.Shapes.{settings_from_place, settings_so_far}
 use Rattle.mu_names.proofs.TableLemmas.{written_more}

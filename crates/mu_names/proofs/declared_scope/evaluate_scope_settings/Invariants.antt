@@ -1,9 +1,6 @@
-use Rattle.std.proofs.Common.{◌≡◌, map, take, drop, [], length, get_or}
-use Rattle.std.specs.Prelude.{false}
-use Rattle.mu_tree.specs.declared.tree.SettingName.{SettingName}
-use Rattle.mu_tree.specs.ModelTree.{setting}
-use Rattle.mu_names.specs.LeastFaults.{least_of}
-use Rattle.mu_names.specs.Roles.{default_settings, is_set, setting_number, settings_faults, settings_from}
+use Rattle.mu_names.proofs.Common
+use Common.{[], ◌≡◌, default_settings, drop, false, get_or, is_set, least_of, length, map, setting}
+use Common.{setting_number, SettingName, settings_faults, settings_from, take}
 use Rattle.mu_names.proofs.declared_scope.evaluate_scope_settings.Given as goal
 
 -- what there is so far and what is left are all

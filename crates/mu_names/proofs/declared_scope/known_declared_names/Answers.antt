@@ -1,8 +1,8 @@
-use Rattle.std.proofs.Common.{◌≡◌, ◌∙◌, ◌+◌, ◌<◌, ◌++◌, ◌∷◌, [], length, map, drop, get_or, ap, sym, append_assoc, arith}
+use Rattle.mu_names.proofs.Common
+use Common.{[], ◌++◌, ◌+◌, ◌<◌, ◌∙◌, ◌∷◌, ◌≡◌, all_known, ap, append_assoc, arith, Declaration}
+use Common.{declaration, derived_in, drop, get_or, length, map, model, role_by, role_of, sym}
 use Rattle.std.proofs.lemmas.List.{length-map}
-use Rattle.mu_tree.specs.ModelTree.{declaration, model, Declaration}
-use Rattle.mu_names.specs.Roles.{all_known, known_as}
-use Rattle.mu_names.specs.DeclaredRoles.{derived_in, role_by, role_of}
+use Rattle.mu_names.specs.Roles.{known_as}
 use Rattle.mu_names.proofs.Shapes.{declarations_from}
 use Rattle.mu_names.proofs.TableLemmas.{drop_at}
 use Rattle.mu_names.proofs.declared_scope.known_declared_names.Goals as goal

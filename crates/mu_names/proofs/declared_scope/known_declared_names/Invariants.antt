@@ -1,7 +1,4 @@
-use Rattle.std.proofs.Common.{◌≡◌, ◌++◌, map, drop}
-use Rattle.mu_tree.specs.ModelTree.{declaration, model}
-use Rattle.mu_names.specs.DeclaredRoles.{derived_in}
-use Rattle.mu_names.specs.Roles.{all_known}
+use Rattle.mu_names.proofs.Common.{◌++◌, ◌≡◌, all_known, declaration, derived_in, drop, map, model}
 use Rattle.mu_names.proofs.declared_scope.known_declared_names.Given as goal
 
 -- what is known so far and what is left are all

@@ -1,14 +1,12 @@
-use Rattle.std.proofs.Common.{◌≡◌, ◌∙◌, ◌+◌, ◌++◌, ◌∷◌, [], List, ℕ, Vec, Global, drop, rules}
-use Rattle.std.proofs.Common.{arith, ap}
-use Rattle.std.specs.List.{flat_map}
-use Rattle.std.specs.Prelude.{Option}
+use Rattle.mu_names.proofs.Common
+use Common.{[], ℕ, ◌++◌, ◌+◌, ◌∙◌, ◌∷◌, ◌≡◌, ap, arith, drop, flat_map, Global, least_of, List}
+use Common.{name_kind_at, NameErr, Option}
+use Rattle.std.proofs.Common.{Vec, rules}
 use Rattle.mu_tree.specs.Nests.{range_of}
 use Rattle.mu_tree.proofs.Nesting.{body_smaller}
-use Rattle.mu_names.specs.declared.name_fault.NameErr.{NameErr}
-use Rattle.mu_names.specs.LeastFaults.{least_of}
-use Rattle.mu_names.specs.NameTables.{name_kind_at}
 use Rattle.mu_names.proofs.NestedFaults.{left, loop_noted, one_noted}
-use Rattle.mu_names.proofs.name_checks.+check_items.Goals.{in-One+in_ok-check_one-in-One, in-Each+in_ok-enter_loop-in-Each+in_ok-check_items-in-Each}
+use Rattle.mu_names.proofs.name_checks.+check_items.Goals.{in-One+in_ok-check_one-in-One}
+use Rattle.mu_names.proofs.name_checks.+check_items.Goals.{in-Each+in_ok-enter_loop-in-Each+in_ok-check_items-in-Each}
 use Rattle.mu_names.proofs.name_checks.+check_items.Goals as goal
 
 pub check_items-requires : goal.check_items-requires

@@ -1,8 +1,5 @@
-use Rattle.std.proofs.Common.{◌≡◌, drop}
-use Rattle.std.specs.List.{flat_map}
+use Rattle.mu_names.proofs.Common.{◌≡◌, drop, flat_map, least_of, name_kind_at}
 use Rattle.mu_tree.specs.Nests.{list_size}
-use Rattle.mu_names.specs.LeastFaults.{least_of}
-use Rattle.mu_names.specs.NameTables.{name_kind_at}
 use Rattle.mu_names.proofs.name_checks.+check_items.Given as goal
 
 abbrev pub decreases-check_items : goal.decreases-check_items

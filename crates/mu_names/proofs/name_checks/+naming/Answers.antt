@@ -1,8 +1,6 @@
-use Rattle.std.proofs.Common.{◌≡◌, ◌∙◌, ◌+◌, map, drop, ap}
-use Rattle.mu_tree.specs.Expression.{expression, signed, scaled, terms_of, factors_of}
-use Rattle.mu_names.specs.Naming.{expression_faults, terms_faults, factors_faults}
-use Rattle.mu_names.specs.DeclaredRoles.{name_kind_in}
-use Rattle.mu_names.specs.NameTables.{name_kind_at}
+use Rattle.mu_names.proofs.Common
+use Common.{◌+◌, ◌∙◌, ap, drop, expression, expression_faults, factors_faults, factors_of, map}
+use Common.{name_kind_at, name_kind_in, scaled, signed, terms_faults, terms_of}
 use Rattle.mu_names.proofs.LeastLemmas.{noted_first}
 use Rattle.mu_names.proofs.Shapes.{terms_from, factors_from}
 use Rattle.mu_names.proofs.name_checks.+naming.Goals as goal

@@ -1,9 +1,6 @@
-use Rattle.std.proofs.Common.{◌≡◌, map, drop}
-use Rattle.mu_tree.specs.Expression.{signed, scaled, terms_of, factors_of}
-use Rattle.mu_names.specs.DeclaredRoles.{name_kind_in}
-use Rattle.mu_names.specs.LeastFaults.{least_of}
-use Rattle.mu_names.specs.Naming.{terms_faults, factors_faults}
-use Rattle.mu_names.specs.NameTables.{name_kind_at}
+use Rattle.mu_names.proofs.Common
+use Common.{◌≡◌, drop, factors_faults, factors_of, least_of, map, name_kind_at, name_kind_in}
+use Common.{scaled, signed, terms_faults, terms_of}
 use Rattle.mu_names.proofs.name_checks.+naming.Given as goal
 
 -- what was noted and the faults of what is left are those of all

@@ -1,15 +1,10 @@
-use Rattle.std.proofs.Common.{◌≡◌, ◌∙◌, ◌++◌, map, ap, refl}
-use Rattle.std.proofs.lemmas.Result.{on_ok_weaker}
-use Rattle.mu_tree.specs.Expression.{expression}
-use Rattle.mu_tree.specs.ModelTree.{statement, statements_of}
-use Rattle.mu_tree.specs.Nests.{statement_item, statement_items_of}
-use Rattle.mu_names.specs.declared.name_kind.NameContext.TheVariants as reading
-use Rattle.mu_names.specs.DeclaredRoles.{name_kind_in}
-use Rattle.mu_names.specs.LeastFaults.{least_of}
-use Rattle.mu_names.specs.NameTables.{name_kind_at}
-use Rattle.mu_names.specs.Naming.{expression_faults, one_statement_faults, statements_faults}
+use Rattle.mu_names.proofs.Common
+use Common.{◌++◌, ◌∙◌, ap, expression, expression_faults, least_of, map, name_kind_at, name_kind_in}
+use Common.{on_ok_weaker, refl, statement, statement_item, statement_items_of, statements_of}
+use Rattle.mu_names.specs.Naming.{one_statement_faults, statements_faults}
 use Rattle.mu_names.proofs.LeastLemmas.{noted_both}
 use Rattle.mu_names.proofs.NestedFaults.{named}
+use Rattle.mu_names.specs.declared.name_kind.NameContext.TheVariants as reading
 use Rattle.mu_names.proofs.name_checks.check_branch.Goals as goal
 
 pub returns-clause-faults : goal.returns-clause-faults

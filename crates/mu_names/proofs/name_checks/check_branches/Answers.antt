@@ -1,8 +1,6 @@
-use Rattle.std.proofs.Common.{◌≡◌, ◌∙◌, ◌+◌, map, drop, ap}
-use Rattle.mu_tree.specs.ModelTree.{branch}
-use Rattle.mu_names.specs.LeastFaults.{least_of}
-use Rattle.mu_names.specs.Naming.{branch_faults, branches_faults}
-use Rattle.mu_names.specs.NameTables.{name_kind_at}
+use Rattle.mu_names.proofs.Common
+use Common.{◌+◌, ◌∙◌, ap, branch, branches_faults, drop, least_of, map, name_kind_at}
+use Rattle.mu_names.specs.Naming.{branch_faults}
 use Rattle.mu_names.proofs.LeastLemmas.{noted_first}
 use Rattle.mu_names.proofs.Shapes.{branches_from}
 use Rattle.mu_names.proofs.name_checks.check_branches.Goals as goal

@@ -1,8 +1,4 @@
-use Rattle.std.proofs.Common.{◌≡◌, map, drop}
-use Rattle.mu_tree.specs.ModelTree.{branch}
-use Rattle.mu_names.specs.LeastFaults.{least_of}
-use Rattle.mu_names.specs.Naming.{branches_faults}
-use Rattle.mu_names.specs.NameTables.{name_kind_at}
+use Rattle.mu_names.proofs.Common.{◌≡◌, branch, branches_faults, drop, least_of, map, name_kind_at}
 use Rattle.mu_names.proofs.name_checks.check_branches.Given as goal
 
 -- what was noted and the faults of what is left are those of all

@@ -1,21 +1,20 @@
-use Rattle.std.proofs.Common.{◌≡◌, ◌∙◌, ◌∷◌, [], List, ℕ, length, map, ap, sym, arith}
-use Rattle.std.specs.Prelude.{Option, bytes_eq, if◌then◌else◌}
-use Rattle.std.proofs.Math.Path.{fun_ext}
-use Rattle.mu_num.specs.Fraction.{Fraction}
+use Rattle.mu_names.proofs.Common
+use Common.{[], ◌∙◌, ◌∷◌, ◌≡◌, all_known, all_valued, ap, branches_faults, bytes_eq}
+use Common.{constants_after, declaration, declarations_faults, default_settings, derived_in}
+use Common.{EndName, entry_at, equation, equations_of, fun_ext, if◌then◌else◌, least_of, length}
+use Common.{List, map, meaning_after, model, name_kind_at, repeated_faults, setting}
+use Common.{settings_faults, settings_from, statement, statement_item, statement_items_of}
+use Common.{statements_of}
 use Rattle.mu_tree.specs.declared.flat.Settings.{Settings}
-use Rattle.mu_tree.specs.ModelTree.{model, declaration, setting, statement, equation, clause, statements_of, equations_of, clauses_of}
-use Rattle.mu_names.specs.declared.name_fault.NameErr.TheVariants.{EndName}
+use Rattle.mu_tree.specs.ModelTree.{clause, clauses_of}
 use Rattle.mu_names.specs.declared.declared_scope.Known.{Known}
 use Rattle.mu_names.specs.declared.declared_scope.Scope.{Scope}
-use Rattle.mu_names.specs.declared.declared_scope.DeclarationValues.{DeclarationValues}
-use Rattle.mu_names.specs.declared.name_kind.NameKind.{NameKind}
-use Rattle.mu_names.specs.DeclarationFaults.{all_valued, constants_after, declarations_faults, meaning_after, no_constants, repeated_faults}
-use Rattle.mu_names.specs.LeastFaults.{least_of}
-use Rattle.mu_tree.specs.Nests.{clause_item, clause_items_of, equation_item, equation_items_of, statement_item, statement_items_of}
-use Rattle.mu_names.specs.Naming.{branches_faults, clauses_faults, equations_faults, one_equation_faults, one_start_faults, starts_faults}
-use Rattle.mu_names.specs.Roles.{all_known, default_settings, meaning_in, settings_faults, settings_from, settings_in, scope_of}
-use Rattle.mu_names.specs.DeclaredRoles.{declared_in, derived_in}
-use Rattle.mu_names.specs.NameTables.{entry_at, name_kind_at}
+use Rattle.mu_names.specs.DeclarationFaults.{no_constants}
+use Rattle.mu_tree.specs.Nests.{clause_item, clause_items_of, equation_item, equation_items_of}
+use Rattle.mu_names.specs.Naming.{clauses_faults, equations_faults, one_equation_faults}
+use Rattle.mu_names.specs.Naming.{one_start_faults, starts_faults}
+use Rattle.mu_names.specs.Roles.{meaning_in, settings_in, scope_of}
+use Rattle.mu_names.specs.DeclaredRoles.{declared_in}
 use Rattle.mu_names.proofs.LeastLemmas.{noted_seven}
 use Rattle.mu_names.proofs.NestedFaults.{named}
 use Rattle.mu_names.proofs.TableLemmas.{empty_table, length-all_valued}

@@ -1,5 +1,4 @@
-use Rattle.std.proofs.Common.{◌≡◌, drop}
-use Rattle.mu_names.specs.DeclaredRoles.{is_among}
+use Rattle.mu_names.proofs.Common.{◌≡◌, drop, is_among}
 use Rattle.mu_names.proofs.name_checks.is_among_loop_names.Given as goal
 
 abbrev pub invariant-loop-other : goal.invariant-loop-other

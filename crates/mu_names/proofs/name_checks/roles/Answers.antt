@@ -1,6 +1,4 @@
-use Rattle.std.proofs.Common.{◌∙◌, sym}
-use Rattle.mu_tree.specs.ModelTree.{model}
-use Rattle.mu_names.specs.Roles.{model_faults}
+use Rattle.mu_names.proofs.Common.{◌∙◌, model, model_faults, sym}
 use Rattle.mu_names.proofs.LeastLaws.{none_left, refusal}
 use Rattle.mu_names.proofs.name_checks.roles.Goals as goal
 

@@ -1,9 +1,6 @@
-use Rattle.std.proofs.Common.{◌∙◌, sym, ap, refl}
-use Rattle.std.specs.Prelude.{Some, is_some}
-use Rattle.std.proofs.Math.Path.{fun_ext}
+use Rattle.mu_names.proofs.Common.{◌∙◌, entry_at, fun_ext, Some, sym}
 use Rattle.std.proofs.lemmas.Map.Text.{btree_map_updates_str}
-use Rattle.mu_names.specs.NameTables.{entry_at}
-use Rattle.mu_names.proofs.TableLemmas.{update_added, added_kept}
+use Rattle.mu_names.proofs.TableLemmas.{update_added}
 use Rattle.mu_names.proofs.name_table.add.Goals as goal
 
 pub returns-in_ok-insert-in-None : goal.returns-in_ok-insert-in-None

@@ -1,10 +1,8 @@
 -- The curve does not decrease up to its maximum, and from there its negation does not.
-use Rattle.std.proofs.Common.{◌≡◌, neg_ℤ}
-use Rattle.std.proofs.lemmas.Int.{to_z-of_z}
-use Rattle.std.specs.Int.RustNames.{FitsSigned}
-use Rattle.mu_num.proofs.CurveLaws.{rises_before, falls_after, falls_opposite, left_rising, left_falling, turn_below}
+use Rattle.mu_num.proofs.Common.{◌≡◌, FitsSigned, neg_ℤ, to_z-of_z, w128}
+use Rattle.mu_num.proofs.CurveLaws.{rises_before, falls_after, falls_opposite, left_rising}
+use Rattle.mu_num.proofs.CurveLaws.{left_falling, turn_below}
 use Rattle.mu_num.proofs.curves.find_curve_leaving_step.Goals as goal
-use mir.Syntax.{w128}
 
 pub find_rising_curve_step-requires-clause-rises : goal.find_rising_curve_step-requires-clause-rises
 find_rising_curve_step-requires-clause-rises c =

@@ -1,12 +1,9 @@
 -- A curve that does not decrease reaches a bound up to a step if and only if it has it there.
-use Rattle.std.proofs.Common.{◌≡◌, ◌<ℤ◌, sym, subst, arith}
-use Rattle.std.proofs.lemmas.Int.{to_z-of_z}
-use Rattle.std.specs.Int.RustNames.{FitsSigned}
+use Rattle.mu_num.proofs.Common
+use Common.{◌<ℤ◌, ◌≡◌, arith, curve_at, FitsSigned, subst, sym, to_z-of_z, w128}
 use Rattle.mu_num.proofs.Tests.{int_lt-true}
-use Rattle.mu_num.specs.Curves.{curve_at}
 use Rattle.mu_num.proofs.CurveLaws.{below_both, rises_to}
 use Rattle.mu_num.proofs.curves.find_rising_curve_step.Goals as goal
-use mir.Syntax.{w128}
 
 pub returns-then-low-high : goal.returns-then-low-high
 returns-then-low-high c m after within =

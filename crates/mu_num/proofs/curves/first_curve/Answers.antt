@@ -1,9 +1,7 @@
 -- A curve leaves where its opposite does.
-use Rattle.std.proofs.lemmas.Int.{to_z-of_z}
-use Rattle.std.specs.Int.RustNames.{FitsSigned}
+use Rattle.mu_num.proofs.Common.{FitsSigned, to_z-of_z, w128}
 use Rattle.mu_num.proofs.CurveLaws.{first_opposite}
 use Rattle.mu_num.proofs.curves.first_curve.Goals as goal
-use mir.Syntax.{w128}
 
 pub returns-then-b-lt0 : goal.returns-then-b-lt0
 returns-then-b-lt0 c =

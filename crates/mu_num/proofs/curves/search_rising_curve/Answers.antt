@@ -1,6 +1,5 @@
 -- Before the place that is left the curve is below its value there.
-use Rattle.std.proofs.Common.{◌≤◌, arith}
-use Rattle.std.proofs.lemmas.Int.{to_z-of_z}
+use Rattle.mu_num.proofs.Common.{◌≤◌, arith, to_z-of_z}
 use Rattle.mu_num.proofs.CurveLaws.{below_both, rises_to}
 use Rattle.mu_num.proofs.curves.search_rising_curve.Goals as goal
 

@@ -1,5 +1,4 @@
-use Rattle.std.proofs.Common.{◌-◌, ◌<◌, ◌≤◌, ◌<ℤ◌, ◌≤ℤ◌}
-use Rattle.mu_num.specs.Curves.{curve_at}
+use Rattle.mu_num.proofs.Common.{◌-◌, ◌<ℤ◌, ◌<◌, ◌≤ℤ◌, ◌≤◌, curve_at}
 use Rattle.mu_num.proofs.curves.search_rising_curve.Given as goal
 
 abbrev pub invariant-loop-above : goal.invariant-loop-above

@@ -1,10 +1,7 @@
 -- The inequalities allow one number.
-use Rattle.std.proofs.lemmas.Int.{to_z-of_z}
-use Rattle.std.specs.Int.RustNames.{FitsSigned}
-use Rattle.mu_num.specs.Rounding.{IsCeiling, ceiling_of}
+use Rattle.mu_num.proofs.Common.{ceiling_of, FitsSigned, IsCeiling, to_z-of_z, w128}
 use Rattle.mu_num.proofs.Quotients.{ceiling_meets, ceiling_only}
 use Rattle.mu_num.proofs.division.ceil_div.Goals as goal
-use mir.Syntax.{w128}
 
 pub returns : goal.returns
 returns c =

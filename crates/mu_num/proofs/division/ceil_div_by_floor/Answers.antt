@@ -1,13 +1,10 @@
 -- The quotient rounded down, or one more where there is a rest.
-use Rattle.std.proofs.Common.{◌≡◌, pos, ◌+ℤ◌, ◌<ℤ◌, ◌≤ℤ◌, arith}
-use Rattle.std.proofs.lemmas.Int.{ints, to_z-of_z}
-use Rattle.std.specs.Int.{int_rem_euclid}
-use Rattle.std.specs.Int.RustNames.{FitsSigned}
-use Rattle.mu_num.specs.Rounding.{floor_of}
+use Rattle.mu_num.proofs.Common
+use Common.{◌+ℤ◌, ◌<ℤ◌, ◌≡◌, ◌≤ℤ◌, arith, FitsSigned, floor_of, int_rem_euclid, ints, pos}
+use Common.{to_z-of_z, w128}
 use Rattle.mu_num.proofs.NearestCases.{next_fits}
 use Rattle.mu_num.proofs.Quotients.{rest_is, ceiling_exact, ceiling_next}
 use Rattle.mu_num.proofs.division.ceil_div_by_floor.Goals as goal
-use mir.Syntax.{w128}
 
 pub returns-then-floor_div_remainder-eq0 : goal.returns-then-floor_div_remainder-eq0
 returns-then-floor_div_remainder-eq0 c =

@@ -1,11 +1,9 @@
 -- What the bits of a number leave.
-use Rattle.std.proofs.Common.{◌≡◌, ◌*◌, ◌%◌, ◌^◌, ◌<◌, ◌<ℤ◌, pos, ◌∙◌, ap, arith}
-use Rattle.std.proofs.lemmas.Int.{ints, to_z-of_z}
-use Rattle.std.proofs.lemmas.Nat.{pow_below, pow_pos}
+use Rattle.mu_num.proofs.Common
+use Common.{◌%◌, ◌*◌, ◌<ℤ◌, ◌<◌, ◌^◌, ◌∙◌, ◌≡◌, ap, arith, ints, of_z, pos, pow_below, pow_pos}
+use Common.{to_z-of_z, w128}
 use Rattle.mu_num.proofs.Quotients.{low_is, rem_is}
 use Rattle.mu_num.proofs.division.division_shift_remainder.Goals as goal
-use mir.Syntax.{w128}
-use mir.Val.{of_z}
 
 pub returns-clause-value : goal.returns-clause-value
 returns-clause-value c =

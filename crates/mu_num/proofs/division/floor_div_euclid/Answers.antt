@@ -1,11 +1,7 @@
 -- The library's quotient is the number of the definition, which satisfies the inequalities.
-use Rattle.std.proofs.Common.{sym, ◌∙◌, subst}
-use Rattle.std.proofs.lemmas.Int.{to_z-of_z}
-use Rattle.std.specs.Int.RustNames.{FitsSigned}
-use Rattle.mu_num.specs.Rounding.{IsFloor}
+use Rattle.mu_num.proofs.Common.{◌∙◌, FitsSigned, IsFloor, subst, sym, to_z-of_z, w128}
 use Rattle.mu_num.proofs.Quotients.{floor_meets}
 use Rattle.mu_num.proofs.division.floor_div_euclid.Goals as goal
-use mir.Syntax.{w128}
 
 pub returns-clause-floor : goal.returns-clause-floor
 returns-clause-floor c =

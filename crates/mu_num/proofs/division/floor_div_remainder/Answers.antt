@@ -1,11 +1,11 @@
 -- What the type's bits keep of the difference is all of it.
-use Rattle.std.proofs.Common.{◌*◌, ◌%◌, ◌^◌, ◌-ℤ◌, ◌*ℤ◌, ◌∙◌, ap₂, arith}
-use Rattle.std.proofs.lemmas.Nat.{mod_below}
-use Rattle.std.proofs.lemmas.Int.{ints, to_z-of_z, wrapping_sub-bits, wrapping_mul_is, int_wrap-sub_right, int_wrap_fits}
-use Rattle.std.specs.Int.RustNames.{FitsSigned}
+use Rattle.mu_num.proofs.Common
+use Common.{◌%◌, ◌*ℤ◌, ◌*◌, ◌-ℤ◌, ◌^◌, ◌∙◌, arith, FitsSigned, ints, mod_below, to_z-of_z, w128}
+use Rattle.std.proofs.Common.{ap₂}
+use Rattle.std.proofs.lemmas.Int.{wrapping_sub-bits, wrapping_mul_is, int_wrap-sub_right}
+use Rattle.std.proofs.lemmas.Int.{int_wrap_fits}
 use Rattle.std.specs.Int.{int_wrap, cast_unsigned}
 use Rattle.mu_num.proofs.division.floor_div_remainder.Goals as goal
-use mir.Syntax.{w128}
 
 pub returns-clause-value : goal.returns-clause-value
 returns-clause-value c =

@@ -1,9 +1,6 @@
 -- The power of two is the divisor.
-use Rattle.std.proofs.Common.{◌≡◌, ◌^◌, pos}
-use Rattle.std.proofs.lemmas.Int.{to_z-of_z}
-use Rattle.std.specs.Int.RustNames.{FitsSigned}
+use Rattle.mu_num.proofs.Common.{◌^◌, ◌≡◌, FitsSigned, pos, to_z-of_z, w128}
 use Rattle.mu_num.proofs.division.near_div_by_cases.Goals as goal
-use mir.Syntax.{w128}
 
 pub returns-in-Some : goal.returns-in-Some
 returns-in-Some c =

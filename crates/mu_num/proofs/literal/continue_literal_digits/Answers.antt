@@ -1,4 +1,4 @@
-use Rattle.std.proofs.Common.{◌∙◌, sym}
+use Rattle.mu_num.proofs.Common.{◌∙◌, sym}
 use Rattle.mu_num.proofs.Reading.{continued_number}
 use Rattle.mu_num.proofs.literal.continue_literal_digits.Goals as goal
 

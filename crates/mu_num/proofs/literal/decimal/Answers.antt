@@ -1,8 +1,8 @@
-use Rattle.std.proofs.Common.{◌∙◌, ◌<◌, ◌≤◌, ◌+◌, ◌^◌, sym, ap, rules, arith, min, length, take, length-take, length-drop}
+use Rattle.mu_num.proofs.Common
+use Common.{◌+◌, ◌<◌, ◌^◌, ◌∙◌, ◌≤◌, ap, arith, count_by, is_digit, is_minus, length, list_any, min}
+use Common.{number_of, rules, sym, take}
+use Rattle.std.proofs.Common.{length-take, length-drop}
 use Rattle.std.proofs.lemmas.List.Sums.{count_by-le-length}
-use Rattle.std.specs.Prelude.{count_by}
-use Rattle.std.specs.List.{list_any}
-use Rattle.mu_num.specs.Decimal.{is_digit, is_minus, number_of}
 use Rattle.mu_num.proofs.Decimals.{value_read_is}
 use Rattle.mu_num.proofs.Tokens.{IsRead, decimal_down, decimal_up}
 use Rattle.mu_num.proofs.literal.decimal.Goals as goal

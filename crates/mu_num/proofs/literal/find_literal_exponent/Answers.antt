@@ -1,6 +1,4 @@
-use Rattle.std.proofs.Common.{◌∙◌, sym, arith, length}
-use Rattle.std.proofs.lemmas.List.Sums.{position_or_len_is}
-use Rattle.mu_num.specs.Decimal.{is_exponent_mark}
+use Rattle.mu_num.proofs.Common.{◌∙◌, arith, is_exponent_mark, length, position_or_len_is, sym}
 use Rattle.mu_num.proofs.literal.find_literal_exponent.Goals as goal
 
 pub returns-then-is_literal_exponent_mark-clause-place : goal.returns-then-is_literal_exponent_mark-clause-place

@@ -1,6 +1,4 @@
-use Rattle.std.proofs.Common.{◌≡◌, ℕ, ◌<◌, get_or}
-use Rattle.std.specs.Prelude.{false}
-use Rattle.mu_num.specs.Decimal.{is_exponent_mark}
+use Rattle.mu_num.proofs.Common.{ℕ, ◌<◌, ◌≡◌, false, get_or, is_exponent_mark}
 use Rattle.mu_num.proofs.literal.find_literal_exponent.Given as goal
 
 abbrev pub invariant-loop-place : goal.invariant-loop-place

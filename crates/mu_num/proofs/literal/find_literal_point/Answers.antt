@@ -1,6 +1,4 @@
-use Rattle.std.proofs.Common.{sym, arith, length, eq-eqb}
-use Rattle.std.proofs.lemmas.List.Sums.{position_or_len_is}
-use Rattle.mu_num.specs.Decimal.{is_point}
+use Rattle.mu_num.proofs.Common.{arith, eq-eqb, is_point, length, position_or_len_is, sym}
 use Rattle.mu_num.proofs.literal.find_literal_point.Goals as goal
 
 pub returns-then-text-place-eq46-clause-place : goal.returns-then-text-place-eq46-clause-place

@@ -1,5 +1,4 @@
-use Rattle.std.proofs.Common.{get_or, take, arith}
-use Rattle.mu_num.specs.Significand.{Significand, significand}
+use Rattle.mu_num.proofs.Common.{arith, get_or, Significand, significand, take}
 use Rattle.mu_num.proofs.Reading.{significand-push, taken_more, digits_step}
 use Rattle.mu_num.proofs.literal.read_literal_digits.Goals as goal
 

@@ -1,5 +1,4 @@
-use Rattle.std.proofs.Common.{◌≡◌, ◌≤◌, ◌^◌, min, take}
-use Rattle.mu_num.specs.Significand.{significand}
+use Rattle.mu_num.proofs.Common.{◌^◌, ◌≡◌, ◌≤◌, min, significand, take}
 use Rattle.mu_num.proofs.literal.read_literal_digits.Given as goal
 
 abbrev pub invariant-loop-byte : goal.invariant-loop-byte

@@ -1,5 +1,4 @@
-use Rattle.std.proofs.Common.{◌∙◌, ◌^◌, ap, min, get_or, take}
-use Rattle.mu_num.specs.Decimal.{digit_after, number_of}
+use Rattle.mu_num.proofs.Common.{◌^◌, ◌∙◌, ap, digit_after, get_or, min, number_of, take}
 use Rattle.mu_num.proofs.Reading.{number_of-push, taken_more, cut_digit}
 use Rattle.mu_num.proofs.literal.read_literal_number.Goals as goal
 

@@ -1,5 +1,4 @@
-use Rattle.std.proofs.Common.{◌≡◌, ◌^◌, min, take}
-use Rattle.mu_num.specs.Decimal.{number_of}
+use Rattle.mu_num.proofs.Common.{◌^◌, ◌≡◌, min, number_of, take}
 use Rattle.mu_num.proofs.literal.read_literal_number.Given as goal
 
 abbrev pub invariant-loop-byte : goal.invariant-loop-byte

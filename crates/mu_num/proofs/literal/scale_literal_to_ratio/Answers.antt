@@ -1,9 +1,10 @@
-use Rattle.std.proofs.Common.{◌≡◌, ◌∙◌, ◌<◌, ◌-◌, sym, ap, arith, inl, inr, pos, to_z}
+use Rattle.mu_num.proofs.Common.{◌-◌, ◌<◌, ◌∙◌, ◌≡◌, ap, arith, checked, inl, inr, pos, sym, to_z}
 use Rattle.std.specs.Int.{w128}
 use Rattle.std.proofs.lemmas.Int.{to_z_pos}
-use Rattle.mu_num.specs.Fraction.{checked}
-use Rattle.mu_num.proofs.Reading.{scaled_zero, scaled_up, scaled_up_out, scaled_down, scaled_down_out, power_down_pos}
-use Rattle.mu_num.proofs.literal.scale_literal_to_ratio.Goals.{then-number-gt-SMALL-via-then-number-gt-SMALL, then-number-gt-SMALL-via-else-number-gt-SMALL+then-down-up-gt18}
+use Rattle.mu_num.proofs.Reading.{scaled_zero, scaled_up, scaled_up_out, scaled_down}
+use Rattle.mu_num.proofs.Reading.{scaled_down_out, power_down_pos}
+use Rattle.mu_num.proofs.literal.scale_literal_to_ratio.Goals.{then-number-gt-SMALL-via-then-number-gt-SMALL}
+use Rattle.mu_num.proofs.literal.scale_literal_to_ratio.Goals.{then-number-gt-SMALL-via-else-number-gt-SMALL+then-down-up-gt18}
 use Rattle.mu_num.proofs.literal.scale_literal_to_ratio.Goals as goal
 
 pub returns-then-number-eq0 : goal.returns-then-number-eq0

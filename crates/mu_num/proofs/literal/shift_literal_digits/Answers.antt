@@ -1,4 +1,4 @@
-use Rattle.std.proofs.Common.{◌≡◌, ◌∙◌, ◌^◌, ◌*◌, ap, min, arith}
+use Rattle.mu_num.proofs.Common.{◌*◌, ◌^◌, ◌∙◌, ◌≡◌, ap, arith, min}
 use Rattle.mu_num.proofs.Reading.{power_more, raised_enough}
 use Rattle.mu_num.proofs.literal.shift_literal_digits.Goals as goal
 

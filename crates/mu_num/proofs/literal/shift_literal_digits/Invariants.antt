@@ -1,4 +1,4 @@
-use Rattle.std.proofs.Common.{◌≡◌, ◌*◌, ◌^◌, min}
+use Rattle.mu_num.proofs.Common.{◌*◌, ◌^◌, ◌≡◌, min}
 use Rattle.mu_num.proofs.literal.shift_literal_digits.Given as goal
 
 abbrev pub invariant-loop : goal.invariant-loop

@@ -1,4 +1,5 @@
-use Rattle.mu_num.proofs.Quotients.{floor_meets, ceiling_meets, nearest_meets, floor_only, ceiling_only, nearest_only}
+use Rattle.mu_num.proofs.Quotients.{floor_meets, ceiling_meets, nearest_meets, floor_only}
+use Rattle.mu_num.proofs.Quotients.{ceiling_only, nearest_only}
 use Rattle.mu_num.proofs.number_laws.quotients_are_right.Goals as goal
 
 pub returns : goal.returns

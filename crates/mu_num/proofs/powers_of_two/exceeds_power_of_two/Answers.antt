@@ -1,10 +1,8 @@
 -- A number passes where it is above the greatest that is within, or below the least.
-use Rattle.std.proofs.Common.{◌^◌, pos, ◌<ℤ◌, ◌≤ℤ◌, sym, ◌∙◌, arith}
-use Rattle.std.proofs.lemmas.Int.{ints, to_z-of_z}
-use Rattle.std.specs.Int.RustNames.{FitsSigned}
+use Rattle.mu_num.proofs.Common
+use Common.{◌<ℤ◌, ◌^◌, ◌∙◌, ◌≤ℤ◌, arith, FitsSigned, ints, pos, sym, to_z-of_z, w128}
 use Rattle.mu_num.proofs.SizeTests.{above-passes, below-passes}
 use Rattle.mu_num.proofs.powers_of_two.exceeds_power_of_two.Goals as goal
-use mir.Syntax.{w128}
 
 pub returns-then-z-most : goal.returns-then-z-most
 returns-then-z-most c =

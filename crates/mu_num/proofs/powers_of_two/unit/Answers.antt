@@ -1,6 +1,4 @@
-use Rattle.std.proofs.Common.{◌^◌, ◌<◌, arith}
-use Rattle.std.proofs.lemmas.Int.{ints}
-use Rattle.std.proofs.lemmas.Nat.{pow_below}
+use Rattle.mu_num.proofs.Common.{◌<◌, ◌^◌, arith, ints, pow_below}
 use Rattle.mu_num.proofs.powers_of_two.unit.Goals as goal
 
 pub returns : goal.returns

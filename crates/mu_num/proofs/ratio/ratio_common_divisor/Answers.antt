@@ -1,6 +1,5 @@
-use Rattle.std.proofs.lemmas.Nat.Gcd.{IsGcd-from_mod, IsGcd-from_zero}
-use Rattle.std.proofs.Math.Nat.{pos_of_dvd_of_pos, le_of_dvd}
-use Rattle.std.specs.Int.{IsGcd}
+use Rattle.mu_num.proofs.Common
+use Common.{IsGcd, IsGcd-from_mod, IsGcd-from_zero, le_of_dvd, pos_of_dvd_of_pos}
 use Rattle.mu_num.proofs.ratio.ratio_common_divisor.Goals as goal
 
 pub loop-y-preserved : goal.loop-y-preserved

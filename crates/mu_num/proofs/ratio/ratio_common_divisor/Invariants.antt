@@ -1,5 +1,4 @@
-use Rattle.std.proofs.Common.{ℕ}
-use Rattle.std.specs.Int.{IsGcd}
+use Rattle.mu_num.proofs.Common.{ℕ, IsGcd}
 use Rattle.mu_num.proofs.ratio.ratio_common_divisor.Given as goal
 
 abbrev pub invariant-loop-y : goal.invariant-loop-y

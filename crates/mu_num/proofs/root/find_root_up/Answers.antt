@@ -1,5 +1,4 @@
-use Rattle.std.proofs.Common.{arith, ◌≤◌, ◌+◌, ◌/◌, ◌-◌}
-use Rattle.std.proofs.lemmas.Nat.{mul-le}
+use Rattle.mu_num.proofs.Common.{◌+◌, ◌-◌, ◌/◌, ◌≤◌, arith, mul-le}
 use Rattle.mu_num.proofs.root.find_root_up.Goals as goal
 
 pub loop-low-preserved : goal.loop-low-preserved

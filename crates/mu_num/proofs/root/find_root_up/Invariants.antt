@@ -1,4 +1,4 @@
-use Rattle.std.proofs.Common.{ℕ, ◌*◌, ◌-◌, ◌<◌, ◌≤◌, ◌^◌}
+use Rattle.mu_num.proofs.Common.{ℕ, ◌*◌, ◌-◌, ◌<◌, ◌^◌, ◌≤◌}
 use Rattle.mu_num.proofs.root.find_root_up.Given as goal
 
 abbrev pub invariant-loop-low : goal.invariant-loop-low

@@ -1,6 +1,5 @@
 -- What does not rise passes no distance that it does not pass at once.
-use Rattle.std.proofs.Common.{arith}
-use Rattle.std.proofs.lemmas.Int.{ints}
+use Rattle.mu_num.proofs.Common.{arith, ints}
 use Rattle.mu_num.proofs.TickLaws.{never_past}
 use Rattle.mu_num.proofs.ticks.later_tick_beyond.Goals as goal
 

@@ -1,9 +1,7 @@
-use Rattle.std.proofs.Common.{◌≡◌, ap, sym, ◌∙◌}
+use Rattle.mu_parser.proofs.Common
+use Common.{◌∙◌, ◌≡◌, advances, ap, effect_of, if_ok_map, place_of, sym, symbol_view}
 use Rattle.mu_grammar.specs.DeclarationMachine.{begin_item, begin_first_item}
-use Rattle.mu_grammar.specs.ReaderMachines.{advances}
-use Rattle.mu_grammar.specs.SymbolViews.{symbol_view}
-use Rattle.mu_grammar.proofs.Follows.{if_ok_map, closes_first, item_first}
-use Rattle.mu_parser.specs.SectionViews.{place_of, effect_of}
+use Rattle.mu_grammar.proofs.Follows.{closes_first, item_first}
 use Rattle.mu_parser.proofs.annotation_item.begin_first_item.Goals as goal
 
 pub returns-then-closes : goal.returns-then-closes

@@ -1,6 +1,5 @@
-use Rattle.std.proofs.Common.{◌+◌, ◌∙◌, ap, sym}
+use Rattle.mu_parser.proofs.Common.{◌+◌, ◌∙◌, ap, place_of, sym}
 use Rattle.mu_grammar.specs.States.{place_level}
-use Rattle.mu_parser.specs.SectionViews.{place_of}
 use Rattle.mu_grammar.proofs.Levels.{levels_reversed}
 use Rattle.mu_parser.proofs.annotation_item.skipped_item_level.Goals as goal
 

@@ -1,7 +1,5 @@
-use Rattle.std.proofs.Common.{◌+◌, ◌∙◌, ap, sym}
+use Rattle.mu_parser.proofs.Common.{◌+◌, ◌∙◌, ap, frames_of, position_of, sym}
 use Rattle.mu_grammar.specs.States.{outside}
-use Rattle.mu_grammar.specs.SumMachine.{depth_at}
-use Rattle.mu_parser.specs.ExpressionViews.{position_of, frames_of}
 use Rattle.mu_parser.specs.SectionViews.{waiting_of}
 use Rattle.mu_grammar.proofs.Levels.{depth_at_add}
 use Rattle.mu_parser.proofs.awaited_expression.awaited_level_in.Goals as goal

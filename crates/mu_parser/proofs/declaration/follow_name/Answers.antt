@@ -1,8 +1,7 @@
-use Rattle.std.proofs.Common.{◌≡◌, sym, ◌∙◌}
+use Rattle.mu_parser.proofs.Common.{◌∙◌, ◌≡◌, effect_of, if_ok_map, sym, symbol_view}
 use Rattle.mu_grammar.specs.DeclarationMachine.{follow_name, follow_size}
-use Rattle.mu_grammar.specs.SymbolViews.{symbol_view}
-use Rattle.mu_grammar.proofs.Follows.{if_ok_map, no_size}
-use Rattle.mu_parser.specs.SectionViews.{component_of, effect_of}
+use Rattle.mu_grammar.proofs.Follows.{no_size}
+use Rattle.mu_parser.specs.SectionViews.{component_of}
 use Rattle.mu_parser.proofs.declaration.follow_name.Goals as goal
 
 pub returns : goal.returns

@@ -1,4 +1,4 @@
-use Rattle.std.proofs.Common.{◌∙◌, ap}
+use Rattle.mu_parser.proofs.Common.{◌∙◌, ap}
 use Rattle.mu_grammar.specs.ReaderMachines.{allow}
 use Rattle.mu_parser.proofs.parser.advance_parse.Goals as goal
 

@@ -1,11 +1,9 @@
-use Rattle.std.proofs.Common.{◌+◌, sym, ◌∙◌, ap}
+use Rattle.mu_parser.proofs.Common.{◌+◌, ◌∙◌, ap, go, model_machine, state_of, sym}
 use Rattle.mu_tree.specs.declared.tree.Model.{Model}
 use Rattle.mu_tree.specs.ModelTree.{model}
-use Rattle.mu_grammar.specs.ReaderMachines.{go, done, step_on}
-use Rattle.mu_grammar.specs.ModelMachine.{model_machine}
+use Rattle.mu_grammar.specs.ReaderMachines.{done, step_on}
 use Rattle.mu_grammar.specs.ModelGrammar.{SpellsModel}
 use Rattle.mu_parser.specs.ModelViews.{next_of}
-use Rattle.mu_parser.specs.SectionViews.{state_of}
 use Rattle.mu_grammar.proofs.Reading.{advanced, wrong_here, deep_here, cut_here, finishes_here}
 use Rattle.mu_grammar.proofs.ModelDecides.{model_decides}
 use Rattle.mu_parser.proofs.parser.parse.Goals as goal

@@ -1,7 +1,5 @@
-use Rattle.std.proofs.Common.{◌≡◌, take}
-use Rattle.mu_grammar.specs.ReaderMachines.{after, go}
-use Rattle.mu_grammar.specs.ModelMachine.{model_machine}
-use Rattle.mu_parser.specs.SectionViews.{state_of}
+use Rattle.mu_parser.proofs.Common.{◌≡◌, go, model_machine, state_of, take}
+use Rattle.mu_grammar.specs.ReaderMachines.{after}
 use Rattle.mu_grammar.specs.Symbols.{symbols}
 use Rattle.mu_parser.proofs.parser.parse.Given as goal
 

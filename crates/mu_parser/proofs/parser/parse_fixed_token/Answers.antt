@@ -1,5 +1,4 @@
-use Rattle.std.proofs.Common.{◌∙◌, ap, sym}
-use Rattle.mu_grammar.specs.ReaderMachines.{advances}
+use Rattle.mu_parser.proofs.Common.{◌∙◌, advances, ap, sym}
 use Rattle.mu_grammar.specs.ModelMachine.{meets}
 use Rattle.mu_parser.specs.SectionViews.{then_of}
 use Rattle.mu_parser.proofs.parser.parse_fixed_token.Goals as goal

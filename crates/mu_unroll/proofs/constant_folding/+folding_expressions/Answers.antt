@@ -1,4 +1,4 @@
-use Rattle.mu_unroll.specs.VariableTables.{meant_at}
+use Rattle.mu_unroll.proofs.Common.{meant_at}
 use Rattle.mu_unroll.proofs.FoldedParts.{factors_pushed, terms_pushed}
 use Rattle.mu_unroll.proofs.constant_folding.+folding_expressions.Goals as goal
 

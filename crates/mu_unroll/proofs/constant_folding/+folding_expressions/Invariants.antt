@@ -1,7 +1,5 @@
-use Rattle.std.proofs.Common.{map, take}
-use Rattle.mu_tree.specs.Expression.{signed, scaled, terms_of, factors_of}
-use Rattle.mu_unroll.specs.ConstantFolding.{IsSameFactors, IsSameTerms}
-use Rattle.mu_unroll.specs.VariableTables.{meant_at}
+use Rattle.mu_unroll.proofs.Common
+use Common.{factors_of, IsSameFactors, IsSameTerms, map, meant_at, scaled, signed, take, terms_of}
 use Rattle.mu_unroll.proofs.constant_folding.+folding_expressions.Given as goal
 
 -- the copies so far have the same flat parts as their originals

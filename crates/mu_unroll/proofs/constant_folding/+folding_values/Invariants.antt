@@ -1,6 +1,4 @@
-use Rattle.std.proofs.Common.{map, drop}
-use Rattle.mu_tree.specs.Expression.{signed, scaled, terms_of, factors_of}
-use Rattle.mu_unroll.specs.VariableTables.{meant_at}
+use Rattle.mu_unroll.proofs.Common.{drop, factors_of, map, meant_at, scaled, signed, terms_of}
 use Rattle.mu_unroll.proofs.Folding.{IsPartialProduct, IsPartialSum}
 use Rattle.mu_unroll.proofs.constant_folding.+folding_values.Given as goal
 

@@ -1,5 +1,4 @@
-use Rattle.std.proofs.Common.{◌≡◌, drop}
-use Rattle.mu_unroll.specs.VariablePlaces.{loop_value}
+use Rattle.mu_unroll.proofs.Common.{◌≡◌, drop, loop_value}
 use Rattle.mu_unroll.proofs.environment.environment_loop_value.Given as goal
 
 abbrev pub invariant-loop-one : goal.invariant-loop-one

@@ -1,5 +1,4 @@
-use Rattle.std.proofs.Common.{◌≡◌, ◌≤◌, ◌+◌, min, drop}
-use Rattle.mu_unroll.specs.VariablePlaces.{count_of_kind}
+use Rattle.mu_unroll.proofs.Common.{◌+◌, ◌≡◌, ◌≤◌, count_of_kind, drop, min}
 use Rattle.mu_unroll.proofs.flat_variables.count_scalar_variables.Given as goal
 
 -- the count so far and that of what is left are all

@@ -1,15 +1,8 @@
-use Rattle.std.proofs.Common.{◌≡◌, ◌∙◌, ◌+◌, ◌≤◌, ◌<◌, ◌++◌, ◌∷◌, [], List, ℕ, length, take, ap}
-use Rattle.std.proofs.Common.{sym, subst, arith}
-use Rattle.std.specs.Prelude.{Option, unwrap_or}
+use Rattle.mu_unroll.proofs.Common
+use Common.{[], ℕ, ◌++◌, ◌+◌, ◌∙◌, ◌∷◌, ◌≡◌, ◌≤◌, added_at, ap, ArePlaced, arith, count_of_kind}
+use Common.{first_meant, List, NameDenotation, next_number, Nothing, Option, subst, sym, take}
+use Common.{unwrap_or}
 use Rattle.std.proofs.lemmas.List.{take_all}
-use Rattle.mu_names.specs.declared.declared_scope.Known.{Known}
-use Rattle.mu_names.specs.NameTables.{added_at}
-use Rattle.mu_unroll.specs.declared.environment.NameDenotation.{NameDenotation}
-use Rattle.mu_unroll.specs.declared.environment.NameDenotation.TheVariants.{Nothing}
-use Rattle.mu_unroll.specs.Nexts.{next_number}
-use Rattle.mu_unroll.specs.VariablePlaces.{ArePlaced, count_of_kind, first_meant, first_of_kind}
-use Rattle.mu_unroll.specs.VariablePlaces.{meant_after}
-use Rattle.mu_unroll.specs.Unrolling.{declared_in}
 use Rattle.mu_unroll.proofs.Placing.{after_is, all_placed, count-append, count-one, count-take}
 use Rattle.mu_unroll.proofs.Placing.{meant-push, meant_is, taken_more, width_of, within_all}
 use Rattle.mu_unroll.proofs.flat_variables.list_denotations.Goals as goal

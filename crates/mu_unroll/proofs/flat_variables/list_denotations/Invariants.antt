@@ -1,8 +1,6 @@
-use Rattle.std.proofs.Common.{◌≡◌, ◌+◌, [], take}
-use Rattle.mu_tree.specs.declared.flat.FlatRole.{FlatRole}
+use Rattle.mu_unroll.proofs.Common
+use Common.{[], ◌+◌, ◌≡◌, count_of_kind, first_meant, first_of_kind, FlatRole, next_number, take}
 use Rattle.mu_names.specs.NameTables.{entry_at}
-use Rattle.mu_unroll.specs.Nexts.{next_number}
-use Rattle.mu_unroll.specs.VariablePlaces.{count_of_kind, first_meant, first_of_kind}
 use Rattle.mu_unroll.proofs.flat_variables.list_denotations.Given as goal
 
 -- the table has the names so far, and the next numbers are those after them

@@ -1,8 +1,6 @@
-use Rattle.std.proofs.Common.{◌≡◌, ◌∙◌, ◌+◌, ◌-◌, ◌++◌, ◌∷◌, [], List, map, ap, sym, append_assoc}
-use Rattle.std.proofs.lemmas.List.{map-append}
-use Rattle.mu_tree.specs.declared.flat.FlatVar.{FlatVar}
-use Rattle.mu_tree.specs.FlatExpression.{flat_variable, FlatVariable}
-use Rattle.mu_unroll.specs.VariablePlaces.{elements_from, scalar, element_name}
+use Rattle.mu_unroll.proofs.Common
+use Common.{[], ◌++◌, ◌+◌, ◌-◌, ◌∙◌, ◌∷◌, ◌≡◌, ap, append_assoc, element_name, elements_from}
+use Common.{flat_variable, FlatVar, map, map-append, scalar, sym}
 use Rattle.mu_unroll.proofs.Placing.{elements_step}
 use Rattle.mu_unroll.proofs.flat_variables.push_element_variables.Goals as goal
 

@@ -1,6 +1,4 @@
-use Rattle.std.proofs.Common.{◌≡◌, ◌+◌, ◌-◌, ◌++◌, map}
-use Rattle.mu_tree.specs.FlatExpression.{flat_variable}
-use Rattle.mu_unroll.specs.VariablePlaces.{elements_from}
+use Rattle.mu_unroll.proofs.Common.{◌++◌, ◌+◌, ◌-◌, ◌≡◌, elements_from, flat_variable, map}
 use Rattle.mu_unroll.proofs.flat_variables.push_element_variables.Given as goal
 
 -- the elements so far and those that are left are all

@@ -1,6 +1,4 @@
-use Rattle.std.proofs.Common.{◌≡◌, ◌++◌, map, drop}
-use Rattle.mu_tree.specs.FlatExpression.{flat_variable}
-use Rattle.mu_unroll.specs.VariablePlaces.{scalars_of_kind}
+use Rattle.mu_unroll.proofs.Common.{◌++◌, ◌≡◌, drop, flat_variable, map, scalars_of_kind}
 use Rattle.mu_unroll.proofs.flat_variables.push_variables_of_kind.Given as goal
 
 -- the variables so far and those that are left are all

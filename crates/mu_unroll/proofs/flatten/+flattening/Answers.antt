@@ -1,17 +1,14 @@
-use Rattle.std.proofs.Common.{◌≡◌, ◌∙◌, ◌++◌, ◌+◌, ◌∷◌, [], List, Bool, ℕ, Ok, map, drop, ap, sym}
-use Rattle.std.proofs.lemmas.List.{map-append}
-use Rattle.mu_tree.specs.Expression.{signed, scaled, terms_of, factors_of}
+use Rattle.mu_unroll.proofs.Common
+use Common.{[], ℕ, ◌++◌, ◌+◌, ◌∙◌, ◌∷◌, ◌≡◌, ap, bind_result, Bool, denoted, drop, factors_of}
+use Common.{flat_expression, flat_scaled, flat_signed, FlatExpression, FlatScaled, FlatSigned}
+use Common.{flattened_factors, flattened_terms, List, map, map-append, Ok, scaled, signed, sym}
+use Common.{terms_of}
 use Rattle.mu_tree.specs.declared.flat.FlatExpr.{FlatExpr}
 use Rattle.mu_tree.specs.declared.flat.FlatTerm.{FlatTerm, roll-FlatTerm, fold-roll-FlatTerm}
 use Rattle.mu_tree.specs.declared.flat.FlatFactor.{FlatFactor, roll-FlatFactor}
 use Rattle.mu_tree.specs.declared.flat.FlatFactor.{fold-roll-FlatFactor}
-use Rattle.mu_tree.specs.FlatExpression.{FlatExpression, FlatScaled, FlatSigned, flat_expression}
-use Rattle.mu_tree.specs.FlatExpression.{flat_signed, flat_scaled, flat_expression_step}
-use Rattle.mu_tree.specs.FlatExpression.{flat_scaled_step, flat_signed_step}
+use Rattle.mu_tree.specs.FlatExpression.{flat_expression_step, flat_scaled_step, flat_signed_step}
 use Rattle.mu_names.proofs.Shapes.{terms_from, factors_from}
-use Rattle.mu_unroll.specs.ConstantValues.{bind_result}
-use Rattle.mu_unroll.specs.Flattening.{flattened_terms, flattened_factors}
-use Rattle.mu_unroll.specs.VariableTables.{denoted}
 use Rattle.mu_unroll.proofs.Prefixes.{prefixed, prefixed_more}
 use Rattle.mu_unroll.proofs.flatten.+flattening.Goals as goal
 

@@ -1,8 +1,6 @@
-use Rattle.std.proofs.Common.{◌≡◌, map, drop}
-use Rattle.mu_tree.specs.Expression.{signed, scaled, terms_of, factors_of}
-use Rattle.mu_tree.specs.FlatExpression.{flat_signed, flat_scaled}
-use Rattle.mu_unroll.specs.Flattening.{flattened_terms, flattened_factors}
-use Rattle.mu_unroll.specs.VariableTables.{denoted}
+use Rattle.mu_unroll.proofs.Common
+use Common.{◌≡◌, denoted, drop, factors_of, flat_scaled, flat_signed, flattened_factors}
+use Common.{flattened_terms, map, scaled, signed, terms_of}
 use Rattle.mu_unroll.proofs.Prefixes.{prefixed}
 use Rattle.mu_unroll.proofs.flatten.+flattening.Given as goal
 

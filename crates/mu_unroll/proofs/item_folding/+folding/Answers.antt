@@ -1,10 +1,6 @@
-use Rattle.std.proofs.Common.{◌∙◌, ap, arith, rules, sym}
-use Rattle.std.specs.Prelude.{is_some}
-use Rattle.mu_tree.specs.Expression.{expression}
-use Rattle.mu_tree.specs.Nests.{range_of}
-use Rattle.mu_tree.proofs.Nesting.{item_within, loop_size}
-use Rattle.mu_unroll.specs.VariablePlaces.{constant_of}
-use Rattle.mu_unroll.specs.VariableTables.{meant_at}
+use Rattle.mu_unroll.proofs.Common
+use Common.{◌∙◌, ap, arith, constant_of, expression, is_some, item_within, loop_size, meant_at}
+use Common.{range_of, rules, sym}
 use Rattle.mu_unroll.proofs.FoldedSteps.{items_pushed, loop_folded}
 use Rattle.mu_unroll.proofs.item_folding.+folding.Goals as goal
 

@@ -1,8 +1,5 @@
-use Rattle.std.proofs.Common.{◌+◌, ◌*◌, take}
-use Rattle.mu_tree.specs.Nests.{item_size, list_size}
-use Rattle.mu_unroll.specs.ConstantFolding.{IsSameStep}
-use Rattle.mu_unroll.specs.ListUnrolling.{in_order}
-use Rattle.mu_unroll.specs.VariableTables.{meant_at}
+use Rattle.mu_unroll.proofs.Common
+use Common.{◌*◌, ◌+◌, in_order, IsSameStep, item_size, list_size, meant_at, take}
 use Rattle.mu_unroll.proofs.item_folding.+folding.Given as goal
 
 abbrev pub decreases-fold_items : goal.decreases-fold_items

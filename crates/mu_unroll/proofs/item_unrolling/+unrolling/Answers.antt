@@ -1,13 +1,8 @@
-use Rattle.std.proofs.Common.{◌≡◌, ◌∙◌, ◌+◌, drop, ap, sym, subst, arith, rules}
+use Rattle.mu_unroll.proofs.Common
+use Common.{◌+◌, ◌^◌, ◌∙◌, ◌≤◌, ap, arith, drop, in_order, inside, item_within, loop_size}
+use Common.{progress_of, range_of, rules, subst, sym, unsigned_abs}
 use Rattle.std.specs.Int.{w128}
-use Rattle.std.specs.Prelude.{◌≤◌, ◌^◌, unsigned_abs, Ok, IfErr, IfOk}
 use Rattle.std.proofs.lemmas.Int.{to_z-of_z}
-use Rattle.mu_tree.specs.Nests.{range_of}
-use Rattle.mu_tree.proofs.Nesting.{item_within, loop_size}
-use Rattle.mu_unroll.specs.Environments.{progress_of}
-use Rattle.mu_unroll.specs.ListUnrolling.{in_order}
-use Rattle.mu_unroll.specs.UnrollFaults.{IsFault}
-use Rattle.mu_unroll.specs.Unrolling.{inside}
 use Rattle.mu_unroll.proofs.Rounding.{le_of, one_round}
 use Rattle.mu_unroll.proofs.Walks.{entry_small, fault_of, item_done, item_fault, items_begin}
 use Rattle.mu_unroll.proofs.Walks.{items_done, raised, round_done, round_refused, round_too_many}
@@ -25,9 +20,10 @@ unroll_items-unroll_item-requires g t c κs within =
     let d = c.decreases in
     let s =
     item_within g.T.Nest.tree g.T.Nest.item c.args.items.now c.loop-one.one-index c.one-item.result
-    c.loop-one-test.true c.one-item.is in
-    (search (rules, arith, d, s),
-    (within.0, (within.1, rw c.loop-one.invariant.names.declared c.requires.placed)))
+    c.loop-one-test.true c.one-item.is in (
+      search (rules, arith, d, s),
+      (within.0, (within.1, rw c.loop-one.invariant.names.declared c.requires.placed)),
+    )
 
 pub unroll_items-loop-one-preserved : goal.unroll_items-loop-one-preserved
 unroll_items-loop-one-preserved g t c =
@@ -111,10 +107,16 @@ unroll_item-unroll_items-requires g t c κs within =
     let d = c.decreases in
     let s =
     loop_size g.T.Nest.tree g.T.Nest.each g.T.Nest.item g.met.T.Nest.each_item c.args.one.now _
-    c.in-Each.body.now c.in-Each.ensures in
-    (search (rules, arith, d, s),
-    (within.0, (within.1,
-    rw (c.enter.ensures.declared, c.loop-range.invariant.names.declared) c.requires.placed)))
+    c.in-Each.body.now c.in-Each.ensures in (
+      search (rules, arith, d, s),
+      (
+        within.0,
+        (
+          within.1,
+          rw (c.enter.ensures.declared, c.loop-range.invariant.names.declared) c.requires.placed,
+        ),
+      ),
+    )
 
 pub unroll_item-returns-in_err-unroll_items-in-Each-clause-err :
     goal.unroll_item-returns-in_err-unroll_items-in-Each-clause-err

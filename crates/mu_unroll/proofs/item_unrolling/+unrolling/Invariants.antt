@@ -1,8 +1,5 @@
-use Rattle.std.proofs.Common.{◌+◌, ◌*◌, drop}
-use Rattle.mu_tree.specs.Nests.{item_size, list_size}
-use Rattle.mu_unroll.specs.Environments.{progress_of}
-use Rattle.mu_unroll.specs.ListUnrolling.{in_order}
-use Rattle.mu_unroll.specs.Unrolling.{rounds_from}
+use Rattle.mu_unroll.proofs.Common
+use Common.{◌*◌, ◌+◌, drop, in_order, item_size, list_size, progress_of, rounds_from}
 use Rattle.mu_unroll.proofs.Walks.{IsBetweenItems, IsBetweenRounds, rounds_left, step_in}
 use Rattle.mu_unroll.proofs.item_unrolling.+unrolling.Given as goal
 

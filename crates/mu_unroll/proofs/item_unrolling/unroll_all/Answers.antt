@@ -1,6 +1,4 @@
-use Rattle.mu_unroll.specs.Environments.{progress_of}
-use Rattle.mu_unroll.specs.ListUnrolling.{in_order}
-use Rattle.mu_unroll.specs.VariableTables.{meant_at}
+use Rattle.mu_unroll.proofs.Common.{in_order, meant_at, progress_of}
 use Rattle.mu_unroll.proofs.Folding.{outer_err, outer_ok}
 use Rattle.mu_unroll.proofs.item_unrolling.unroll_all.Goals as goal
 

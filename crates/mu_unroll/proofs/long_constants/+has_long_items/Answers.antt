@@ -1,4 +1,4 @@
-use Rattle.std.proofs.Common.{rules, arith}
+use Rattle.mu_unroll.proofs.Common.{arith, rules}
 use Rattle.mu_tree.proofs.Nesting.{body_smaller}
 use Rattle.mu_unroll.proofs.long_constants.+has_long_items.Goals as goal
 

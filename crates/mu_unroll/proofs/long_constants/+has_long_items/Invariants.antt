@@ -1,4 +1,4 @@
-use Rattle.mu_tree.specs.Nests.{list_size}
+use Rattle.mu_unroll.proofs.Common.{list_size}
 use Rattle.mu_unroll.proofs.long_constants.+has_long_items.Given as goal
 
 abbrev pub decreases-has_long_items : goal.decreases-has_long_items

@@ -1,7 +1,4 @@
-use Rattle.std.proofs.Common.{map, refl}
-use Rattle.mu_tree.specs.Expression.{expression}
-use Rattle.mu_tree.specs.ModelTree.{BranchTree, branch, statement}
-use Rattle.mu_unroll.specs.VariableTables.{meant_at}
+use Rattle.mu_unroll.proofs.Common.{branch, BranchTree, expression, map, meant_at, refl, statement}
 use Rattle.mu_unroll.proofs.FoldedSteps.{branch_same}
 use Rattle.mu_unroll.proofs.Orders.{statements_same}
 use Rattle.mu_unroll.proofs.loop_folding.fold_branch.Goals as goal

@@ -1,4 +1,4 @@
-use Rattle.mu_unroll.specs.VariableTables.{meant_at}
+use Rattle.mu_unroll.proofs.Common.{meant_at}
 use Rattle.mu_unroll.proofs.FoldedSteps.{branches_pushed}
 use Rattle.mu_unroll.proofs.loop_folding.fold_branches.Goals as goal
 

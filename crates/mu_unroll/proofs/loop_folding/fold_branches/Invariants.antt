@@ -1,7 +1,4 @@
-use Rattle.std.proofs.Common.{map, take}
-use Rattle.mu_tree.specs.ModelTree.{branch}
-use Rattle.mu_unroll.specs.ConstantFolding.{IsSameBranches}
-use Rattle.mu_unroll.specs.VariableTables.{meant_at}
+use Rattle.mu_unroll.proofs.Common.{branch, IsSameBranches, map, meant_at, take}
 use Rattle.mu_unroll.proofs.loop_folding.fold_branches.Given as goal
 
 -- the copies so far have the same result as their originals

@@ -1,6 +1,4 @@
-use Rattle.std.proofs.Common.{◌≡◌, ◌<◌, ◌≤◌, length, map, sym, arith}
-use Rattle.std.proofs.lemmas.List.{length-map}
-use Rattle.mu_tree.specs.FlatExpression.{flat_variable}
+use Rattle.mu_unroll.proofs.Common.{◌<◌, ◌≤◌, arith, flat_variable, length, length-map, map, sym}
 use Rattle.mu_unroll.proofs.Starts.{start_set, start_past}
 use Rattle.mu_unroll.proofs.start_values.set_unrolled_start_at.Goals as goal
 

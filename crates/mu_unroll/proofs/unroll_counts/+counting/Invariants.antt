@@ -1,6 +1,6 @@
-use Rattle.std.proofs.Common.{◌≡◌, ◌≤◌, ◌+◌, ◌^◌, min, map, drop}
-use Rattle.mu_tree.specs.Expression.{signed, scaled, terms_of, factors_of}
-use Rattle.mu_unroll.specs.Counting.{term_nodes, factor_nodes}
+use Rattle.mu_unroll.proofs.Common
+use Common.{◌+◌, ◌^◌, ◌≡◌, ◌≤◌, drop, factor_nodes, factors_of, map, min, scaled, signed}
+use Common.{term_nodes, terms_of}
 use Rattle.mu_unroll.proofs.unroll_counts.+counting.Given as goal
 
 -- the nodes so far and those of what is left are all

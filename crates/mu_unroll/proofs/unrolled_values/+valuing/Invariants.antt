@@ -1,9 +1,6 @@
-use Rattle.std.proofs.Common.{◌≡◌, map, drop, pos}
-use Rattle.mu_num.specs.Fraction.{whole}
-use Rattle.mu_tree.specs.Expression.{signed, scaled, terms_of, factors_of}
-use Rattle.mu_unroll.specs.Flattening.{constants_in}
-use Rattle.mu_unroll.specs.VariableTables.{denoted}
-use Rattle.mu_unroll.specs.ConstantValues.{sum_value, product_value, zero_value}
+use Rattle.mu_unroll.proofs.Common
+use Common.{◌≡◌, constants_in, denoted, drop, factors_of, map, pos, product_value, scaled, signed}
+use Common.{sum_value, terms_of, whole, zero_value}
 use Rattle.mu_unroll.proofs.unrolled_values.+valuing.Given as goal
 
 -- the value of what is left is that of the whole

@@ -1,10 +1,6 @@
-use Rattle.std.proofs.Common.{◌≡◌, ◌∙◌, ◌^◌, map, sym, ap}
-use Rattle.std.specs.Prelude.{nat_lt, false}
-use Rattle.mu_tree.specs.FlatExpression.{flat_variable}
-use Rattle.mu_tree.specs.ModelTree.{model}
-use Rattle.mu_unroll.specs.VariablePlaces.{scalar_count, scalars_in}
-use Rattle.mu_unroll.specs.VariableTables.{meant_at}
-use Rattle.mu_unroll.specs.Unrolling.{declared_in, unrolled, unrolled_with}
+use Rattle.mu_unroll.proofs.Common
+use Common.{◌^◌, ◌∙◌, ◌≡◌, ap, declared_in, false, flat_variable, map, meant_at, model, nat_lt}
+use Common.{scalar_count, scalars_in, sym, unrolled, unrolled_with}
 use Rattle.mu_unroll.proofs.Whole.{flat_given, lists_given, numbered_given, ok_same, whole_is}
 use Rattle.mu_unroll.proofs.unroller.unroll.Goals as goal
 

@@ -1,13 +1,8 @@
-use Rattle.std.proofs.Common.{◌∙◌, [], map, ap, rules, sym}
-use Rattle.std.specs.Prelude.{Ok}
-use Rattle.std.proofs.lemmas.List.{map-append}
-use Rattle.mu_tree.specs.FlatExpression.{FlatAction, flat_action, flat_branch, flat_expression}
-use Rattle.mu_tree.specs.ModelTree.{branch, statement}
-use Rattle.mu_tree.specs.declared.tree.Statement.{Statement}
-use Rattle.mu_unroll.specs.Environments.{progress_of}
-use Rattle.mu_unroll.specs.ListUnrolling.{in_order}
-use Rattle.mu_unroll.specs.Unrolling.{Step, progress, unrolled_statement}
-use Rattle.mu_unroll.specs.VariableTables.{meant_at}
+use Rattle.mu_unroll.proofs.Common
+use Common.{[], ◌∙◌, ap, branch, flat_branch, flat_expression, FlatAction, in_order, map}
+use Common.{map-append, meant_at, Ok, progress, progress_of, rules, Statement, statement, Step, sym}
+use Common.{unrolled_statement}
+use Rattle.mu_tree.specs.FlatExpression.{flat_action}
 use Rattle.mu_unroll.proofs.Faulty.{fault_same}
 use Rattle.mu_unroll.proofs.Orders.{statements_in_order}
 use Rattle.mu_unroll.proofs.WalkSteps.{branch_unrolled}

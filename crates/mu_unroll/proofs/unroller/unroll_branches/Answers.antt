@@ -1,6 +1,4 @@
-use Rattle.std.proofs.Common.{◌+◌, drop}
-use Rattle.mu_tree.specs.FlatExpression.{flat_branch}
-use Rattle.mu_unroll.specs.Environments.{progress_of}
+use Rattle.mu_unroll.proofs.Common.{◌+◌, drop, flat_branch, progress_of}
 use Rattle.mu_unroll.proofs.Walks.{item_done, item_fault, items_begin, items_done, raised}
 use Rattle.mu_unroll.proofs.WalkSteps.{branch_none, branch_split, branch_step, branch_steps}
 use Rattle.mu_unroll.proofs.unroller.unroll_branches.Goals as goal

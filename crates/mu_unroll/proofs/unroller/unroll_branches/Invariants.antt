@@ -1,6 +1,4 @@
-use Rattle.std.proofs.Common.{drop}
-use Rattle.mu_tree.specs.FlatExpression.{flat_branch}
-use Rattle.mu_unroll.specs.Environments.{progress_of}
+use Rattle.mu_unroll.proofs.Common.{drop, flat_branch, progress_of}
 use Rattle.mu_unroll.proofs.Walks.{IsBetweenItems, step_in}
 use Rattle.mu_unroll.proofs.WalkSteps.{branch_steps}
 use Rattle.mu_unroll.proofs.unroller.unroll_branches.Given as goal

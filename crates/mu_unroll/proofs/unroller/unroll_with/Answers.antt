@@ -1,14 +1,12 @@
-use Rattle.std.proofs.Common.{◌∙◌, [], map, refl, sym, ap}
-use Rattle.mu_tree.specs.FlatExpression.{flat_clause, flat_equation, flat_variable}
-use Rattle.mu_tree.specs.ModelTree.{clause, clauses_of, equation, equations_of, model, statement}
-use Rattle.mu_tree.specs.ModelTree.{statements_of}
+use Rattle.mu_unroll.proofs.Common
+use Common.{[], ◌∙◌, ap, clauses_of, equations_of, flat_variable, map, meant_at, model, no_counts}
+use Common.{progress, progress_of, refl, statement, statement_item, statement_items_of}
+use Common.{statements_of, sym}
+use Rattle.mu_tree.specs.FlatExpression.{flat_clause, flat_equation}
+use Rattle.mu_tree.specs.ModelTree.{clause, equation}
 use Rattle.mu_tree.specs.Nests.{clause_item, clause_items, clause_items_of, equation_item}
-use Rattle.mu_tree.specs.Nests.{equation_items, equation_items_of, statement_item}
-use Rattle.mu_tree.specs.Nests.{statement_items, statement_items_of}
-use Rattle.mu_unroll.specs.Counting.{no_counts}
-use Rattle.mu_unroll.specs.Environments.{progress_of}
-use Rattle.mu_unroll.specs.Unrolling.{clause_once, equation_once, progress, start_once}
-use Rattle.mu_unroll.specs.VariableTables.{meant_at}
+use Rattle.mu_tree.specs.Nests.{equation_items, equation_items_of, statement_items}
+use Rattle.mu_unroll.specs.Unrolling.{clause_once, equation_once, start_once}
 use Rattle.mu_unroll.proofs.Faulty.{fault_same}
 use Rattle.mu_unroll.proofs.Orders.{clauses_refused, equations_refused, model_unrolled, outside}
 use Rattle.mu_unroll.proofs.Orders.{starts_refused}

@@ -1,8 +1,8 @@
-use Rattle.std.proofs.Common.{◌≡◌, ◌++◌, List, ℕ, sym, ap, ◌∙◌, append-nil}
+use Rattle.qss_answers.proofs.Common
+use Common.{ℕ, ◌++◌, ◌∙◌, ◌≡◌, ap, bound_line, bound_lines, iter_rest, List, sym, zip_first}
+use Common.{zip_second}
+use Rattle.std.proofs.Common.{append-nil}
 use Rattle.std.proofs.lemmas.Slice.Zip.{Zip-more, either_empty_from_Zip}
-use Rattle.std.specs.Iterator.Adapters.{zip_first, zip_second}
-use Rattle.std.specs.Slice.Iter.{iter_rest}
-use Rattle.qss_answers.specs.BoundTexts.{bound_line, bound_lines}
 use Rattle.qss_answers.proofs.Lines.{line_more, lines_done}
 use Rattle.qss_answers.proofs.certifying.add_lines.Goals as goal
 

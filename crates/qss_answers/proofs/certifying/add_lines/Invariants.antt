@@ -1,7 +1,4 @@
-use Rattle.std.proofs.Common.{◌≡◌, ◌++◌}
-use Rattle.std.specs.Iterator.Adapters.{zip_first, zip_second}
-use Rattle.std.specs.Slice.Iter.{iter_rest}
-use Rattle.qss_answers.specs.BoundTexts.{bound_lines}
+use Rattle.qss_answers.proofs.Common.{◌++◌, ◌≡◌, bound_lines, iter_rest, zip_first, zip_second}
 use Rattle.qss_answers.proofs.certifying.add_lines.Given as goal
 
 -- the text so far and the lines that are left are the whole

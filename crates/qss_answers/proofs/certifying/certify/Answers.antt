@@ -1,4 +1,4 @@
-use Rattle.qss_answers.specs.CertificateAnswers.{IsCertification}
+use Rattle.qss_answers.proofs.Common.{IsCertification}
 use Rattle.qss_answers.proofs.CertificateEnds.{promised}
 use Rattle.qss_answers.proofs.Ends.{ends_of}
 use Rattle.qss_answers.proofs.certifying.certify.Goals as goal

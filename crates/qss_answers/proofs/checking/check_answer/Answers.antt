@@ -1,5 +1,4 @@
-use Rattle.std.proofs.Common.{inr, ap}
-use Rattle.qss_answers.specs.Answers.{written}
+use Rattle.qss_answers.proofs.Common.{ap, inr, written}
 use Rattle.qss_answers.proofs.checking.check_answer.Goals as goal
 
 pub returns-clause-text : goal.returns-clause-text

@@ -1,4 +1,4 @@
-use Rattle.qss_answers.specs.TraceAnswers.{IsChecked}
+use Rattle.qss_answers.proofs.Common.{IsChecked}
 use Rattle.qss_answers.proofs.Ends.{ends_of}
 use Rattle.qss_answers.proofs.TraceEnds.{accepted, rejected}
 use Rattle.qss_answers.proofs.checking.check_trace_text.Goals as goal

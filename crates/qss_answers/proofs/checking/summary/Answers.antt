@@ -1,4 +1,4 @@
-use Rattle.std.proofs.Common.{◌≡◌, ap, ◌∙◌}
+use Rattle.qss_answers.proofs.Common.{◌∙◌, ◌≡◌, ap}
 use Rattle.qss_trace.specs.Trace.{count_of}
 use Rattle.qss_answers.proofs.checking.summary.Goals as goal
 

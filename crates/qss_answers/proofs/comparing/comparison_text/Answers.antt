@@ -1,4 +1,5 @@
-use Rattle.std.proofs.Common.{◌≡◌, ℤ, inr, ap, refl, subst, FitsSigned, rules, to_z-of_z}
+use Rattle.qss_answers.proofs.Common.{ℤ, ◌≡◌, ap, inr, refl, rules, subst}
+use Rattle.std.proofs.Common.{FitsSigned, to_z-of_z}
 use Rattle.std.specs.Int.{w128}
 use Rattle.cert_check.specs.Inequalities.{System}
 use Rattle.qss_machine.specs.Machines.{level_unit}

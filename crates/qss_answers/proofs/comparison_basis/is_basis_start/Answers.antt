@@ -1,8 +1,7 @@
-use Rattle.std.proofs.Common.{◌≡◌, length, pos, ◌∙◌, sym, arith, ap}
+use Rattle.qss_answers.proofs.Common.{◌∙◌, ◌≡◌, ap, arith, length, start_states, StateInfo, sym}
+use Rattle.std.proofs.Common.{pos}
 use Rattle.std.proofs.Math.Seq.{ext_get_or}
 use Rattle.std.proofs.lemmas.List.{length-map}
-use Rattle.qss_machine.specs.Machines.{start_states}
-use Rattle.qss_machine.specs.declared.machine_parts.StateInfo.{StateInfo}
 use Rattle.qss_answers.proofs.comparison_basis.is_basis_start.Goals as goal
 
 pub returns : goal.returns

@@ -1,6 +1,4 @@
-use Rattle.std.proofs.Common.{◌≡◌, ◌<◌, ℕ}
-use Rattle.qss_machine.specs.Machines.{start_states}
-use Rattle.mu_num.specs.IndexedSums.{int_at}
+use Rattle.qss_answers.proofs.Common.{ℕ, ◌<◌, ◌≡◌, int_at, start_states}
 use Rattle.qss_answers.proofs.comparison_basis.is_basis_start.Given as goal
 
 abbrev pub invariant-loop-j : goal.invariant-loop-j

@@ -1,4 +1,4 @@
-use Rattle.std.proofs.Common.{inl, inr, refl}
+use Rattle.qss_answers.proofs.Common.{inl, inr, refl}
 use Rattle.qss_answers.proofs.comparison_basis.judge_with_start.Goals as goal
 
 pub returns-in-Ok-2-clause-refused : goal.returns-in-Ok-2-clause-refused

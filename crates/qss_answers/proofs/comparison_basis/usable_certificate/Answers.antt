@@ -1,4 +1,4 @@
-use Rattle.std.proofs.Common.{inl, inr, refl}
+use Rattle.qss_answers.proofs.Common.{inl, inr, refl}
 use Rattle.qss_answers.proofs.comparison_basis.usable_certificate.Goals as goal
 
 pub returns-in-Err-Refused-clause-stopped : goal.returns-in-Err-Refused-clause-stopped

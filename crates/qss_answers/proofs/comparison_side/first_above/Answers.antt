@@ -1,6 +1,6 @@
-use Rattle.std.proofs.Common.{◌≤ℤ◌, arith, rules, below_more}
+use Rattle.qss_answers.proofs.Common.{◌≤ℤ◌, arith, int_at, rules}
+use Rattle.std.proofs.Common.{below_more}
 use Rattle.std.proofs.lemmas.Int.{ints}
-use Rattle.mu_num.specs.IndexedSums.{int_at}
 use Rattle.qss_answers.proofs.comparison_side.first_above.Goals as goal
 
 pub loop-j-preserved : goal.loop-j-preserved

@@ -1,5 +1,4 @@
-use Rattle.std.proofs.Common.{◌<◌, ◌≤ℤ◌, ℕ}
-use Rattle.mu_num.specs.IndexedSums.{int_at}
+use Rattle.qss_answers.proofs.Common.{ℕ, ◌<◌, ◌≤ℤ◌, int_at}
 use Rattle.qss_answers.proofs.comparison_side.first_above.Given as goal
 
 abbrev pub invariant-loop-j : goal.invariant-loop-j

@@ -1,5 +1,4 @@
-use Rattle.std.proofs.Common.{arith}
-use Rattle.qss_answers.specs.Comparisons.{first_order}
+use Rattle.qss_answers.proofs.Common.{arith, first_order}
 use Rattle.qss_answers.proofs.ComparisonEnds.{allowed_stopped, taken_so}
 use Rattle.qss_answers.proofs.comparison_side.first_side.Goals as goal
 

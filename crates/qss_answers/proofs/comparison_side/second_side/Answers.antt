@@ -1,5 +1,4 @@
-use Rattle.std.proofs.Common.{arith}
-use Rattle.qss_answers.specs.Comparisons.{second_order}
+use Rattle.qss_answers.proofs.Common.{arith, second_order}
 use Rattle.qss_answers.proofs.ComparisonEnds.{allowed_stopped, taken_so}
 use Rattle.qss_answers.proofs.comparison_side.second_side.Goals as goal
 

@@ -1,5 +1,4 @@
-use Rattle.std.proofs.Common.{inl, inr}
-use Rattle.qss_answers.specs.Comparisons.{traced}
+use Rattle.qss_answers.proofs.Common.{inl, inr, traced}
 use Rattle.qss_answers.proofs.ComparisonEnds.{allowed_stopped}
 use Rattle.qss_answers.proofs.comparison_side.traced_side.Goals as goal
 

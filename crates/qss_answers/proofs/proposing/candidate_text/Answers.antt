@@ -1,5 +1,4 @@
-use Rattle.std.proofs.Common.{ap}
-use Rattle.qss_answers.specs.Answers.{written}
+use Rattle.qss_answers.proofs.Common.{ap, written}
 use Rattle.qss_answers.proofs.proposing.candidate_text.Goals as goal
 
 pub returns-in_ok-write_certificate-in-Accepted-clause-text :

@@ -1,4 +1,4 @@
-use Rattle.std.proofs.Common.{refl}
+use Rattle.qss_answers.proofs.Common.{refl}
 use Rattle.qss_answers.proofs.ProposalEnds.{candidate_takes, proposed, no_proposal}
 use Rattle.qss_answers.proofs.proposing.proposal_text.Goals as goal
 

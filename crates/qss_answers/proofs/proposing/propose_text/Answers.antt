@@ -1,4 +1,4 @@
-use Rattle.qss_answers.specs.ProposalAnswers.{IsProposed}
+use Rattle.qss_answers.proofs.Common.{IsProposed}
 use Rattle.qss_answers.proofs.Ends.{ends_of}
 use Rattle.qss_answers.proofs.ProposalEnds.{promised}
 use Rattle.qss_answers.proofs.proposing.propose_text.Goals as goal

@@ -1,12 +1,12 @@
 -- The line of each reason, as the parts of its format.
-use Rattle.std.proofs.Common.{ℕ, ap, ◌∙◌, sym, Vec, Global}
-use Rattle.std.specs.String.{string_bytes}
+use Rattle.qss_answers.proofs.Common.{ℕ, ◌∙◌, ap, string_bytes, sym}
+use Rattle.std.proofs.Common.{Vec, Global}
 use Rattle.cert_check.specs.declared.text_err.TextErr.{TextErr}
-use Rattle.qss_answers.specs.RefusalTexts as Spec
 use Rattle.qss_answers.proofs.refusal_lines.cause_line.Goals.{in-Keyword+in_ok-line-in-Keyword}
 use Rattle.qss_answers.proofs.refusal_lines.cause_line.Goals.{in-Shape+in_ok-line-in-Shape}
 use Rattle.qss_answers.proofs.refusal_lines.cause_line.Goals.{in-Number+in_ok-line-in-Number}
 use Rattle.qss_answers.proofs.refusal_lines.cause_line.Goals.{in-Missing+in_ok-line-in-Missing}
+use Rattle.qss_answers.specs.RefusalTexts as Spec
 use Rattle.qss_answers.proofs.refusal_lines.cause_line.Goals as goal
 
 pub returns : goal.returns

@@ -1,10 +1,10 @@
 -- The line is the text of its format.
-use Rattle.std.proofs.Common.{◌≡◌, ℕ, ℤ, ap, ◌∙◌, subst, Vec, Global}
+use Rattle.qss_answers.proofs.Common.{ℕ, ℤ, ◌∙◌, ◌≡◌, ap, string_bytes, subst}
+use Rattle.std.proofs.Common.{Vec, Global}
 use Rattle.std.proofs.lemmas.Int.{to_z-of_z}
-use Rattle.std.specs.String.{string_bytes}
+use mir.Syntax.{w128}
 use Rattle.qss_answers.specs.RefusalTexts as Spec
 use Rattle.qss_answers.proofs.refusal_lines.version_line.Goals as goal
-use mir.Syntax.{w128}
 
 pub returns : goal.returns
 returns c =

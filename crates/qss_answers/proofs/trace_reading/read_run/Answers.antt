@@ -1,4 +1,4 @@
-use Rattle.std.proofs.Common.{inr}
+use Rattle.qss_answers.proofs.Common.{inr}
 use Rattle.qss_answers.proofs.trace_reading.read_run.Goals as goal
 
 pub returns-in-Err-clause-refused : goal.returns-in-Err-clause-refused

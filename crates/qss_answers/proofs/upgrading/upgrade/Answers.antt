@@ -1,4 +1,4 @@
-use Rattle.qss_answers.specs.CertificateAnswers.{IsUpgrade}
+use Rattle.qss_answers.proofs.Common.{IsUpgrade}
 use Rattle.qss_answers.proofs.Ends.{ends_of}
 use Rattle.qss_answers.proofs.upgrading.upgrade.Goals as goal
 

@@ -1,6 +1,5 @@
-use Rattle.std.proofs.Common.{inr, ap}
+use Rattle.qss_answers.proofs.Common.{ap, inr, written}
 use Rattle.std.proofs.lemmas.Result.{err_from_is_err_and}
-use Rattle.qss_answers.specs.Answers.{written}
 use Rattle.qss_answers.proofs.CertificateEnds.{no_upgrade}
 use Rattle.qss_answers.specs.declared.answer_result.AnswerErr.TheVariants.{Memory}
 use Rattle.qss_answers.proofs.upgrading.upgraded_text.Goals as goal

@@ -1,9 +1,8 @@
-use Rattle.std.proofs.Common.{◌≡◌, ◌∙◌, ap, sym, inr, ℕ, List, map}
-use Rattle.mu_affine.proofs.Turns.{map_twice}
-use Rattle.mu_tree.specs.FlatExpression.{FlatVariable, flat_model, flat_variable}
+use Rattle.qss_compile.proofs.Common
+use Common.{ℕ, ◌∙◌, ◌≡◌, ap, flat_model, FlatVariable, inr, List, map, map_twice, ModelErr, Refused}
+use Common.{sym}
+use Rattle.mu_tree.specs.FlatExpression.{flat_variable}
 use Rattle.mu_tree.specs.declared.flat.FlatVar.{FlatVar}
-use Rattle.qss_compile.specs.declared.model_refusal.ModelErr.{ModelErr}
-use Rattle.qss_compile.specs.declared.model_refusal.Refused.{Refused}
 use Rattle.qss_compile.proofs.compiler.attach_compiled_names.Goals as goal
 
 -- a refusal with these names

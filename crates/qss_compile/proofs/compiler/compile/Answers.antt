@@ -1,10 +1,7 @@
-use Rattle.std.proofs.Common.{sym, subst}
-use Rattle.std.proofs.lemmas.Result.{IfOk-weaker, IfErr-weaker}
-use Rattle.mu_tree.specs.ModelTree.{model}
-use Rattle.qss_compile.specs.Causes.{without_names}
-use Rattle.qss_compile.specs.Compilation.{SourceParsesAs, TreeCompilesTo, CompilesTo}
-use Rattle.qss_compile.specs.Compilation.{IsParseRefusal, IsTreeRefused, IsRefused, IsErr}
-use Rattle.qss_compile.specs.declared.model_refusal.Refused.{Refused}
+use Rattle.qss_compile.proofs.Common
+use Common.{CompilesTo, IfOk-weaker, IsErr, IsParseRefusal, IsRefused, IsTreeRefused, model}
+use Common.{Refused, SourceParsesAs, subst, sym, TreeCompilesTo, without_names}
+use Rattle.std.proofs.lemmas.Result.{IfErr-weaker}
 use Rattle.qss_compile.proofs.Answering.{first_answer, later_answer}
 use Rattle.qss_compile.proofs.compiler.compile.Goals as goal
 

@@ -1,6 +1,4 @@
-use Rattle.std.proofs.lemmas.Result.{err_from_is_err_and}
-use Rattle.mu_tree.specs.FlatExpression.{flat_model}
-use Rattle.qss_compile.specs.Flats.{flat_source}
+use Rattle.qss_compile.proofs.Common.{err_from_is_err_and, flat_model, flat_source}
 use Rattle.qss_compile.proofs.Answering.{order_answer, forms_answer, rounding_answer}
 use Rattle.qss_compile.proofs.Bridge.{forms_for}
 use Rattle.qss_compile.proofs.compiler.compile_flat_machine.Goals as goal

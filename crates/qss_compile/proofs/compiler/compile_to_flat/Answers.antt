@@ -1,13 +1,9 @@
-use Rattle.std.proofs.Common.{◌≡◌, ap, subst, Ok}
-use Rattle.std.proofs.lemmas.Result.{err_from_is_err_and}
-use Rattle.mu_grammar.specs.Symbols.{symbols}
+use Rattle.qss_compile.proofs.Common
+use Common.{◌≡◌, ap, err_from_is_err_and, flat_model, model, Ok, subst, symbols, unrolled}
 use Rattle.mu_names.specs.declared.declared_scope.Scope.{Scope}
-use Rattle.mu_tree.specs.FlatExpression.{flat_model}
-use Rattle.mu_tree.specs.ModelTree.{model}
-use Rattle.mu_unroll.specs.UnrollFaults as unroll
-use Rattle.mu_unroll.specs.Unrolling.{unrolled}
 use Rattle.qss_compile.proofs.Answering.{names_answer, unrolling_answer}
 use Rattle.qss_compile.proofs.WellFormed.{well_formed}
+use Rattle.mu_unroll.specs.UnrollFaults as unroll
 use Rattle.qss_compile.proofs.compiler.compile_to_flat.Goals as goal
 
 pub returns-in_err-scope-clause-flat : goal.returns-in_err-scope-clause-flat

@@ -1,10 +1,6 @@
-use Rattle.std.proofs.Common.{sym, subst}
-use Rattle.mu_tree.specs.FlatExpression.{flat_model}
-use Rattle.mu_tree.specs.ModelTree.{model}
-use Rattle.qss_compile.specs.Causes.{without_names}
-use Rattle.qss_compile.specs.Flats.{flat_source}
-use Rattle.qss_compile.specs.Compilation.{IsFlatOf, IsNotFlat, IsFlatRefused, IsTreeRefused, IsErr}
-use Rattle.qss_compile.specs.declared.model_refusal.Refused.{Refused}
+use Rattle.qss_compile.proofs.Common
+use Common.{flat_model, flat_source, IsErr, IsFlatOf, IsFlatRefused, IsNotFlat, IsTreeRefused}
+use Common.{model, Refused, subst, sym, without_names}
 use Rattle.qss_compile.proofs.Answering.{first_answer, later_answer, named_answer}
 use Rattle.qss_compile.proofs.compiler.compile_tree.Goals as goal
 

@@ -1,4 +1,4 @@
-use Rattle.std.proofs.Common.{◌≡◌, map, take}
+use Rattle.qss_compile.proofs.Common.{◌≡◌, map, take}
 use Rattle.qss_compile.proofs.compiler.compiled_variable_names.Given as goal
 
 -- the names so far

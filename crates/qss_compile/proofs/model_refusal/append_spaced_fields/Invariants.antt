@@ -1,5 +1,4 @@
-use Rattle.std.proofs.Common.{◌≡◌, ◌++◌, map, take}
-use Rattle.qss_compile.specs.Fields.{field_text}
+use Rattle.qss_compile.proofs.Common.{◌++◌, ◌≡◌, field_text, map, take}
 use Rattle.qss_compile.specs.RefusalLines.{fields_text}
 use Rattle.qss_compile.proofs.model_refusal.append_spaced_fields.Given as goal
 

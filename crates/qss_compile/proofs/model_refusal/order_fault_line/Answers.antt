@@ -1,8 +1,6 @@
-use Rattle.std.proofs.Common.{◌≡◌, ◌∙◌, ap, sym, ℕ, List, map, codes}
-use Rattle.std.proofs.lemmas.Result.{IfOk-weaker}
-use Rattle.mu_causal.specs.declared.causal_outcome.CausalErr.{CausalErr}
-use Rattle.mu_affine.proofs.Turns.{map_twice}
-use Rattle.qss_compile.specs.Fields.{field_text}
+use Rattle.qss_compile.proofs.Common
+use Common.{ℕ, ◌∙◌, ◌≡◌, ap, CausalErr, field_text, IfOk-weaker, List, map, map_twice, sym}
+use Rattle.std.proofs.Common.{codes}
 use Rattle.qss_compile.specs.RefusalLines.{reason, reason_line, variable_text, order_reason}
 use Rattle.qss_compile.specs.declared.model_refusal.Field.TheVariants.{Variable}
 use Rattle.qss_compile.proofs.model_refusal.order_fault_line.Goals as goal

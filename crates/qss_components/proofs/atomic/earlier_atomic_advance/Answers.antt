@@ -1,6 +1,5 @@
 -- The next transition is not before the earlier tick.
-use Rattle.std.proofs.Common.{◌≡◌, ℕ, subst, arith}
-use Rattle.std.specs.Prelude.{Option, Some}
+use Rattle.qss_components.proofs.Common.{ℕ, ◌≡◌, arith, Option, Some, subst}
 use Rattle.qss_components.proofs.Ticks.{same_tick, none_next}
 use Rattle.qss_components.proofs.atomic.earlier_atomic_advance.Goals as goal
 

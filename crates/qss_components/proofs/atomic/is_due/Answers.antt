@@ -1,7 +1,5 @@
 -- The next transition is at the tick where it is that tick.
-use Rattle.std.proofs.Common.{ℕ, sym, ◌∙◌, ap, subst}
-use Rattle.std.specs.Prelude.{Option, Some}
-use Rattle.mu_num.proofs.Tests.{eqb-true, eqb-false}
+use Rattle.qss_components.proofs.Common.{ℕ, ◌∙◌, ap, eqb-false, eqb-true, Option, Some, subst, sym}
 use Rattle.qss_components.proofs.Ticks.{same_tick, none_next}
 use Rattle.qss_components.proofs.atomic.is_due.Goals as goal
 

@@ -1,11 +1,10 @@
 -- One more model.
-use Rattle.std.proofs.Common.{◌≡◌, ℕ, ◌+◌, ◌<◌, ◌≤◌, ◌++◌, ◌∷◌, [], List, All, length, get_or, take}
-use Rattle.std.proofs.Common.{sym, subst, arith}
-use Rattle.std.proofs.lemmas.List.{get_or_append_left, get_or_at, length-append, length-take-le}
-use Rattle.std.proofs.lemmas.List.{take_all, take_more}
+use Rattle.qss_components.proofs.Common
+use Common.{[], ℕ, ◌++◌, ◌+◌, ◌<◌, ◌∷◌, ◌≡◌, ◌≤◌, All, arith, EachAt, get_or}
+use Common.{get_or as slice_index_or, get_or_append_left, get_or_at, length, length-append, List}
+use Common.{None, Option, Some, subst, sym, take, take_all}
+use Rattle.std.proofs.lemmas.List.{length-take-le, take_more}
 use Rattle.std.proofs.lemmas.List.Elements.{All-push}
-use Rattle.std.specs.Prelude.{Option, Some, None, slice_index_or}
-use Rattle.qss_components.specs.ComponentPlaces.{EachAt}
 use Rattle.qss_components.proofs.Places.{each_more}
 use Rattle.qss_components.proofs.atomic.least_advance.Goals as goal
 

@@ -1,6 +1,6 @@
-use Rattle.std.proofs.Common.{◌≡◌, ℕ, ◌<◌, ◌≤◌, List, All, length, take}
-use Rattle.std.specs.Prelude.{Option, Some, None, slice_index_or}
-use Rattle.qss_components.specs.ComponentPlaces.{EachAt}
+use Rattle.qss_components.proofs.Common
+use Common.{ℕ, ◌<◌, ◌≡◌, ◌≤◌, All, EachAt, get_or as slice_index_or, length, List, None, Option}
+use Common.{Some, take}
 use Rattle.qss_components.proofs.atomic.least_advance.Given as goal
 
 -- the least of the models so far, with the ticks of their next transitions

@@ -1,8 +1,8 @@
 -- A model that is due sends its message, and makes its transition, unless what it sends passes its limit.
-use Rattle.std.proofs.Common.{◌≡◌, ℕ, true, false, refl, sym, ◌∙◌, ap, subst}
-use Rattle.std.specs.Prelude.{Option, Some, IsSome, IfSome}
-use Rattle.qss_components.specs.declared.atomic.Message.{Message}
-use Rattle.qss_components.specs.Messages.{HasSmallLevel, passes_limit}
+use Rattle.qss_components.proofs.Common
+use Common.{ℕ, ◌∙◌, ◌≡◌, ap, false, HasSmallLevel, Message, Option, passes_limit, refl, Some, subst}
+use Common.{sym, true}
+use Rattle.std.specs.Prelude.{IsSome, IfSome}
 use Rattle.qss_components.proofs.Passing.{level_small}
 use Rattle.qss_components.proofs.atomic.make_transition.Goals as goal
 

@@ -1,7 +1,6 @@
 -- A detector at the tick at which its truth changes.
-use Rattle.std.proofs.Common.{◌≡◌, Some, sym, ap, subst, arith}
-use Rattle.qss_cross.specs.Crossing.{DetectorView}
-use Rattle.qss_components.specs.Crossings.{IsCrossingNext}
+use Rattle.qss_components.proofs.Common
+use Common.{◌≡◌, ap, arith, DetectorView, IsCrossingNext, Some, subst, sym}
 use Rattle.qss_components.proofs.Across.{turned_small}
 use Rattle.qss_components.proofs.crossing_model.crossing_detector_at_change.Goals as goal
 

@@ -1,15 +1,10 @@
 -- An input is begun anew where the message is about its variable.
-use Rattle.std.proofs.Common.{◌≡◌, ℤ, pos, ◌*ℤ◌, sym, ◌∙◌, ap, subst, arith}
-use Rattle.std.proofs.lemmas.Int.{ints, to_z-of_z}
-use Rattle.std.specs.Int.RustNames.{FitsSigned}
-use Rattle.qss_machine.specs.Machines.{level_unit}
-use Rattle.qss_components.specs.declared.crossing_model.Input.{Input}
-use Rattle.qss_components.specs.declared.atomic.Message.TheVariants.{Slope, State, Discrete}
-use Rattle.qss_components.specs.Messages.{IsMessage}
+use Rattle.qss_components.proofs.Common
+use Common.{ℤ, ◌*ℤ◌, ◌∙◌, ◌≡◌, ap, arith, Discrete, FitsSigned, Input, ints, IsMessage, level_unit}
+use Common.{pos, Slope, State, subst, sym, to_z-of_z, w128, w64}
 use Rattle.qss_components.proofs.InputsTold.{slope_given, slope_not_given, state_given}
 use Rattle.qss_components.proofs.InputsTold.{state_not_given, discrete_given, discrete_not_given}
 use Rattle.qss_components.proofs.crossing_model.crossing_input_after_message.Goals as goal
-use mir.Syntax.{w64, w128}
 
 pub returns-then-input-var : goal.returns-then-input-var
 returns-then-input-var c =

@@ -1,10 +1,7 @@
-use Rattle.std.proofs.Common.{◌≡◌, ◌*◌, ◌^◌, ◌≤◌, ◌∙◌, ap, ℤ, ◌+ℤ◌, ◌*ℤ◌, arith}
-use Rattle.std.proofs.lemmas.Int.{to_z-of_z}
-use Rattle.std.specs.Int.RustNames.{unsigned_abs, FitsSigned}
-use Rattle.qss_machine.proofs.Loops.{fits_below, product_bound, two_fit, two_sum}
+use Rattle.qss_components.proofs.Common
+use Common.{ℤ, ◌*ℤ◌, ◌*◌, ◌+ℤ◌, ◌^◌, ◌∙◌, ◌≡◌, ◌≤◌, ap, arith, fits_below, FitsSigned, of_z}
+use Common.{product_bound, to_z, to_z-of_z, two_fit, two_sum, unsigned_abs, w128}
 use Rattle.qss_components.proofs.crossing_model.crossing_input_at.Goals as goal
-use mir.Syntax.{w128}
-use mir.Val.{to_z, of_z}
 
 -- a line after some ticks
 module _ (at ticks speed : ℤ) (small : unsigned_abs at ≤ 2 ^ 88) (few : unsigned_abs ticks ≤ 2 ^ 32) (slow : unsigned_abs speed ≤ 2 ^ 88) where

@@ -1,13 +1,8 @@
-use Rattle.std.proofs.Common.{◌≡◌, ◌+◌, ◌*◌, ◌^◌, ◌≤◌, pos, ◌+ℤ◌, ◌*ℤ◌, arith, ◌∙◌, ap}
-use Rattle.std.proofs.lemmas.Int.{ints, to_z-of_z}
-use Rattle.std.proofs.Math.IntN.{+ℤ_idr}
-use Rattle.std.specs.Int.RustNames.{unsigned_abs, FitsSigned}
-use Rattle.std.specs.Prelude.{sum_by}
-use Rattle.mu_num.specs.IndexedSums.{sum_over}
-use Rattle.qss_components.specs.declared.crossing_model.Input.{Input}
+use Rattle.qss_components.proofs.Common
+use Common.{+ℤ_idr, ◌*ℤ◌, ◌*◌, ◌+ℤ◌, ◌+◌, ◌^◌, ◌∙◌, ◌≡◌, ◌≤◌, ap, arith, FitsSigned, Input, ints}
+use Common.{pos, sum_by, sum_over, to_z-of_z, unsigned_abs, w128, w64}
 use Rattle.qss_components.proofs.Inputs.{entry_sizes}
 use Rattle.qss_components.proofs.crossing_model.crossing_speed_by.Goals as goal
-use mir.Syntax.{w64, w128}
 
 pub crossing_speed_sum-own-requires-clause-coefficients : goal.crossing_speed_sum-own-requires-clause-coefficients
 crossing_speed_sum-own-requires-clause-coefficients c = omega (arith, entry_sizes c.args.inputs.now, c.requires.parts)

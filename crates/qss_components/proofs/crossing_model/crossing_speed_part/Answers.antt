@@ -1,9 +1,7 @@
-use Rattle.std.proofs.Common.{◌^◌, ◌≤◌, arith, ◌∙◌}
-use Rattle.std.proofs.Math.Nat.{mul-le-mul_left}
-use Rattle.std.proofs.lemmas.Int.{ints, to_z-of_z, unsigned_abs-mul}
-use Rattle.std.specs.Int.RustNames.{unsigned_abs, FitsSigned}
+use Rattle.qss_components.proofs.Common
+use Common.{◌^◌, ◌∙◌, ◌≤◌, arith, FitsSigned, ints, mul-le-mul_left, to_z-of_z, unsigned_abs}
+use Common.{unsigned_abs-mul, w128, w64}
 use Rattle.qss_components.proofs.crossing_model.crossing_speed_part.Goals as goal
-use mir.Syntax.{w64, w128}
 
 pub returns-clause-value : goal.returns-clause-value
 returns-clause-value c =

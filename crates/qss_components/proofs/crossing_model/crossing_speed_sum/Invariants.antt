@@ -1,5 +1,5 @@
-use Rattle.std.proofs.Common.{◌≡◌, ◌*◌, ◌^◌, ◌≤◌, take, unsigned_abs, ◌*ℤ◌, sum_by}
-use Rattle.mu_num.specs.IndexedSums.{sum_over}
+use Rattle.qss_components.proofs.Common.{◌*ℤ◌, ◌*◌, ◌^◌, ◌≡◌, ◌≤◌, sum_by, sum_over, take}
+use Rattle.std.proofs.Common.{unsigned_abs}
 use Rattle.qss_components.proofs.crossing_model.crossing_speed_sum.Given as goal
 
 -- the sum so far, at most the coefficients so far times the greatest value

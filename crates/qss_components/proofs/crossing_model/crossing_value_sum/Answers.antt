@@ -1,11 +1,7 @@
-use Rattle.std.proofs.Common.{◌^◌, pos, ◌*ℤ◌, arith}
-use Rattle.std.specs.Int.RustNames.{unsigned_abs}
-use Rattle.qss_machine.proofs.Loops.{sum_done, weighed_fits, weighed_sum, weighed_bound}
-use Rattle.qss_components.specs.declared.crossing_model.Input.{Input}
-use Rattle.qss_components.specs.Crossings.{input_at}
+use Rattle.qss_components.proofs.Common
+use Common.{◌*ℤ◌, ◌^◌, arith, Input, input_at, pos, sum_done, to_z, unsigned_abs, w128}
+use Common.{weighed_bound, weighed_fits, weighed_sum}
 use Rattle.qss_components.proofs.crossing_model.crossing_value_sum.Goals as goal
-use mir.Syntax.{w128}
-use mir.Val.{to_z}
 
 abbrev none : Input
 none = record { var = 0; coef = pos 0; tick = 0; at = pos 0; speed = pos 0 }

@@ -1,6 +1,5 @@
-use Rattle.std.proofs.Common.{◌≡◌, ◌*◌, ◌^◌, ◌≤◌, take, unsigned_abs, ◌*ℤ◌, sum_by}
-use Rattle.mu_num.specs.IndexedSums.{sum_over}
-use Rattle.qss_components.specs.Crossings.{input_at}
+use Rattle.qss_components.proofs.Common.{◌*ℤ◌, ◌*◌, ◌^◌, ◌≡◌, ◌≤◌, input_at, sum_by, sum_over, take}
+use Rattle.std.proofs.Common.{unsigned_abs}
 use Rattle.qss_components.proofs.crossing_model.crossing_value_sum.Given as goal
 
 -- the sum so far, at most the coefficients so far times the greatest value

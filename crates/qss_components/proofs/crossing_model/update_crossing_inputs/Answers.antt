@@ -1,7 +1,6 @@
 -- One more input receives the message.
-use Rattle.std.proofs.Common.{◌<◌, length, pos, sym, subst, arith}
-use Rattle.qss_components.specs.declared.crossing_model.Input.{Input}
-use Rattle.qss_components.specs.Crossings.{input_after_message, IsInput}
+use Rattle.qss_components.proofs.Common
+use Common.{◌<◌, arith, Input, input_after_message, IsInput, length, pos, subst, sym}
 use Rattle.qss_components.proofs.Filled.{up_to_none, up_to_more, up_to_all}
 use Rattle.qss_components.proofs.crossing_model.update_crossing_inputs.Goals as goal
 

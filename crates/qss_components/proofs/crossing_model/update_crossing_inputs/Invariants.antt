@@ -1,4 +1,4 @@
-use Rattle.qss_components.specs.Crossings.{input_after_message}
+use Rattle.qss_components.proofs.Common.{input_after_message}
 use Rattle.qss_components.proofs.Filled.{IsUpTo}
 use Rattle.qss_components.proofs.crossing_model.update_crossing_inputs.Given as goal
 

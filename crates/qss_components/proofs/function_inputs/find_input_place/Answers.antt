@@ -1,7 +1,6 @@
 -- The closure gives an input's variable.
-use Rattle.std.proofs.Common.{rules, Ok, Err}
+use Rattle.qss_components.proofs.Common.{Err, FunctionInput, Ok, rules}
 use Rattle.std.proofs.lemmas.List.Sorted.{answers_always}
-use Rattle.qss_components.specs.declared.function_inputs.FunctionInput.{FunctionInput}
 use Rattle.qss_components.proofs.InputPlaces.{searched}
 use Rattle.qss_components.proofs.function_inputs.find_input_place.Goals as goal
 

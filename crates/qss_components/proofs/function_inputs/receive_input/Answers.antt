@@ -1,18 +1,13 @@
 -- A level or a discrete value is set.
-use Rattle.std.proofs.Common.{◌≡◌, ℕ, ℤ, ◌&&◌, ◌∙◌, subst, arith}
-use Rattle.std.proofs.lemmas.Int.{ints, to_z-of_z}
-use Rattle.std.specs.Int.RustNames.{FitsSigned}
-use Rattle.std.specs.Prelude.{◌==◌, if◌then◌else◌}
-use Rattle.qss_machine.specs.Machines.{row_at}
-use Rattle.qss_machine.specs.Readers.{row_reads}
-use Rattle.qss_components.specs.declared.atomic.Message.TheVariants.{Level, Discrete}
-use Rattle.qss_components.specs.Messages.{IsMessage}
-use Rattle.qss_components.specs.FunctionInputs.{input_value, input_levels, input_discretes}
+use Rattle.qss_components.proofs.Common
+use Common.{ℕ, ℤ, ◌&&◌, ◌==◌, ◌∙◌, ◌≡◌, arith, Discrete, FitsSigned, if◌then◌else◌, input_discretes}
+use Common.{input_levels, input_value, ints, IsMessage, Level, row_at, row_reads, subst, to_z-of_z}
+use Common.{w128, w64}
 use Rattle.qss_components.proofs.FunctionsTold.{level_told, discretes_keep, discrete_told}
 use Rattle.qss_components.proofs.FunctionsTold.{levels_keep}
-use Rattle.qss_components.proofs.InputValues.{levels_set, levels_kept, discretes_set, discretes_kept}
+use Rattle.qss_components.proofs.InputValues.{levels_set, levels_kept, discretes_set}
+use Rattle.qss_components.proofs.InputValues.{discretes_kept}
 use Rattle.qss_components.proofs.function_inputs.receive_input.Goals as goal
-use mir.Syntax.{w64, w128}
 
 pub overflow_cast-level : goal.overflow_cast-level
 overflow_cast-level c =

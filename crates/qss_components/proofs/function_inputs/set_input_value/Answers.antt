@@ -1,6 +1,5 @@
 -- The input of the variable is set, if there is one.
-use Rattle.std.proofs.Common.{◌≡◌, get_or}
-use Rattle.std.proofs.lemmas.Int.{to_z-of_z}
+use Rattle.qss_components.proofs.Common.{◌≡◌, get_or, to_z-of_z}
 use Rattle.qss_components.proofs.InputPlaces.{no_input}
 use Rattle.qss_components.proofs.InputValues.{set_are, set_values, unset_values}
 use Rattle.qss_components.proofs.function_inputs.set_input_value.Goals as goal

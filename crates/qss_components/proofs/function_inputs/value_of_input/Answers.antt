@@ -1,11 +1,9 @@
 -- The value of the variable's input, or 0.
-use Rattle.std.proofs.Common.{◌^◌, ◌≤◌, get_or, sym, ◌∙◌, arith}
-use Rattle.std.proofs.lemmas.Int.{ints, to_z-of_z}
-use Rattle.std.specs.Int.RustNames.{unsigned_abs, FitsSigned}
+use Rattle.qss_components.proofs.Common
+use Common.{◌^◌, ◌∙◌, ◌≤◌, arith, FitsSigned, get_or, ints, sym, to_z-of_z, unsigned_abs, w64}
 use Rattle.qss_components.proofs.InputPlaces.{no_input}
 use Rattle.qss_components.proofs.InputValues.{value_at, no_value}
 use Rattle.qss_components.proofs.function_inputs.value_of_input.Goals as goal
-use mir.Syntax.{w64}
 
 pub returns-in-Some-clause-value : goal.returns-in-Some-clause-value
 returns-in-Some-clause-value c =

@@ -1,10 +1,7 @@
 -- The first change is kept; else the sum is compared.
-use Rattle.std.proofs.Common.{◌≡◌, sym, ◌∙◌, ap}
-use Rattle.std.proofs.lemmas.Int.{to_z-of_z}
+use Rattle.qss_components.proofs.Common.{◌∙◌, ◌≡◌, ap, of_z, sym, to_z, to_z-of_z, w128}
 use Rattle.qss_components.proofs.FunctionsTold.{change_kept, change_none, change_here}
 use Rattle.qss_components.proofs.function_model.function_change_by.Goals as goal
-use mir.Syntax.{w128}
-use mir.Val.{to_z, of_z}
 
 pub returns-in-Some : goal.returns-in-Some
 returns-in-Some c = change_kept c.args.changed c.args.tick c.in-Some.first c.args.before c.args.after c.in-Some.is

@@ -1,12 +1,9 @@
-use Rattle.std.proofs.Common.{◌≡◌, ◌+◌, ◌^◌, ◌≤◌, ◌+ℤ◌, arith, ◌∙◌, ap}
-use Rattle.std.proofs.lemmas.Int.{ints, to_z-of_z}
-use Rattle.std.specs.Int.RustNames.{unsigned_abs, FitsSigned}
-use Rattle.qss_machine.specs.Slopes.{coefficient_of}
+use Rattle.qss_components.proofs.Common
+use Common.{◌+ℤ◌, ◌+◌, ◌^◌, ◌∙◌, ◌≡◌, ◌≤◌, ap, arith, coefficient_of, FitsSigned, ints, to_z-of_z}
+use Common.{two_fit, two_sum, unsigned_abs, w64}
 use Rattle.qss_machine.proofs.Distinct.{coefficient_small}
-use Rattle.qss_machine.proofs.Loops.{two_fit, two_sum}
-use Rattle.qss_components.proofs.function_sums.function_mode.Goals as goal
 use Rattle.qss_components.proofs.function_sums.function_mode.Goals.{After-from-own}
-use mir.Syntax.{w64}
+use Rattle.qss_components.proofs.function_sums.function_mode.Goals as goal
 
 own_is : (c : After-from-own) → c.from-own.result ≡ coefficient_of c.args.row.now.entries
     c.args.input.var

@@ -1,9 +1,8 @@
-use Rattle.std.proofs.Common.{◌^◌, ◌≤◌, ◌∙◌, ap, ◌*ℤ◌, arith}
-use Rattle.std.proofs.lemmas.Int.{to_z-of_z}
-use Rattle.std.specs.Int.RustNames.{unsigned_abs, FitsSigned}
-use Rattle.qss_machine.proofs.Loops.{product_is, product_bound}
+use Rattle.qss_components.proofs.Common
+use Common.{◌*ℤ◌, ◌^◌, ◌∙◌, ◌≤◌, ap, arith, FitsSigned, product_bound, to_z-of_z, unsigned_abs}
+use Common.{w128, w64}
+use Rattle.qss_machine.proofs.Loops.{product_is}
 use Rattle.qss_components.proofs.function_sums.function_mode_term.Goals as goal
-use mir.Syntax.{w64, w128}
 
 pub returns-clause-value : goal.returns-clause-value
 returns-clause-value c =

@@ -1,13 +1,11 @@
-use Rattle.std.proofs.Common.{◌^◌, ◌≤◌, pos, arith}
+use Rattle.qss_components.proofs.Common
+use Common.{◌^◌, ◌≤◌, arith, discrete_count, FitsSigned, pos, state_count, to_z-of_z, unsigned_abs}
+use Common.{w128}
 use Rattle.std.proofs.Math.Pow.{pow_mono}
-use Rattle.std.proofs.lemmas.Int.{to_z-of_z}
-use Rattle.std.specs.Int.RustNames.{unsigned_abs, FitsSigned}
 use Rattle.mu_num.proofs.Quotients.{nearest_bound}
-use Rattle.qss_machine.specs.Machines.{state_count, discrete_count}
 use Rattle.qss_machine.proofs.Few.{products_few}
 use Rattle.qss_machine.proofs.Powers.{power_positive}
 use Rattle.qss_components.proofs.function_sums.rounded_function_products.Goals as goal
-use mir.Syntax.{w128}
 
 pub sum_function_products-sum-requires-clause-count_limit :
     goal.sum_function_products-sum-requires-clause-count_limit

@@ -1,24 +1,14 @@
 -- The sums over the inputs are the slope and the absolute row sum.
-use Rattle.std.proofs.Common.{◌≡◌, ℕ, ◌*◌, ◌^◌, ◌<◌, ◌≤◌, false, length, get_or, ℤ, ◌+ℤ◌}
-use Rattle.std.proofs.Common.{◌*ℤ◌, sym, ◌∙◌, ap, subst, arith, inl, inr}
-use Rattle.std.proofs.lemmas.Bool.{cases_lt}
-use Rattle.std.proofs.lemmas.Int.{ints, to_z-of_z}
-use Rattle.std.proofs.lemmas.List.{get_or_default}
-use Rattle.std.specs.Int.RustNames.{unsigned_abs, FitsSigned}
-use Rattle.mu_num.specs.Sizes.{exceeds}
-use Rattle.mu_num.specs.IndexedSums.{abs_of, sum_over}
-use Rattle.qss_machine.specs.declared.machine_parts.SlopeRow.{SlopeRow}
-use Rattle.qss_machine.specs.Machines.{state_count, row_at}
-use Rattle.qss_machine.specs.Slopes.{mode_coefficient}
-use Rattle.qss_machine.proofs.Loops.{sum_fits, fits_below, sum_step, sum_done}
-use Rattle.qss_components.specs.declared.function_inputs.FunctionInput.{FunctionInput}
-use Rattle.qss_components.specs.FunctionInputs.{input_discretes}
+use Rattle.qss_components.proofs.Common
+use Common.{ℕ, ℤ, ◌*ℤ◌, ◌*◌, ◌+ℤ◌, ◌<◌, ◌^◌, ◌∙◌, ◌≡◌, ◌≤◌, abs_of, ap, arith, cases_lt, exceeds}
+use Common.{false, fits_below, FitsSigned, FunctionInput, get_or, get_or_default, inl}
+use Common.{input_discretes, inr, ints, length, mode_coefficient, row_at, SlopeRow, state_count}
+use Common.{subst, sum_done, sum_over, sum_step, sym, to_z, to_z-of_z, unsigned_abs, w128, w64}
+use Rattle.qss_machine.proofs.Loops.{sum_fits}
 use Rattle.qss_components.proofs.InputPlaces.{no_input, inputs_few}
-use Rattle.qss_components.proofs.InputSums.{right_side, is_row, mode_at, all_fit, one_exceeds, over_mode}
-use Rattle.qss_components.proofs.InputSums.{over_weight, within_limits}
+use Rattle.qss_components.proofs.InputSums.{right_side, is_row, mode_at, all_fit, one_exceeds}
+use Rattle.qss_components.proofs.InputSums.{over_mode, over_weight, within_limits}
 use Rattle.qss_components.proofs.function_sums.slope_at_inputs.Goals as goal
-use mir.Syntax.{w64, w128}
-use mir.Val.{to_z}
 
 pub returns-then-exceeds_power_of_two : goal.returns-then-exceeds_power_of_two
 returns-then-exceeds_power_of_two c =

@@ -1,10 +1,7 @@
-use Rattle.std.proofs.Common.{◌≡◌, ℕ, ◌*◌, ◌^◌, ◌≤◌, ◌<◌, false, get_or, take, unsigned_abs, ◌*ℤ◌}
-use Rattle.mu_num.specs.Sizes.{exceeds}
-use Rattle.mu_num.specs.IndexedSums.{abs_of, sum_over}
-use Rattle.qss_machine.specs.Machines.{state_count, row_at}
-use Rattle.qss_machine.specs.Slopes.{mode_coefficient}
-use Rattle.qss_components.specs.declared.function_inputs.FunctionInput.{FunctionInput}
-use Rattle.qss_components.specs.FunctionInputs.{input_discretes}
+use Rattle.qss_components.proofs.Common
+use Common.{ℕ, ◌*ℤ◌, ◌*◌, ◌<◌, ◌^◌, ◌≡◌, ◌≤◌, abs_of, exceeds, false, FunctionInput, get_or}
+use Common.{input_discretes, mode_coefficient, row_at, state_count, sum_over, take}
+use Rattle.std.proofs.Common.{unsigned_abs}
 use Rattle.qss_components.proofs.function_sums.slope_at_inputs.Given as goal
 
 -- the sums over the inputs so far, of which each changes them by at most 2 ^ 87; no mode

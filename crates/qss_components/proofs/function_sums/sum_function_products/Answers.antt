@@ -1,22 +1,16 @@
 -- The halving ends at the first product of the state.
-use Rattle.std.proofs.Common.{rules, ◌≡◌, ◌+◌, ◌-◌, ◌*◌, ◌^◌, ◌<◌, ◌≤◌, ◌≢◌, true, false, length, get_or}
-use Rattle.std.proofs.Common.{pos, ◌*ℤ◌, arith, sym, ◌∙◌, ap, add-zero, List, ℤ}
-use Rattle.std.proofs.lemmas.Bool.Decides.{nat_tests}
-use Rattle.std.proofs.lemmas.List.{take_all}
+use Rattle.qss_components.proofs.Common
+use Common.{ℤ, ◌*ℤ◌, ◌*◌, ◌+◌, ◌-◌, ◌<◌, ◌==◌, ◌^◌, ◌∙◌, ◌≡◌, ◌≢◌, ◌≤◌, ap, arith, discrete_count}
+use Common.{eqb-yes, false, get_or, if-true, if◌then◌else◌, input_discretes, int_at, length, List}
+use Common.{nat_lt, nat_tests, pos, Product, products_of, rules, state_count, sum_step, sym}
+use Common.{take_all, to_z, true, w128}
+use Rattle.std.proofs.Common.{add-zero}
 use Rattle.std.proofs.lemmas.List.Sorted.{IsPartitionPoint-from_clause}
-use Rattle.std.specs.Prelude.{if◌then◌else◌, nat_lt, ◌==◌, unsigned_abs}
-use Rattle.mu_num.proofs.Tests.{if-true, eqb-yes}
-use Rattle.qss_machine.specs.declared.machine_parts.Product.{Product}
-use Rattle.mu_num.specs.IndexedSums.{int_at}
-use Rattle.qss_machine.specs.Machines.{state_count, discrete_count}
-use Rattle.qss_machine.specs.Slopes.{products_of}
-use Rattle.qss_machine.proofs.Loops.{sum_step}
-use Rattle.qss_components.specs.FunctionInputs.{input_discretes}
+use Rattle.std.specs.Prelude.{unsigned_abs}
 use Rattle.qss_components.proofs.InputValues.{discrete_value}
-use Rattle.qss_components.proofs.ProductRuns.{rest_at, rest_long, lesser_first, none_before, sum_ends}
+use Rattle.qss_components.proofs.ProductRuns.{rest_at, rest_long, lesser_first, none_before}
+use Rattle.qss_components.proofs.ProductRuns.{sum_ends}
 use Rattle.qss_components.proofs.function_sums.sum_function_products.Goals as goal
-use mir.Syntax.{w128}
-use mir.Val.{to_z}
 
 pub loop-product-init : goal.loop-product-init
 loop-product-init c =

@@ -1,8 +1,7 @@
-use Rattle.std.proofs.Common.{◌≡◌, ℕ, ◌+◌, ◌*◌, ◌^◌, ◌≤◌, ◌<◌, length, get_or, take, unsigned_abs}
-use Rattle.qss_machine.specs.declared.machine_parts.Product.{Product}
-use Rattle.qss_machine.specs.Machines.{state_count}
-use Rattle.qss_machine.specs.Slopes.{products_of}
-use Rattle.qss_components.specs.FunctionInputs.{input_discretes}
+use Rattle.qss_components.proofs.Common
+use Common.{ℕ, ◌*◌, ◌+◌, ◌<◌, ◌^◌, ◌≡◌, ◌≤◌, get_or, input_discretes, length, Product, products_of}
+use Common.{state_count, take}
+use Rattle.std.proofs.Common.{unsigned_abs}
 use Rattle.qss_components.proofs.function_sums.sum_function_products.Given as goal
 
 -- the sum over the products so far, of which those before the first of the state add nothing

@@ -1,8 +1,6 @@
 -- The integrator with a number makes its transition.
-use Rattle.std.proofs.Common.{◌≡◌, get_or, refl, subst}
-use Rattle.std.proofs.lemmas.List.{get_or_default}
-use Rattle.qss_components.specs.declared.integrator_model.IntegratorModel.{IntegratorModel}
-use Rattle.qss_components.specs.declared.atomic.Message.{Message}
+use Rattle.qss_components.proofs.Common
+use Common.{get_or, get_or_default, IntegratorModel, Message, refl, subst}
 use Rattle.qss_components.specs.Transitions.{MaySend, IsTransitionMade}
 use Rattle.qss_components.proofs.NamedSends.{one_sent, may_send}
 use Rattle.qss_components.proofs.integrator_list.make_integrator_transition.Goals as goal

@@ -1,9 +1,6 @@
 -- The integrator of a state receives the message.
-use Rattle.std.proofs.Common.{get_or, sym, refl, subst}
-use Rattle.std.proofs.lemmas.List.{get_or_default}
-use Rattle.qss_machine.specs.declared.compiled_machine.Machine.{Machine}
-use Rattle.qss_components.specs.declared.integrator_model.IntegratorModel.{IntegratorModel}
-use Rattle.qss_components.specs.Messages.{IsMessage}
+use Rattle.qss_components.proofs.Common
+use Common.{get_or, get_or_default, IntegratorModel, IsMessage, Machine, refl, subst, sym}
 use Rattle.qss_components.specs.ComponentModels.{IsGivenLine}
 use Rattle.qss_components.proofs.integrator_list.send_to_integrator_model.Goals as goal
 

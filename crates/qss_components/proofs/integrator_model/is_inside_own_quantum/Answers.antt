@@ -1,13 +1,11 @@
 -- The unit and the quantum are the machine's.
-use Rattle.std.proofs.Common.{◌≡◌, pos, ℤ, ◌-ℤ◌, ◌*ℤ◌, sym, ◌∙◌, ap, subst}
-use Rattle.std.proofs.lemmas.Int.{to_z-of_z}
-use Rattle.std.specs.Int.RustNames.{unsigned_abs, int_lt, FitsSigned}
+use Rattle.qss_components.proofs.Common
+use Common.{ℤ, ◌*ℤ◌, ◌-ℤ◌, ◌∙◌, ◌≡◌, ap, FitsSigned, int_lt, level_unit, pos, quantum_of, subst}
+use Common.{sym, to_z-of_z, unsigned_abs, w128, w64}
 use Rattle.mu_num.specs.Sizes.{IsPositiveWithin}
-use Rattle.qss_machine.specs.Machines.{level_unit, quantum_of}
 use Rattle.qss_machine.proofs.Near.{unit_fits}
 use Rattle.qss_events.proofs.Ranges.{quantum_fits}
 use Rattle.qss_components.proofs.integrator_model.is_inside_own_quantum.Goals as goal
-use mir.Syntax.{w64, w128}
 
 pub is_inside_quantum-requires-clause-quantum : goal.is_inside_quantum-requires-clause-quantum
 is_inside_quantum-requires-clause-quantum c =

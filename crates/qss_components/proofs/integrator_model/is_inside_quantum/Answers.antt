@@ -1,9 +1,7 @@
 -- The tests of the code are those of the definition.
-use Rattle.std.proofs.Common.{◌≡◌, pos, ℤ, ◌-ℤ◌, ◌*ℤ◌, ◌∙◌, ap}
-use Rattle.std.proofs.lemmas.Int.{to_z-of_z}
-use Rattle.std.specs.Int.RustNames.{unsigned_abs, int_lt, FitsSigned}
+use Rattle.qss_components.proofs.Common
+use Common.{ℤ, ◌*ℤ◌, ◌-ℤ◌, ◌∙◌, ◌≡◌, ap, FitsSigned, int_lt, pos, to_z-of_z, unsigned_abs, w128}
 use Rattle.qss_components.proofs.integrator_model.is_inside_quantum.Goals as goal
-use mir.Syntax.{w128}
 
 pub returns : goal.returns
 returns c =

@@ -1,15 +1,9 @@
 -- If the line leaves its quantum, the next level is allowed by the rule.
-use Rattle.std.proofs.Common.{sym, ◌∙◌, ap, subst, arith}
-use Rattle.std.proofs.lemmas.Int.{ints, to_z-of_z}
-use Rattle.std.specs.Int.RustNames.{FitsSigned}
-use Rattle.mu_num.specs.Sizes.{IsWithin}
-use Rattle.qss_machine.specs.Ticks.{IsNextLevel}
-use Rattle.qss_quant.specs.IntegratorLines.{Line, IsLine, state_at}
-use Rattle.qss_events.specs.AllowedLevels.{IsAllowedLevel}
+use Rattle.qss_components.proofs.Common
+use Common.{◌∙◌, ap, arith, FitsSigned, ints, IsAllowedLevel, IsLine, IsNextLevel, IsWithin, Line}
+use Common.{of_z, state_at, subst, sym, to_z, to_z-of_z, w128, w64}
 use Rattle.qss_components.proofs.Leaving.{reached, answer_at}
 use Rattle.qss_components.proofs.integrator_model.level_on_leaving.Goals as goal
-use mir.Syntax.{w64, w128}
-use mir.Val.{to_z, of_z}
 
 pub value_at-x-requires-clause-later : goal.value_at-x-requires-clause-later
 value_at-x-requires-clause-later g c =

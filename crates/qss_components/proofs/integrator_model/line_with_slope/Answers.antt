@@ -1,11 +1,8 @@
 -- Only the slope is another.
-use Rattle.std.proofs.Common.{sym, ◌∙◌, ap, subst, arith}
-use Rattle.std.proofs.lemmas.Int.{ints}
-use Rattle.std.specs.Int.RustNames.{FitsSigned}
-use Rattle.qss_quant.specs.IntegratorLines.{Line, IsLine}
+use Rattle.qss_components.proofs.Common
+use Common.{◌∙◌, ap, arith, FitsSigned, ints, IsLine, Line, subst, sym, w128, w64}
 use Rattle.qss_components.proofs.Lines.{line_at, line_is}
 use Rattle.qss_components.proofs.integrator_model.line_with_slope.Goals as goal
-use mir.Syntax.{w64, w128}
 
 pub invariant_of-result : goal.invariant_of-result
 invariant_of-result c =

@@ -1,17 +1,10 @@
 -- Where the state is near its level, the next transition is where it leaves that quantum; else it is here.
-use Rattle.std.proofs.Common.{◌≡◌, true, false, ℤ, sym, ◌∙◌, ap, subst, arith, Some}
-use Rattle.std.proofs.lemmas.Int.{ints, to_z-of_z}
-use Rattle.std.specs.Int.RustNames.{FitsSigned}
-use Rattle.std.specs.Prelude.{MatchBool}
-use Rattle.mu_num.specs.Ticks.{FirstAfter}
-use Rattle.mu_num.proofs.Tests.{int_lt-true}
-use Rattle.qss_machine.specs.Ticks.{is_within_quantum}
-use Rattle.qss_quant.specs.IntegratorLines.{Line, IsLine}
-use Rattle.qss_events.specs.Schedules.{LeavesAt}
+use Rattle.qss_components.proofs.Common
+use Common.{ℤ, ◌∙◌, ◌≡◌, ap, arith, false, FirstAfter, FitsSigned, int_lt-true, ints}
+use Common.{is_within_quantum, IsLine, LeavesAt, Line, MatchBool, of_z, Some, subst, sym, to_z}
+use Common.{to_z-of_z, true, w128, w64}
 use Rattle.qss_components.proofs.Leaving.{next_one}
 use Rattle.qss_components.proofs.integrator_model.next_transition_tick.Goals as goal
-use mir.Syntax.{w64, w128}
-use mir.Val.{to_z, of_z}
 
 pub event_tick_leaving_level-requires-clause-near : goal.event_tick_leaving_level-requires-clause-near
 event_tick_leaving_level-requires-clause-near c =

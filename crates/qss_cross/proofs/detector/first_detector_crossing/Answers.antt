@@ -1,10 +1,7 @@
 -- The value crosses on the side on which it is.
-use Rattle.std.proofs.Common.{pos, ◌-ℤ◌, ◌<ℤ◌, ◌≤ℤ◌, arith}
-use Rattle.std.proofs.lemmas.Int.{ints, to_z-of_z}
-use Rattle.std.specs.Int.RustNames.{FitsSigned}
+use Rattle.qss_cross.proofs.Common.{◌-ℤ◌, ◌<ℤ◌, ◌≤ℤ◌, arith, FitsSigned, ints, pos, to_z-of_z, w128}
 use Rattle.qss_cross.proofs.Across.{across_down, across_up}
 use Rattle.qss_cross.proofs.detector.first_detector_crossing.Goals as goal
-use mir.Syntax.{w128}
 
 pub returns-then-value-bound : goal.returns-then-value-bound
 returns-then-value-bound c =

@@ -1,10 +1,9 @@
 -- To wrap on the way changes nothing.
-use Rattle.std.proofs.Common.{◌≡◌, ◌∙◌, ap, arith, pos, ◌+ℤ◌, ◌*ℤ◌}
+use Rattle.qss_cross.proofs.Common
+use Common.{◌*ℤ◌, ◌+ℤ◌, ◌∙◌, ◌≡◌, ap, arith, FitsSigned, ints, pos, to_z-of_z, w128}
 use Rattle.std.specs.Int.{int_wrap}
-use Rattle.std.specs.Int.RustNames.{FitsSigned}
-use Rattle.std.proofs.lemmas.Int.{ints, to_z-of_z, int_wrap_fits, int_wrap-add_right, wrapping_add_is}
+use Rattle.std.proofs.lemmas.Int.{int_wrap_fits, int_wrap-add_right, wrapping_add_is}
 use Rattle.qss_cross.proofs.detector.move_detector_value.Goals as goal
-use mir.Syntax.{w128}
 
 pub returns : goal.returns
 returns c =

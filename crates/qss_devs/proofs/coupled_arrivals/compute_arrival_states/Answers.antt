@@ -1,9 +1,6 @@
 -- The first of the states that passes its limit.
-use Rattle.std.proofs.Common.{length, ◌∙◌, ap, arith}
-use Rattle.std.proofs.lemmas.List.{length-map}
-use Rattle.mu_num.specs.IndexedSums.{first_exceeding}
-use Rattle.qss_quant.specs.IntegratorLines.{state_at}
-use Rattle.qss_components.specs.declared.integrator_model.IntegratorModel.{IntegratorModel}
+use Rattle.qss_devs.proofs.Common
+use Common.{◌∙◌, ap, arith, first_exceeding, IntegratorModel, length, length-map, state_at}
 use Rattle.qss_devs.proofs.coupled_arrivals.compute_arrival_states.Goals as goal
 
 pub first_number_exceeding-requires-clause-count_limit : goal.first_number_exceeding-requires-clause-count_limit

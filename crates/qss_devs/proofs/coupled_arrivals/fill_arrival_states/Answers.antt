@@ -1,14 +1,8 @@
 -- One more state, and all of them.
-use Rattle.std.proofs.Common.{◌≡◌, ◌<◌, List, ℤ, length, map, pos, sym, ◌∙◌, arith}
-use Rattle.std.proofs.lemmas.Int.{to_z-of_z}
-use Rattle.std.proofs.lemmas.List.{length-map, length-set}
-use Rattle.std.specs.Int.RustNames.{FitsSigned}
-use Rattle.mu_num.specs.IndexedSums.{int_at}
-use Rattle.qss_quant.specs.IntegratorLines.{state_at}
-use Rattle.qss_events.proofs.Firsts.{one_more, same_lists}
-use Rattle.qss_components.specs.declared.integrator_model.IntegratorModel.{IntegratorModel}
+use Rattle.qss_devs.proofs.Common
+use Common.{ℤ, ◌<◌, ◌∙◌, ◌≡◌, arith, FitsSigned, int_at, IntegratorModel, length, length-map}
+use Common.{length-set, List, map, one_more, pos, same_lists, state_at, sym, to_z-of_z, w128}
 use Rattle.qss_devs.proofs.coupled_arrivals.fill_arrival_states.Goals as goal
-use mir.Syntax.{w128}
 
 pub loop-j-preserved : goal.loop-j-preserved
 loop-j-preserved g c =

@@ -1,6 +1,4 @@
-use Rattle.std.proofs.Common.{◌≡◌, ℕ, ◌<◌, length, map}
-use Rattle.mu_num.specs.IndexedSums.{int_at}
-use Rattle.qss_quant.specs.IntegratorLines.{state_at}
+use Rattle.qss_devs.proofs.Common.{ℕ, ◌<◌, ◌≡◌, int_at, length, map, state_at}
 use Rattle.qss_devs.proofs.coupled_arrivals.fill_arrival_states.Given as goal
 
 -- the states so far

@@ -1,15 +1,8 @@
 -- One more crossing is read.
-use Rattle.std.proofs.Common.{◌≡◌, ◌<◌, List, length, get_or, map, false, refl, sym, ◌∙◌, ap, subst}
-use Rattle.std.proofs.Common.{arith}
-use Rattle.std.proofs.lemmas.List.{get_or-map, get_or-set_other, length-map, length-set}
-use Rattle.mu_num.specs.ListedPlaces.{flag_at}
-use Rattle.qss_machine.specs.Machines.{compares}
-use Rattle.qss_cross.specs.Crossing.{holds_at}
-use Rattle.qss_events.proofs.Firsts.{one_more, same_lists}
-use Rattle.qss_components.specs.declared.crossing_model.CrossingModel.{CrossingModel}
-use Rattle.qss_components.specs.Messages.{IsTimely}
-use Rattle.qss_components.specs.Crossings.{IsCrossingNext, IsRead}
-use Rattle.qss_components.specs.ComponentModels.{crossing_of}
+use Rattle.qss_devs.proofs.Common
+use Common.{◌<◌, ◌∙◌, ◌≡◌, ap, arith, compares, crossing_of, CrossingModel, false, flag_at, get_or}
+use Common.{get_or-map, get_or-set_other, holds_at, IsCrossingNext, IsRead, IsTimely, length}
+use Common.{length-map, length-set, List, map, one_more, refl, same_lists, subst, sym}
 use Rattle.qss_devs.proofs.Readings.{none_read, read_more}
 use Rattle.qss_devs.proofs.coupled_arrivals.read_all_on_arrival.Goals as goal
 

@@ -1,6 +1,4 @@
-use Rattle.std.proofs.Common.{◌≡◌, ℕ, ◌≤◌, ◌<◌, length, map}
-use Rattle.mu_num.specs.ListedPlaces.{flag_at}
-use Rattle.qss_cross.specs.Crossing.{holds_at}
+use Rattle.qss_devs.proofs.Common.{ℕ, ◌<◌, ◌≡◌, ◌≤◌, flag_at, holds_at, length, map}
 use Rattle.qss_devs.proofs.Readings.{AreReadUpTo}
 use Rattle.qss_devs.proofs.coupled_arrivals.read_all_on_arrival.Given as goal
 

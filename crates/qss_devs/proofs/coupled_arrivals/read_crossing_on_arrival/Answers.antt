@@ -1,10 +1,7 @@
 -- A crossing that changes at the tick makes its transition; another holds as it did.
-use Rattle.std.proofs.Common.{◌≡◌, ◌≢◌, ℕ, ◌≤◌, inl, inr, refl, sym, ◌∙◌, subst, arith}
-use Rattle.std.specs.Prelude.{Some}
-use Rattle.qss_cross.specs.Crossing.{holds_at}
-use Rattle.qss_components.specs.declared.atomic.Message.TheVariants.{Truth}
-use Rattle.qss_components.specs.Messages.{HasSmallLevel}
-use Rattle.qss_components.specs.Crossings.{IsCrossingNext}
+use Rattle.qss_devs.proofs.Common
+use Common.{ℕ, ◌∙◌, ◌≡◌, ◌≢◌, ◌≤◌, arith, HasSmallLevel, holds_at, inl, inr, IsCrossingNext, refl}
+use Common.{Some, subst, sym, Truth}
 use Rattle.qss_components.proofs.Standing.{still_holds}
 use Rattle.qss_devs.proofs.Readings.{message_is}
 use Rattle.qss_devs.proofs.coupled_arrivals.read_crossing_on_arrival.Goals as goal

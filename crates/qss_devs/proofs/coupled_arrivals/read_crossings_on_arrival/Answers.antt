@@ -1,17 +1,8 @@
 -- The crossings of all conditions are read.
-use Rattle.std.proofs.Common.{◌≡◌, ℕ, ◌<◌, List, length, get_or, map, All, false, refl, sym, ◌∙◌}
-use Rattle.std.proofs.Common.{ap, subst, arith}
-use Rattle.std.proofs.lemmas.List.{with_items_is}
-use Rattle.std.specs.Prelude.{Some}
-use Rattle.std.specs.Vec.{with_items}
-use Rattle.mu_num.specs.ListedPlaces.{flag_at}
-use Rattle.qss_machine.specs.Machines.{compares}
-use Rattle.qss_cross.specs.Crossing.{holds_at}
-use Rattle.qss_components.specs.declared.crossing_model.CrossingModel.{CrossingModel}
-use Rattle.qss_components.specs.Messages.{IsTimely}
-use Rattle.qss_components.specs.Crossings.{Crossing, IsCrossingNext, IsRead}
-use Rattle.qss_components.specs.ComponentModels.{crossing_of}
-use Rattle.qss_devs.specs.Coupling.{no_crossing}
+use Rattle.qss_devs.proofs.Common
+use Common.{ℕ, ◌<◌, ◌∙◌, ◌≡◌, All, ap, arith, compares, Crossing, crossing_of, CrossingModel, false}
+use Common.{flag_at, get_or, holds_at, IsCrossingNext, IsRead, IsTimely, length, List, map}
+use Common.{no_crossing, refl, Some, subst, sym, with_items, with_items_is}
 use Rattle.qss_devs.proofs.Coasting.{at_twice}
 use Rattle.qss_devs.proofs.ReadParts.{crossings_timely, crossings_hold, read_components, read_agree}
 use Rattle.qss_devs.proofs.ReadParts.{read_later}

@@ -1,10 +1,7 @@
 -- One more truth, and all of them.
-use Rattle.std.proofs.Common.{◌≡◌, ◌<◌, List, Bool, false, length, map, sym, ◌∙◌, arith}
-use Rattle.std.proofs.lemmas.List.{length-map, length-set}
-use Rattle.mu_num.specs.ListedPlaces.{flag_at}
-use Rattle.qss_machine.specs.Machines.{compares}
-use Rattle.qss_events.proofs.Firsts.{one_more, same_lists}
-use Rattle.qss_components.specs.declared.crossing_model.CrossingModel.{CrossingModel}
+use Rattle.qss_devs.proofs.Common
+use Common.{◌<◌, ◌∙◌, ◌≡◌, arith, Bool, compares, CrossingModel, false, flag_at, length, length-map}
+use Common.{length-set, List, map, one_more, same_lists, sym}
 use Rattle.qss_devs.proofs.coupled_arrivals.settle_all_arrival_truths.Goals as goal
 
 pub loop-place-preserved : goal.loop-place-preserved

@@ -1,6 +1,4 @@
-use Rattle.std.proofs.Common.{◌≡◌, ℕ, ◌<◌, length, map}
-use Rattle.mu_num.specs.ListedPlaces.{flag_at}
-use Rattle.qss_machine.specs.Machines.{compares}
+use Rattle.qss_devs.proofs.Common.{ℕ, ◌<◌, ◌≡◌, compares, flag_at, length, map}
 use Rattle.qss_devs.proofs.coupled_arrivals.settle_all_arrival_truths.Given as goal
 
 -- the truths so far

@@ -1,12 +1,8 @@
 -- The line's state is the one of its number.
-use Rattle.std.proofs.Common.{pos, sym, ◌∙◌, arith}
-use Rattle.std.proofs.lemmas.Int.{to_z-of_z}
-use Rattle.std.proofs.lemmas.List.{get_or-map}
-use Rattle.std.specs.Int.RustNames.{FitsSigned}
-use Rattle.qss_quant.specs.IntegratorLines.{state_at}
-use Rattle.qss_components.specs.declared.integrator_model.IntegratorModel.{IntegratorModel}
+use Rattle.qss_devs.proofs.Common
+use Common.{◌∙◌, arith, FitsSigned, get_or-map, IntegratorModel, pos, state_at, sym, to_z-of_z}
+use Common.{w128}
 use Rattle.qss_devs.proofs.coupled_arrivals.state_of_line_at.Goals as goal
-use mir.Syntax.{w128}
 
 pub value_at-requires-clause-later : goal.value_at-requires-clause-later
 value_at-requires-clause-later g c = c.requires.not_later c.args.j c.index-integrators-j.result c.requires.known

@@ -1,16 +1,15 @@
 -- Each clause runs; an overflow ends the loop.
-use Rattle.std.proofs.Common.{◌≡◌, ◌+◌, ◌<◌, ◌≤◌, List, Bool, length, drop, [], sym, ◌∙◌, ap, arith}
+use Rattle.qss_devs.proofs.Common
+use Common.{[], ◌+◌, ◌<◌, ◌∙◌, ◌≡◌, ◌≤◌, ap, arith, Bool, clause_at, conditions_few, drop, Err}
+use Common.{firing_flags, flags_from, HandlerState, handling_of, length, List, run_clauses}
+use Common.{sum_by_more, sym, values_after}
 use Rattle.std.proofs.Common.{rules}
 use Rattle.std.proofs.lemmas.List.{drop_all}
-use Rattle.std.proofs.lemmas.List.Sums.{sum_by_more}
-use Rattle.std.specs.Prelude.{Err}
 use Rattle.qss_machine.specs.declared.machine_parts.ClauseInfo.{ClauseInfo}
-use Rattle.qss_machine.specs.Handlers.{HandlerState, firing_flags, run_clauses}
 use Rattle.qss_hand.specs.Values.{Values}
-use Rattle.qss_hand.specs.Works.{handling_of, values_after, overflow_of, clause_at}
+use Rattle.qss_hand.specs.Works.{overflow_of}
 use Rattle.qss_hand.proofs.AfterStatements.{from_start, all_done}
-use Rattle.qss_hand.proofs.Turns.{conditions_few, clauses_few, room-drop, rows_turn}
-use Rattle.qss_devs.specs.Flags.{flags_from}
+use Rattle.qss_hand.proofs.Turns.{clauses_few, room-drop, rows_turn}
 use Rattle.qss_devs.proofs.DueFlags.{turn_within, turn, turn_done, turn_over}
 use Rattle.qss_devs.proofs.coupled_branches.fire_all_clauses.Goals as goal
 

@@ -1,7 +1,6 @@
-use Rattle.std.proofs.Common.{◌≡◌, ◌+◌, ◌≤◌, length, drop}
-use Rattle.qss_machine.specs.Firing.{first_place}
-use Rattle.qss_machine.specs.Handlers.{firing_flags, run_clauses}
-use Rattle.qss_hand.specs.Works.{AreValuesOf, handling_of, row_room}
+use Rattle.qss_devs.proofs.Common
+use Common.{◌+◌, ◌≡◌, ◌≤◌, AreValuesOf, drop, firing_flags, first_place, handling_of, length}
+use Common.{row_room, run_clauses}
 use Rattle.qss_devs.proofs.coupled_branches.fire_all_clauses.Given as goal
 
 -- the clauses so far ran, and none overflowed

@@ -1,10 +1,9 @@
 -- The rows of the handlers may be sent, and there is room for them.
-use Rattle.std.proofs.Common.{List, Bool, length, All, sym, ◌∙◌, ap, subst, arith}
-use Rattle.qss_machine.specs.Handlers.{firing_flags}
+use Rattle.qss_devs.proofs.Common
+use Common.{◌∙◌, All, ap, arith, Bool, firing_flags, handling_of, IsToldMessage, length, List}
+use Common.{subst, sym}
 use Rattle.qss_hand.specs.Values.{Values}
-use Rattle.qss_hand.specs.Works.{handling_of}
 use Rattle.qss_hand.proofs.Turns.{rows_clauses}
-use Rattle.qss_devs.specs.CoupledSteps.{IsToldMessage}
 use Rattle.qss_devs.proofs.ToldRows.{rows_are_told}
 use Rattle.qss_devs.proofs.coupled_branches.fire_clauses_on_arrival.Goals as goal
 

@@ -1,18 +1,16 @@
 -- The first due branch fires, and without one nothing changes.
-use Rattle.std.proofs.Common.{◌≡◌, ◌+◌, ◌≤◌, false, length, List, Bool, pos, sym, ◌∙◌, ap, arith}
+use Rattle.qss_devs.proofs.Common
+use Common.{◌+◌, ◌∙◌, ◌≡◌, ◌≤◌, Action, ap, arith, Bool, branch_at, clause_at, false, firing_flags}
+use Common.{flags_from, HandlerState, handling_of, length, length-due_flags, List, None}
+use Common.{run_first_due, Some, sym, values_after}
 use Rattle.std.proofs.lemmas.List.Quantifiers.{position-Some}
 use Rattle.std.proofs.lemmas.List.Sums.{get_or-le-sum_by}
 use Rattle.std.specs.List.{position}
-use Rattle.std.specs.Prelude.{Some, None}
-use Rattle.qss_machine.specs.declared.machine_parts.Action.{Action}
 use Rattle.qss_machine.specs.declared.machine_parts.BranchInfo.{BranchInfo}
-use Rattle.qss_machine.specs.Handlers.{HandlerState, firing_flags, run_branch, run_first_due}
+use Rattle.qss_machine.specs.Handlers.{run_branch}
 use Rattle.qss_hand.specs.Values.{Values}
-use Rattle.qss_hand.specs.Works.{handling_of, values_after, clause_at, branch_at}
 use Rattle.qss_hand.proofs.Turns.{first_fires, none_due}
 use Rattle.qss_hand.proofs.Branches.{no_branch}
-use Rattle.qss_events.proofs.Flags.{length-due_flags}
-use Rattle.qss_devs.specs.Flags.{flags_from}
 use Rattle.qss_devs.proofs.DueFlags.{length-flags, none_set}
 use Rattle.qss_devs.proofs.coupled_branches.fire_coupled_branch.Goals as goal
 

@@ -1,10 +1,8 @@
 -- The first flag that is set.
-use Rattle.std.proofs.Common.{◌≡◌, ◌<◌, List, Bool, length, false, sym, ◌∙◌, arith, below_more}
-use Rattle.qss_machine.specs.Handlers.{firing_flags}
-use Rattle.qss_events.proofs.Firsts.{first_is}
-use Rattle.qss_events.proofs.Ranges.{position-none}
-use Rattle.qss_events.proofs.Flags.{length-due_flags}
-use Rattle.qss_devs.specs.Flags.{flags_from}
+use Rattle.qss_devs.proofs.Common
+use Common.{◌<◌, ◌∙◌, ◌≡◌, arith, Bool, false, firing_flags, first_is, flags_from, length}
+use Common.{length-due_flags, List, position-none, sym}
+use Rattle.std.proofs.Common.{below_more}
 use Rattle.qss_devs.proofs.DueFlags.{length-flags, flag_from}
 use Rattle.qss_devs.proofs.coupled_branches.first_due_coupled_branch.Goals as goal
 

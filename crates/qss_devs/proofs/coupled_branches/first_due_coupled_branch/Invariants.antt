@@ -1,6 +1,4 @@
-use Rattle.std.proofs.Common.{◌≡◌, ℕ, ◌<◌, ◌+◌, false}
-use Rattle.mu_num.specs.ListedPlaces.{flag_at}
-use Rattle.qss_machine.specs.Handlers.{firing_flags}
+use Rattle.qss_devs.proofs.Common.{ℕ, ◌+◌, ◌<◌, ◌≡◌, false, firing_flags, flag_at}
 use Rattle.qss_devs.proofs.coupled_branches.first_due_coupled_branch.Given as goal
 
 -- none so far

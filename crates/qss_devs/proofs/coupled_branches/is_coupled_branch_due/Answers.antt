@@ -1,12 +1,10 @@
 -- A branch is due as the three truths of its condition say.
-use Rattle.std.proofs.Common.{◌≡◌, Bool, true, false, ◌&&◌, refl, sym, ◌∙◌}
-use Rattle.std.specs.Prelude.{not}
-use Rattle.mu_num.specs.ListedPlaces.{flag_at}
-use Rattle.qss_machine.specs.Handlers.{firing_flags}
+use Rattle.qss_devs.proofs.Common
+use Common.{◌&&◌, ◌∙◌, ◌≡◌, Bool, false, firing_flags, flag_at, not, refl, sym, true}
 use Rattle.qss_devs.proofs.DueFlags.{due_of}
-use Rattle.qss_devs.proofs.coupled_branches.is_coupled_branch_due.Goals as goal
 use Rattle.qss_devs.proofs.coupled_branches.is_coupled_branch_due.Goals.{then-at_arrival-place}
 use Rattle.qss_devs.proofs.coupled_branches.is_coupled_branch_due.Goals.{else-at_arrival-place}
+use Rattle.qss_devs.proofs.coupled_branches.is_coupled_branch_due.Goals as goal
 
 pub returns-after-at_arrival-place : goal.returns-after-at_arrival-place
 returns-after-at_arrival-place c =

@@ -1,8 +1,7 @@
 -- One more row.
-use Rattle.std.proofs.Common.{◌≤◌, sym, ◌∙◌, ap, subst, arith}
-use Rattle.qss_quant.specs.IntegratorLines.{state_at}
-use Rattle.qss_events.proofs.EndRows.{state_row, row_more}
-use Rattle.qss_components.specs.declared.integrator_model.IntegratorModel.{IntegratorModel}
+use Rattle.qss_devs.proofs.Common
+use Common.{◌∙◌, ◌≤◌, ap, arith, IntegratorModel, state_at, state_row, subst, sym}
+use Rattle.qss_events.proofs.EndRows.{row_more}
 use Rattle.qss_devs.proofs.WorldRows.{levels_in, states_in, row_of}
 use Rattle.qss_devs.proofs.coupled_events.add_component_rows.Goals as goal
 

@@ -1,7 +1,5 @@
-use Rattle.std.proofs.Common.{◌≡◌, ◌+◌, ◌++◌, map}
-use Rattle.std.specs.List.{range_with_len}
-use Rattle.std.specs.Prelude.{vec_len, vec_capacity}
-use Rattle.qss_events.proofs.EndRows.{state_row}
+use Rattle.qss_devs.proofs.Common
+use Common.{◌++◌, ◌+◌, ◌≡◌, map, range_with_len, state_row, vec_capacity, vec_len}
 use Rattle.qss_devs.proofs.WorldRows.{levels_in, states_in}
 use Rattle.qss_devs.proofs.coupled_events.add_component_rows.Given as goal
 

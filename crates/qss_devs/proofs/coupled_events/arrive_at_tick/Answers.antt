@@ -1,11 +1,8 @@
 -- The states are written in place.
-use Rattle.std.proofs.Common.{◌≡◌, List, length, map, ℤ, sym, ◌∙◌, ap}
-use Rattle.std.proofs.lemmas.List.{length-map, with_items_is}
-use Rattle.std.specs.Prelude.{vec_capacity}
-use Rattle.std.specs.Vec.{with_items}
-use Rattle.qss_quant.specs.IntegratorLines.{state_at}
+use Rattle.qss_devs.proofs.Common
+use Common.{ℤ, ◌∙◌, ◌≡◌, ap, IntegratorModel, length, length-map, List, map, state_at, sym}
+use Common.{vec_capacity, with_items, with_items_is}
 use Rattle.qss_hand.specs.Values.{Values}
-use Rattle.qss_components.specs.declared.integrator_model.IntegratorModel.{IntegratorModel}
 use Rattle.qss_devs.proofs.coupled_events.arrive_at_tick.Goals as goal
 
 pub compute_arrival_states-requires-clause-same_length : goal.compute_arrival_states-requires-clause-same_length

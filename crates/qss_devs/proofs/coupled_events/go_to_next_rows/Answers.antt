@@ -1,13 +1,12 @@
 -- Event steps without rows are silent; the first with rows is the next event.
-use Rattle.std.proofs.Common.{◌≡◌, ◌++◌, ◌∷◌, [], true, false, refl, sym, ◌∙◌, ap, subst, arith}
-use Rattle.qss_machine.specs.Ticks.{IsStep, snapshot_unless}
-use Rattle.qss_machine.specs.declared.machine_parts.RowKind.TheVariants as kind
-use Rattle.qss_machine.specs.Runs.{last_snapshot, snapshot_rows}
-use Rattle.qss_events.specs.AllowedLevels.{IsAllowedLevel}
-use Rattle.qss_events.specs.EventFreeRuns.{AreEventFree, IsVisit}
+use Rattle.qss_devs.proofs.Common
+use Common.{[], ◌++◌, ◌∙◌, ◌∷◌, ◌≡◌, ap, AreEventFree, arith, false, IsAllowedLevel, IsStep, refl}
+use Common.{snapshot_of, snapshot_rows, snapshot_unless, StoreRepresents, subst, sym, true}
+use Rattle.qss_machine.specs.Runs.{last_snapshot}
+use Rattle.qss_events.specs.EventFreeRuns.{IsVisit}
 use Rattle.qss_events.proofs.Goings.{visit_on, rows_on, silent_visit}
 use Rattle.qss_events.proofs.SomeRows.{some_rows, no_rows}
-use Rattle.qss_devs.specs.CoupledEvents.{snapshot_of, StoreRepresents}
+use Rattle.qss_machine.specs.declared.machine_parts.RowKind.TheVariants as kind
 use Rattle.qss_devs.proofs.coupled_events.go_to_next_rows.Goals as goal
 
 pub loop-tick-init : goal.loop-tick-init

@@ -1,8 +1,5 @@
-use Rattle.std.proofs.Common.{◌-◌, ◌≤◌, List}
-use Rattle.qss_machine.specs.Ticks.{Snapshot}
-use Rattle.qss_events.specs.AllowedLevels.{IsAllowedLevel}
-use Rattle.qss_events.specs.EventFreeRuns.{AreEventFree}
-use Rattle.qss_devs.specs.CoupledEvents.{snapshot_of, StoreRepresents}
+use Rattle.qss_devs.proofs.Common
+use Common.{◌-◌, ◌≤◌, AreEventFree, IsAllowedLevel, List, Snapshot, snapshot_of, StoreRepresents}
 use Rattle.qss_devs.proofs.coupled_events.go_to_next_rows.Given as goal
 
 -- the model is at the tick, and the ticks up to it had no rows

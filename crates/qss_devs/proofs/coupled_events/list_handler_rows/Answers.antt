@@ -1,6 +1,5 @@
 -- One more row.
-use Rattle.std.proofs.Common.{length, ◌∙◌, ap, arith}
-use Rattle.std.proofs.lemmas.List.{take_all}
+use Rattle.qss_devs.proofs.Common.{◌∙◌, ap, arith, length, take_all}
 use Rattle.qss_hand.specs.Values.{Values}
 use Rattle.qss_devs.proofs.coupled_events.list_handler_rows.Goals as goal
 

@@ -1,5 +1,4 @@
-use Rattle.std.proofs.Common.{◌≡◌, take}
-use Rattle.std.specs.Prelude.{vec_len, vec_capacity}
+use Rattle.qss_devs.proofs.Common.{◌≡◌, take, vec_capacity, vec_len}
 use Rattle.qss_devs.proofs.coupled_events.list_handler_rows.Given as goal
 
 -- the rows so far

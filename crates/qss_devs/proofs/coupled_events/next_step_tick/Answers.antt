@@ -1,20 +1,9 @@
 -- The least of the next transitions.
-use Rattle.std.proofs.Common.{◌≡◌, ℕ, ◌<◌, ◌≤◌, Bool, false, List, All, length, get_or, sym, ◌∙◌}
-use Rattle.std.proofs.Common.{ap, subst, arith}
-use Rattle.std.specs.List.{list_any}
-use Rattle.std.specs.Prelude.{Some, None}
-use Rattle.qss_machine.specs.Machines.{state_count}
-use Rattle.qss_machine.specs.Handlers.{conditions, firing_flags}
-use Rattle.qss_cross.specs.Crossing.{DetectorView}
-use Rattle.qss_events.specs.Schedules.{rises}
-use Rattle.qss_components.specs.declared.crossing_model.CrossingModel.{CrossingModel}
-use Rattle.qss_components.specs.declared.function_model.FunctionModel.{FunctionModel}
-use Rattle.qss_components.specs.declared.integrator_model.IntegratorModel.{IntegratorModel}
-use Rattle.qss_components.specs.Integrators.{IsLineNext}
-use Rattle.qss_components.specs.Crossings.{IsCrossingNext}
-use Rattle.qss_devs.specs.declared.coupled_start.Store.{Store}
-use Rattle.qss_devs.specs.Coupling.{line_at, crossing_at}
-use Rattle.qss_devs.specs.CoupledEvents.{snapshot_of}
+use Rattle.qss_devs.proofs.Common
+use Common.{ℕ, ◌<◌, ◌∙◌, ◌≡◌, ◌≤◌, All, ap, arith, Bool, conditions, crossing_at, CrossingModel}
+use Common.{DetectorView, false, firing_flags, FunctionModel, get_or, IntegratorModel}
+use Common.{IsCrossingNext, IsLineNext, length, line_at, List, list_any, None, rises, snapshot_of}
+use Common.{Some, state_count, Store, subst, sym}
 use Rattle.qss_devs.proofs.NextVisits.{some_element, line_of, of_line, watch_of, summing_of_place}
 use Rattle.qss_devs.proofs.NextVisits.{due_of, none_before, are_next}
 use Rattle.qss_devs.proofs.coupled_events.next_step_tick.Goals as goal

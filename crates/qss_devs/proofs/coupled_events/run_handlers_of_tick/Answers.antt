@@ -1,21 +1,10 @@
 -- The handlers of the next tick.
-use Rattle.std.proofs.Common.{◌≡◌, ◌+◌, ◌≤◌, Bool, List, [], length, map, All, ℤ, refl, sym, ◌∙◌}
-use Rattle.std.proofs.Common.{ap, subst, arith}
-use Rattle.std.proofs.lemmas.List.{with_items_is}
-use Rattle.std.specs.Prelude.{None}
-use Rattle.std.specs.Vec.{with_items}
-use Rattle.mu_num.specs.ListedPlaces.{flag_at}
-use Rattle.qss_machine.specs.Handlers.{HandlerState, conditions, truths}
-use Rattle.mu_num.specs.IndexedSums.{first_exceeding}
-use Rattle.qss_machine.specs.Ticks.{Snapshot, moved_states}
-use Rattle.qss_quant.specs.IntegratorLines.{state_at}
+use Rattle.qss_devs.proofs.Common
+use Common.{[], ℤ, ◌+◌, ◌∙◌, ◌≡◌, ◌≤◌, All, ap, AreRuled, arith, arrived_values, Bool, clash}
+use Common.{Components, conditions, first_exceeding, flag_at, function_state_at, HandlerState}
+use Common.{IntegratorModel, length, line_at, List, map, moved_states, None, not_some, refl}
+use Common.{Snapshot, snapshot_of, state_at, Store, subst, sym, truths, with_items, with_items_is}
 use Rattle.qss_hand.specs.Values.{Values as Kept}
-use Rattle.qss_events.proofs.Overs.{not_some, clash}
-use Rattle.qss_components.specs.declared.integrator_model.IntegratorModel.{IntegratorModel}
-use Rattle.qss_devs.specs.declared.coupled_messages.Components.{Components}
-use Rattle.qss_devs.specs.declared.coupled_start.Store.{Store}
-use Rattle.qss_devs.specs.Coupling.{line_at, function_state_at, AreRuled}
-use Rattle.qss_devs.specs.CoupledEvents.{snapshot_of, arrived_values}
 use Rattle.qss_devs.proofs.Arrivals.{stays_over, arrived_agree, arrived_each, arrived_states}
 use Rattle.qss_devs.proofs.Arrivals.{arrived_truths, arrived_ready, begun, begun_fits, handled_is}
 use Rattle.qss_devs.proofs.Arrivals.{crossing_timely, crossing_held}

@@ -1,7 +1,5 @@
 -- The handlers of a tick, and what follows from them.
-use Rattle.std.proofs.Common.{◌+◌, sym, ◌∙◌, arith}
-use Rattle.qss_events.proofs.Overs.{not_some, clash}
-use Rattle.qss_devs.specs.CoupledEvents.{snapshot_of}
+use Rattle.qss_devs.proofs.Common.{◌+◌, ◌∙◌, arith, clash, not_some, snapshot_of, sym}
 use Rattle.qss_devs.proofs.Arrivals.{over_step}
 use Rattle.qss_devs.proofs.coupled_events.run_next_tick.Goals as goal
 

@@ -1,8 +1,7 @@
 -- The rows are those of the snapshot.
-use Rattle.std.proofs.Common.{◌≤◌, length, All, sym, ◌∙◌, ap, subst, arith}
-use Rattle.qss_machine.specs.declared.machine_parts.RowKind.TheVariants as kind
-use Rattle.qss_components.specs.declared.integrator_model.IntegratorModel.{IntegratorModel}
+use Rattle.qss_devs.proofs.Common.{◌∙◌, ◌≤◌, All, ap, arith, IntegratorModel, length, subst, sym}
 use Rattle.qss_devs.proofs.WorldRows.{rows_at, lines_early}
+use Rattle.qss_machine.specs.declared.machine_parts.RowKind.TheVariants as kind
 use Rattle.qss_devs.proofs.coupled_events.set_rows_at_end.Goals as goal
 
 pub set_snapshot_rows-requires-clause-count_limit : goal.set_snapshot_rows-requires-clause-count_limit

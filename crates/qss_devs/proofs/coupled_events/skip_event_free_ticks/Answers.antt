@@ -1,14 +1,9 @@
 -- The model represents its snapshot just before the next event step.
-use Rattle.std.proofs.Common.{◌≡◌, ℕ, ◌+◌, ◌-◌, ◌<◌, Bool, refl, ◌∙◌, sym, ap, subst, arith}
-use Rattle.std.proofs.Common.{Vec, Global}
-use Rattle.std.proofs.lemmas.List.{with_items_is}
-use Rattle.std.specs.Prelude.{nat_lt, if◌then◌else◌}
-use Rattle.std.specs.Vec.{with_items}
-use Rattle.qss_events.proofs.Silences.{quiet_worlds, arrived_then, arrived_if}
-use Rattle.qss_events.specs.AllowedLevels.{IsAllowedLevel}
-use Rattle.qss_events.specs.EventFreeRuns.{AreEventFree}
-use Rattle.qss_devs.specs.declared.coupled_start.Store.{Store}
-use Rattle.qss_devs.specs.CoupledEvents.{snapshot_of, StoreRepresents}
+use Rattle.qss_devs.proofs.Common
+use Common.{ℕ, ◌+◌, ◌-◌, ◌<◌, ◌∙◌, ◌≡◌, ap, AreEventFree, arith, arrived_then, Bool, Global}
+use Common.{if◌then◌else◌, IsAllowedLevel, nat_lt, quiet_worlds, refl, snapshot_of, Store}
+use Common.{StoreRepresents, subst, sym, Vec, with_items, with_items_is}
+use Rattle.qss_events.proofs.Silences.{arrived_if}
 use Rattle.qss_devs.proofs.Coasting.{Dues, with_arrived, world_then, stands_then, silent_then}
 use Rattle.qss_devs.proofs.coupled_events.skip_event_free_ticks.Goals as goal
 

@@ -1,20 +1,10 @@
 -- A tick, after its handlers.
-use Rattle.std.proofs.Common.{◌≡◌, ℕ, ◌++◌, Bool, List, length, map, ℤ, sym, ◌∙◌, ap, subst, arith}
-use Rattle.std.proofs.lemmas.List.{length-map}
-use Rattle.std.specs.Prelude.{Option, None}
-use Rattle.qss_machine.specs.declared.machine_parts.Row.{Row}
-use Rattle.qss_machine.specs.Handlers.{truths}
-use Rattle.qss_machine.specs.Machines.{compares}
-use Rattle.qss_machine.specs.Runs.{level_rows, tick_rows}
-use Rattle.qss_machine.specs.Ticks.{Snapshot}
-use Rattle.qss_events.specs.EventFreeTicks.{MayFollowTick}
-use Rattle.qss_events.proofs.Overs.{not_some, clash}
-use Rattle.qss_components.specs.declared.crossing_model.CrossingModel.{CrossingModel}
-use Rattle.qss_components.specs.Agreement.{ComponentsRepresent}
-use Rattle.qss_devs.specs.declared.coupled_messages.Components.{Components}
-use Rattle.qss_devs.specs.declared.coupled_start.Store.{Store}
-use Rattle.qss_devs.specs.Coupling.{line_at, function_state_at, crossing_at}
-use Rattle.qss_devs.specs.CoupledEvents.{states_at, levels_of, snapshot_of}
+use Rattle.qss_devs.proofs.Common
+use Common.{ℕ, ℤ, ◌++◌, ◌∙◌, ◌≡◌, ap, arith, Bool, clash, compares, Components, ComponentsRepresent}
+use Common.{crossing_at, CrossingModel, function_state_at, length, length-map, levels_of, line_at}
+use Common.{List, map, MayFollowTick, None, not_some, Option, Row, Snapshot, snapshot_of, states_at}
+use Common.{Store, subst, sym, tick_rows, truths}
+use Rattle.qss_machine.specs.Runs.{level_rows}
 use Rattle.qss_devs.proofs.TickEnds.{handled, handled_fits, handled_agree, levels_step}
 use Rattle.qss_devs.proofs.TickEnds.{taken_values, taken_agree, taken_fits, taken_near, slopes_step}
 use Rattle.qss_devs.proofs.TickEnds.{ended, ended_stand, ended_left, ended_crossings, ended_states}

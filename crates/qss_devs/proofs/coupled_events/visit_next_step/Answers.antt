@@ -1,9 +1,7 @@
 -- The event-free ticks, and then the event step.
-use Rattle.std.proofs.Common.{◌+◌, sym, ◌∙◌, ap, subst}
-use Rattle.qss_machine.specs.Ticks.{snapshot_unless, IsStep}
-use Rattle.qss_machine.specs.Runs.{tick_rows}
-use Rattle.qss_events.specs.AllowedLevels.{IsAllowedLevel}
-use Rattle.qss_devs.specs.CoupledEvents.{snapshot_of}
+use Rattle.qss_devs.proofs.Common
+use Common.{◌+◌, ◌∙◌, ap, IsAllowedLevel, IsStep, snapshot_of, snapshot_unless, subst, sym}
+use Common.{tick_rows}
 use Rattle.qss_devs.proofs.coupled_events.visit_next_step.Goals as goal
 
 pub returns-clause-visited : goal.returns-clause-visited

@@ -1,7 +1,7 @@
 -- One input more in one list.
-use Rattle.std.proofs.Common.{◌≡◌, List, [], ◌∷◌, ◌++◌, get_or, map, set, Vec, Global, sym, ◌∙◌, ap}
-use Rattle.std.proofs.lemmas.List.{get_or-map, map-set}
-use Rattle.qss_components.specs.declared.function_inputs.FunctionInput.{FunctionInput}
+use Rattle.qss_devs.proofs.Common
+use Common.{[], ◌++◌, ◌∙◌, ◌∷◌, ◌≡◌, ap, FunctionInput, get_or, get_or-map, Global, List, map}
+use Common.{map-set, set, sym, Vec}
 use Rattle.qss_devs.proofs.coupled_inputs.add_start_input.Goals as goal
 
 pub returns : goal.returns

@@ -1,21 +1,15 @@
 -- One more row has an input of the variable.
-use Rattle.std.proofs.Common.{◌≡◌, ◌<◌, ◌+◌, ℕ, List, [], ◌∷◌, ◌++◌, length, get_or, map, set, take, Vec}
-use Rattle.std.proofs.Common.{Global, ◌^◌, ◌≤◌, pos, refl, sym, ◌∙◌, ap, subst, arith}
-use Rattle.std.proofs.lemmas.Int.{ints, to_z-of_z}
-use Rattle.std.proofs.lemmas.List.{get_or-map, length-map, length-set}
-use Rattle.std.specs.Int.RustNames.{unsigned_abs, FitsSigned}
-use Rattle.mu_num.specs.ListedPlaces.{AreRisingBelow}
-use Rattle.mu_num.specs.Writes.{IsWritten}
-use Rattle.mu_num.proofs.Writes.{written_all}
-use Rattle.qss_machine.specs.Machines.{state_count, row_coefficient}
-use Rattle.qss_machine.specs.Readers.{reading_rows, reading_coefficients}
-use Rattle.qss_machine.proofs.KeptReaders.{rows_many, rows_kept, coefficients_many, coefficients_kept}
-use Rattle.qss_machine.proofs.KeptReaders.{reading_numbers}
-use Rattle.qss_components.specs.declared.function_inputs.FunctionInput.{FunctionInput}
-use Rattle.qss_devs.specs.Starts.{AreFirstInputs}
+use Rattle.qss_devs.proofs.Common
+use Common.{[], ℕ, ◌++◌, ◌+◌, ◌<◌, ◌^◌, ◌∙◌, ◌∷◌, ◌≡◌, ◌≤◌, ap, AreFirstInputs, AreRisingBelow}
+use Common.{arith, FitsSigned, FunctionInput, get_or, get_or-map, Global, ints, IsWritten, length}
+use Common.{length-map, length-set, List, map, pos, reading_numbers, reading_rows, refl}
+use Common.{row_coefficient, rows_kept, rows_many, set, state_count, subst, sym, take, to_z-of_z}
+use Common.{Vec, w64, written_all}
+use Rattle.std.specs.Int.RustNames.{unsigned_abs}
+use Rattle.qss_machine.specs.Readers.{reading_coefficients}
+use Rattle.qss_machine.proofs.KeptReaders.{coefficients_many, coefficients_kept}
 use Rattle.qss_devs.proofs.StartInputs.{coefficient_within, row_more, rows_done}
 use Rattle.qss_devs.proofs.coupled_inputs.add_start_variable.Goals as goal
-use mir.Syntax.{w64}
 
 pub rows_of-rows-requires : goal.rows_of-rows-requires
 rows_of-rows-requires c = omega (

@@ -1,7 +1,5 @@
-use Rattle.std.proofs.Common.{◌≡◌, ◌+◌, length, map, take, []}
-use Rattle.mu_num.specs.Writes.{IsWritten}
-use Rattle.qss_machine.specs.Machines.{state_count}
-use Rattle.qss_devs.specs.Starts.{AreFirstInputs}
+use Rattle.qss_devs.proofs.Common
+use Common.{[], ◌+◌, ◌≡◌, AreFirstInputs, IsWritten, length, map, state_count, take}
 use Rattle.qss_devs.proofs.coupled_inputs.add_start_variable.Given as goal
 
 -- the rows so far have an input of the variable

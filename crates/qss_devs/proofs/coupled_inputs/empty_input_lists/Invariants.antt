@@ -1,5 +1,4 @@
-use Rattle.std.proofs.Common.{◌≡◌}
-use Rattle.std.specs.Prelude.{map, replicate, []}
+use Rattle.qss_devs.proofs.Common.{[], ◌≡◌, map, replicate}
 use Rattle.qss_devs.proofs.coupled_inputs.empty_input_lists.Given as goal
 
 -- the lists so far

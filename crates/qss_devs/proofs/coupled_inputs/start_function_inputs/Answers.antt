@@ -1,9 +1,7 @@
 -- The inputs of all variables.
-use Rattle.std.proofs.Common.{◌≡◌, ◌+◌, List, length, map, ap, subst, arith, ℕ, Vec, Global}
-use Rattle.qss_machine.specs.Machines.{state_count, discrete_count}
-use Rattle.qss_components.specs.declared.function_inputs.FunctionInput.{FunctionInput}
-use Rattle.qss_components.specs.ComponentPlaces.{EachAt}
-use Rattle.qss_devs.specs.Starts.{AreFirstInputs}
+use Rattle.qss_devs.proofs.Common
+use Common.{ℕ, ◌+◌, ◌≡◌, ap, AreFirstInputs, arith, discrete_count, EachAt, FunctionInput, Global}
+use Common.{length, List, map, state_count, subst, Vec}
 use Rattle.qss_devs.proofs.coupled_inputs.start_function_inputs.Goals as goal
 
 pub returns-clause-each : goal.returns-clause-each

@@ -1,7 +1,5 @@
-use Rattle.std.proofs.Common.{◌≡◌, ◌+◌, ◌≤◌, length, map}
-use Rattle.qss_machine.specs.Machines.{state_count, discrete_count}
-use Rattle.qss_components.specs.ComponentPlaces.{EachAt}
-use Rattle.qss_devs.specs.Starts.{AreFirstInputs}
+use Rattle.qss_devs.proofs.Common
+use Common.{◌+◌, ◌≡◌, ◌≤◌, AreFirstInputs, discrete_count, EachAt, length, map, state_count}
 use Rattle.qss_devs.proofs.coupled_inputs.start_function_inputs.Given as goal
 
 -- the inputs of the variables so far

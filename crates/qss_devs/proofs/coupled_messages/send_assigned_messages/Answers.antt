@@ -1,12 +1,8 @@
 -- One more row is sent.
-use Rattle.std.proofs.Common.{get_or, take, pos, subst}
-use Rattle.std.proofs.lemmas.List.{get_or_default}
-use Rattle.qss_machine.specs.declared.machine_parts.Row.{Row}
-use Rattle.qss_machine.specs.declared.machine_parts.RowKind.TheVariants as kind
-use Rattle.qss_components.specs.Agreement.{Values}
-use Rattle.qss_components.specs.ComponentTheorems.{values_after_rows}
-use Rattle.qss_devs.specs.CoupledSteps.{Agrees}
+use Rattle.qss_devs.proofs.Common
+use Common.{Agrees, get_or, get_or_default, pos, Row, subst, take, Values, values_after_rows}
 use Rattle.qss_devs.proofs.AgreeTold.{rows_each, told_more}
+use Rattle.qss_machine.specs.declared.machine_parts.RowKind.TheVariants as kind
 use Rattle.qss_devs.proofs.coupled_messages.send_assigned_messages.Goals as goal
 
 pub loop-row-init : goal.loop-row-init

@@ -1,11 +1,6 @@
-use Rattle.std.proofs.Common.{take}
-use Rattle.std.specs.Prelude.{Option}
-use Rattle.qss_quant.specs.declared.quantizer.Rule.{Rule}
-use Rattle.qss_components.specs.Agreement.{Values, HasEach}
-use Rattle.qss_components.specs.ComponentTheorems.{values_after_rows}
-use Rattle.qss_devs.specs.Coupling.{line_at, function_state_at, crossing_at, AreComponents}
-use Rattle.qss_devs.specs.Coupling.{AreRuled, AreReady}
-use Rattle.qss_devs.specs.CoupledSteps.{Agrees}
+use Rattle.qss_devs.proofs.Common
+use Common.{Agrees, AreComponents, AreReady, AreRuled, crossing_at, function_state_at, HasEach}
+use Common.{line_at, Option, Rule, take, Values, values_after_rows}
 use Rattle.qss_devs.proofs.coupled_messages.send_assigned_messages.Given as goal
 
 -- the assignments of the rows so far were sent

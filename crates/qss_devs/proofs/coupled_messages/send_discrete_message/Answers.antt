@@ -1,19 +1,11 @@
 -- The functions and the crossings that read a discrete value receive the message.
-use Rattle.std.proofs.Common.{◌≡◌, ℕ, ◌+◌, [], length, get_or, All, refl, sym, ◌∙◌, ap, subst}
-use Rattle.std.proofs.Common.{arith}
-use Rattle.std.proofs.lemmas.List.{with_items_is}
-use Rattle.std.specs.Vec.{with_items}
-use Rattle.qss_machine.specs.Machines.{discrete_count}
-use Rattle.qss_machine.specs.Readers.{reading_rows, reading_conditions}
-use Rattle.mu_num.specs.ListedPlaces.{AreRisingBelow}
-use Rattle.qss_machine.proofs.KeptReaders.{rows_many, rows_kept, conditions_many, conditions_kept}
-use Rattle.qss_components.specs.declared.crossing_model.CrossingModel.{CrossingModel}
-use Rattle.qss_components.specs.declared.function_model.FunctionModel.{FunctionModel}
-use Rattle.qss_components.specs.ComponentModels.{function_state_of, crossing_of}
-use Rattle.qss_devs.specs.Coupling.{IsSummingReady, IsCrossingReady}
+use Rattle.qss_devs.proofs.Common
+use Common.{[], ℕ, ◌+◌, ◌∙◌, ◌≡◌, All, ap, AreRisingBelow, arith, condition_numbers}
+use Common.{conditions_kept, conditions_many, crossing_of, CrossingModel, discrete_count}
+use Common.{function_state_of, FunctionModel, get_or, IsCrossingReady, IsSummingReady, length}
+use Common.{reading_conditions, reading_numbers, reading_rows, refl, rows_kept, rows_many, subst}
+use Common.{sym, with_items, with_items_is}
 use Rattle.qss_devs.proofs.OwnTurns.{functions_are_ready, crossings_are_ready}
-use Rattle.qss_machine.proofs.KeptReaders.{reading_numbers}
-use Rattle.qss_events.proofs.Readers.{condition_numbers}
 use Rattle.qss_devs.proofs.Telling.{functions_moved, crossings_moved, crossings_again}
 use Rattle.qss_devs.proofs.ToldParts.{told_discrete}
 use Rattle.qss_devs.proofs.coupled_messages.send_discrete_message.Goals as goal

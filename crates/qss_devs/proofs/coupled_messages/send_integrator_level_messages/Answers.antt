@@ -1,14 +1,8 @@
 -- One more integrator makes its transition.
-use Rattle.std.proofs.Common.{◌≡◌, ℕ, ◌<◌, length, inl, inr, refl, sym, ◌∙◌, ap, subst, arith}
-use Rattle.std.proofs.lemmas.Bool.{cases_eq}
-use Rattle.std.specs.Prelude.{Option, Some, None}
-use Rattle.mu_num.specs.Sizes.{exceeds}
-use Rattle.qss_machine.specs.Machines.{state_count}
-use Rattle.qss_quant.specs.IntegratorLines.{Line}
-use Rattle.qss_events.proofs.Overs.{not_some, clash}
-use Rattle.qss_components.specs.Integrators.{IsLineNext}
-use Rattle.qss_devs.specs.Coupling.{line_at}
-use Rattle.qss_devs.specs.CoupledSteps.{AreTakenUpTo, AreTaken, IsLevelTaken, level_after, leveled}
+use Rattle.qss_devs.proofs.Common
+use Common.{ℕ, ◌<◌, ◌∙◌, ◌≡◌, ap, AreTaken, AreTakenUpTo, arith, cases_eq, clash, exceeds, inl, inr}
+use Common.{IsLevelTaken, IsLineNext, length, level_after, leveled, Line, line_at, None, not_some}
+use Common.{Option, refl, Some, state_count, subst, sym}
 use Rattle.qss_devs.proofs.Overs.{over_is}
 use Rattle.qss_devs.proofs.LevelsTaken.{taken_none, taken_more, taken_all, taken_over}
 use Rattle.qss_devs.proofs.LevelsTaken.{leveled_values}

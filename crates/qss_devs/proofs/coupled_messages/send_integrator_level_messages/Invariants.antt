@@ -1,11 +1,7 @@
-use Rattle.std.proofs.Common.{◌≡◌, ℕ, ◌+◌, ◌<◌, ◌≤◌, vec_len}
-use Rattle.std.specs.Prelude.{Some, vec_capacity}
-use Rattle.qss_quant.specs.declared.quantizer.Rule.{Rule}
-use Rattle.qss_components.specs.Integrators.{IsLineNext}
-use Rattle.qss_components.specs.Agreement.{Values}
-use Rattle.qss_devs.specs.Coupling.{line_at, function_state_at, crossing_at, AreComponents}
-use Rattle.qss_devs.specs.Coupling.{AreRuled, AreReady}
-use Rattle.qss_devs.specs.CoupledSteps.{Agrees, AreValues, AreTakenUpTo}
+use Rattle.qss_devs.proofs.Common
+use Common.{ℕ, ◌+◌, ◌<◌, ◌≡◌, ◌≤◌, Agrees, AreComponents, AreReady, AreRuled, AreTakenUpTo}
+use Common.{AreValues, crossing_at, function_state_at, IsLineNext, line_at, Rule, Some, Values}
+use Common.{vec_capacity, vec_len}
 use Rattle.qss_devs.proofs.coupled_messages.send_integrator_level_messages.Given as goal
 
 -- the integrators so far made their transitions

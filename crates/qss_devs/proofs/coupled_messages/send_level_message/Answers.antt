@@ -1,12 +1,8 @@
 -- The functions that read a level receive the message.
-use Rattle.std.proofs.Common.{◌≡◌, length, All, refl, sym, ◌∙◌, ap, subst, arith}
-use Rattle.std.proofs.lemmas.List.{with_items_is}
-use Rattle.qss_machine.specs.Readers.{reading_rows}
-use Rattle.mu_num.specs.ListedPlaces.{AreRisingBelow}
-use Rattle.qss_machine.proofs.KeptReaders.{rows_many, rows_kept, reading_numbers}
-use Rattle.qss_components.specs.declared.function_model.FunctionModel.{FunctionModel}
-use Rattle.qss_components.specs.ComponentModels.{function_state_of}
-use Rattle.qss_devs.specs.Coupling.{IsSummingReady}
+use Rattle.qss_devs.proofs.Common
+use Common.{◌∙◌, ◌≡◌, All, ap, AreRisingBelow, arith, function_state_of, FunctionModel}
+use Common.{IsSummingReady, length, reading_numbers, reading_rows, refl, rows_kept, rows_many}
+use Common.{subst, sym, with_items_is}
 use Rattle.qss_devs.proofs.OwnTurns.{functions_are_ready}
 use Rattle.qss_devs.proofs.Telling.{functions_moved}
 use Rattle.qss_devs.proofs.ToldParts.{told_level}

@@ -1,17 +1,10 @@
 -- An integrator and the crossings that read its state receive the message.
-use Rattle.std.proofs.Common.{◌≡◌, List, length, get_or, set, All, refl, sym, ◌∙◌, ap, subst, arith}
-use Rattle.std.proofs.lemmas.List.{with_items_is}
-use Rattle.qss_machine.specs.Readers.{reading_conditions}
-use Rattle.mu_num.specs.ListedPlaces.{AreRisingBelow}
-use Rattle.qss_machine.proofs.KeptReaders.{conditions_many, conditions_kept}
-use Rattle.qss_components.specs.declared.crossing_model.CrossingModel.{CrossingModel}
-use Rattle.qss_components.specs.declared.integrator_model.IntegratorModel.{IntegratorModel}
-use Rattle.qss_components.specs.Messages.{IsTimely}
-use Rattle.qss_components.specs.Integrators.{IsLineNext}
-use Rattle.qss_components.specs.ComponentModels.{crossing_of, IsGivenLine}
-use Rattle.qss_devs.specs.Coupling.{IsCrossingReady}
+use Rattle.qss_devs.proofs.Common
+use Common.{◌∙◌, ◌≡◌, All, ap, AreRisingBelow, arith, condition_numbers, conditions_kept}
+use Common.{conditions_many, crossing_of, CrossingModel, get_or, IntegratorModel, IsCrossingReady}
+use Common.{IsGivenLine, IsLineNext, IsTimely, length, List, reading_conditions, refl, set, subst}
+use Common.{sym, with_items_is}
 use Rattle.qss_devs.proofs.OwnTurns.{integrators_timely, integrators_own, crossings_are_ready}
-use Rattle.qss_events.proofs.Readers.{condition_numbers}
 use Rattle.qss_devs.proofs.Telling.{crossings_moved}
 use Rattle.qss_devs.proofs.ToldParts.{told_line}
 use Rattle.qss_devs.proofs.coupled_messages.send_line_message.Goals as goal

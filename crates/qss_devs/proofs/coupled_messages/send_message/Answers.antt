@@ -1,6 +1,5 @@
 -- A message goes where it is about.
-use Rattle.std.proofs.Common.{subst, refl}
-use Rattle.qss_components.specs.Messages.{IsMessage}
+use Rattle.qss_devs.proofs.Common.{IsMessage, refl, subst}
 use Rattle.qss_devs.proofs.ToldParts.{truth_stays}
 use Rattle.qss_devs.proofs.coupled_messages.send_message.Goals as goal
 

@@ -1,13 +1,8 @@
 -- One more crossing receives the message.
-use Rattle.std.proofs.Common.{◌≡◌, ◌<◌, List, length, get_or, map, sym, subst, refl, arith}
-use Rattle.std.proofs.lemmas.List.{get_or_default}
-use Rattle.mu_num.proofs.Writes.{written_all}
-use Rattle.qss_machine.specs.declared.compiled_machine.Machine.{Machine}
-use Rattle.qss_components.specs.declared.crossing_model.CrossingModel.{CrossingModel}
-use Rattle.qss_components.specs.Messages.{IsMessage}
-use Rattle.qss_components.specs.Crossings.{crossing_after_message, AreSmallAt}
-use Rattle.qss_components.specs.ComponentModels.{crossing_of}
-use Rattle.qss_devs.specs.Coupling.{no_crossing}
+use Rattle.qss_devs.proofs.Common
+use Common.{◌<◌, ◌≡◌, AreSmallAt, arith, crossing_after_message, crossing_of, CrossingModel, get_or}
+use Common.{get_or_default, IsMessage, length, List, Machine, map, no_crossing, refl, subst, sym}
+use Common.{written_all}
 use Rattle.qss_devs.proofs.Telling.{crossings_more, crossings_ready, crossing_machines}
 use Rattle.qss_devs.proofs.Telling.{crossing_timely}
 use Rattle.qss_devs.proofs.coupled_messages.send_message_to_crossings.Goals as goal

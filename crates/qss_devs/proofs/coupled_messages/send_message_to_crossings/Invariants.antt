@@ -1,8 +1,6 @@
-use Rattle.std.proofs.Common.{◌≡◌, get_or, map, take, All}
-use Rattle.mu_num.specs.Writes.{IsWritten}
-use Rattle.qss_components.specs.Crossings.{crossing_after_message}
-use Rattle.qss_components.specs.ComponentModels.{crossing_of}
-use Rattle.qss_devs.specs.Coupling.{no_crossing, IsCrossingReady}
+use Rattle.qss_devs.proofs.Common
+use Common.{◌≡◌, All, crossing_after_message, crossing_of, get_or, IsCrossingReady, IsWritten, map}
+use Common.{no_crossing, take}
 use Rattle.qss_devs.proofs.coupled_messages.send_message_to_crossings.Given as goal
 
 -- the crossings so far received the message

@@ -1,13 +1,8 @@
 -- One more function receives the message.
-use Rattle.std.proofs.Common.{◌≡◌, ◌<◌, List, length, get_or, map, sym, subst, refl, arith}
-use Rattle.std.proofs.lemmas.List.{get_or_default}
-use Rattle.mu_num.proofs.Writes.{written_all}
-use Rattle.qss_machine.specs.declared.compiled_machine.Machine.{Machine}
-use Rattle.qss_components.specs.declared.function_model.FunctionModel.{FunctionModel}
-use Rattle.qss_components.specs.Messages.{IsMessage}
-use Rattle.qss_components.specs.Functions.{function_after_message}
-use Rattle.qss_components.specs.ComponentModels.{function_state_of}
-use Rattle.qss_devs.specs.Coupling.{no_summing}
+use Rattle.qss_devs.proofs.Common
+use Common.{◌<◌, ◌≡◌, arith, function_after_message, function_state_of, FunctionModel, get_or}
+use Common.{get_or_default, IsMessage, length, List, Machine, map, no_summing, refl, subst, sym}
+use Common.{written_all}
 use Rattle.qss_devs.proofs.Telling.{functions_more, functions_ready, function_machines}
 use Rattle.qss_devs.proofs.Telling.{function_timely}
 use Rattle.qss_devs.proofs.coupled_messages.send_message_to_functions.Goals as goal

@@ -1,8 +1,6 @@
-use Rattle.std.proofs.Common.{◌≡◌, get_or, map, take, All}
-use Rattle.mu_num.specs.Writes.{IsWritten}
-use Rattle.qss_components.specs.Functions.{function_after_message}
-use Rattle.qss_components.specs.ComponentModels.{function_state_of}
-use Rattle.qss_devs.specs.Coupling.{no_summing, IsSummingReady}
+use Rattle.qss_devs.proofs.Common
+use Common.{◌≡◌, All, function_after_message, function_state_of, get_or, IsSummingReady, IsWritten}
+use Common.{map, no_summing, take}
 use Rattle.qss_devs.proofs.coupled_messages.send_message_to_functions.Given as goal
 
 -- the functions so far received the message

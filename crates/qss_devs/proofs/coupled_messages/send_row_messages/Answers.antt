@@ -1,17 +1,10 @@
 -- The assignment of a row is sent.
-use Rattle.std.proofs.Common.{sym, subst, arith}
-use Rattle.std.proofs.lemmas.Int.{ints, to_z-of_z}
-use Rattle.std.specs.Int.RustNames.{FitsSigned}
-use Rattle.qss_machine.specs.declared.machine_parts.RowKind.{RowKind}
-use Rattle.qss_components.specs.declared.atomic.Message.TheVariants.{State, Discrete}
-use Rattle.qss_components.specs.Messages.{IsMessage}
-use Rattle.qss_components.specs.Agreement.{Values}
-use Rattle.qss_components.specs.ComponentTheorems.{values_after_row}
-use Rattle.qss_devs.specs.Coupling.{HaveReceived}
-use Rattle.qss_devs.specs.CoupledSteps.{Agrees, IsToldKind}
+use Rattle.qss_devs.proofs.Common
+use Common.{Agrees, arith, Discrete, FitsSigned, HaveReceived, ints, IsMessage, RowKind, State}
+use Common.{subst, sym, to_z-of_z, Values, values_after_row, w128, w64}
+use Rattle.qss_devs.specs.CoupledSteps.{IsToldKind}
 use Rattle.qss_devs.proofs.AgreeTold.{agree_state, agree_discrete, kind_other}
 use Rattle.qss_devs.proofs.coupled_messages.send_row_messages.Goals as goal
-use mir.Syntax.{w64, w128}
 
 pub send_message-requires-clause-message : goal.send_message-requires-clause-message
 send_message-requires-clause-message g c =

@@ -1,7 +1,7 @@
 -- A function that is due sends its sum.
-use Rattle.std.proofs.Common.{◌≡◌, ◌<◌, List, length, get_or, set, refl, sym, ◌∙◌, ap, arith}
-use Rattle.std.specs.Vec.{with_items}
-use Rattle.qss_components.specs.declared.function_model.FunctionModel.{FunctionModel}
+use Rattle.qss_devs.proofs.Common
+use Common.{◌<◌, ◌∙◌, ◌≡◌, ap, arith, FunctionModel, get_or, length, List, refl, set, sym}
+use Common.{with_items}
 use Rattle.qss_devs.proofs.OwnTurns.{slot_is, slot_set}
 use Rattle.qss_devs.proofs.SlopeTurns.{kept_summings, same_parts, same_ready, same_later}
 use Rattle.qss_devs.proofs.SlopeTurns.{rests_sent, passes_sent, slope_parts, slope_ready}

@@ -1,10 +1,8 @@
 -- One more function makes its transition.
-use Rattle.std.proofs.Common.{◌≡◌, ℕ, ◌<◌, length, sym, ◌∙◌, ap, subst, arith}
-use Rattle.std.specs.Prelude.{Option, Some, None}
-use Rattle.qss_machine.specs.Machines.{state_count, row_at}
-use Rattle.qss_machine.specs.Ticks.{exceeds_row_limits}
-use Rattle.qss_events.proofs.Overs.{not_some, clash}
-use Rattle.qss_devs.specs.CoupledSteps.{AreSentUpTo, AreSent, IsSlopeSent, sloped}
+use Rattle.qss_devs.proofs.Common
+use Common.{ℕ, ◌<◌, ◌∙◌, ◌≡◌, ap, AreSent, AreSentUpTo, arith, clash, exceeds_row_limits}
+use Common.{IsSlopeSent, length, None, not_some, Option, row_at, sloped, Some, state_count, subst}
+use Common.{sym}
 use Rattle.qss_devs.proofs.Overs.{over_is}
 use Rattle.qss_devs.proofs.SlopesSent.{sent_none, sent_more, sent_all, sent_over, sloped_values}
 use Rattle.qss_devs.proofs.coupled_messages.send_slope_messages.Goals as goal

@@ -1,9 +1,6 @@
-use Rattle.std.specs.Prelude.{Option}
-use Rattle.qss_quant.specs.declared.quantizer.Rule.{Rule}
-use Rattle.qss_components.specs.Agreement.{Values}
-use Rattle.qss_devs.specs.Coupling.{line_at, function_state_at, crossing_at, AreComponents}
-use Rattle.qss_devs.specs.Coupling.{AreRuled, AreReady, AllLinesLater}
-use Rattle.qss_devs.specs.CoupledSteps.{Agrees, AreWithinQuanta, AreValues, AreSentUpTo}
+use Rattle.qss_devs.proofs.Common
+use Common.{Agrees, AllLinesLater, AreComponents, AreReady, AreRuled, AreSentUpTo, AreValues}
+use Common.{AreWithinQuanta, crossing_at, function_state_at, line_at, Option, Rule, Values}
 use Rattle.qss_devs.proofs.coupled_messages.send_slope_messages.Given as goal
 
 -- the functions so far made their transitions

@@ -1,8 +1,4 @@
-use Rattle.std.proofs.Common.{◌≡◌, ◌∙◌, ap}
-use Rattle.qss_quant.specs.declared.quantizer.Quantizer.{Quantizer}
-use Rattle.qss_quant.specs.declared.quantizer.Rule.TheVariants.{Floor}
-use Rattle.qss_events.specs.RunViews.{RunView}
-use Rattle.qss_devs.specs.CoupledViews.{view_of}
+use Rattle.qss_devs.proofs.Common.{◌∙◌, ◌≡◌, ap, Floor, Quantizer, RunView, view_of}
 use Rattle.qss_events.proofs.FromStart.{course_known}
 use Rattle.qss_events.proofs.RuledRuns.{plays, plays_nothing}
 use Rattle.qss_devs.proofs.coupled_run.write_devs_run.Goals as goal

@@ -1,21 +1,11 @@
 -- One more crossing.
-use Rattle.std.proofs.Common.{◌≡◌, ◌<◌, List, [], ◌∷◌, length, map, All, refl, sym, ◌∙◌, ap, subst}
-use Rattle.std.proofs.Common.{arith}
-use Rattle.std.proofs.lemmas.List.{length-append}
-use Rattle.mu_num.specs.Sizes.{IsWithin}
-use Rattle.qss_machine.specs.declared.machine_parts.Condition.{Condition}
-use Rattle.qss_machine.specs.declared.compiled_machine.Machine.{Machine}
-use Rattle.qss_machine.specs.Machines.{state_count}
-use Rattle.qss_cross.specs.Crossing.{DetectorView}
-use Rattle.qss_hand.specs.Works.{clause_at}
-use Rattle.qss_events.specs.Schedules.{condition_at}
-use Rattle.qss_components.specs.declared.crossing_model.CrossingModel.{CrossingModel}
-use Rattle.qss_components.specs.declared.crossing_model.Input.{Input}
-use Rattle.qss_components.specs.Crossings.{Crossing, input_at, form_at, speed_by, IsInput, AreParts}
-use Rattle.qss_components.specs.Crossings.{StaysIfDiscrete}
-use Rattle.qss_components.proofs.Inputs.{IsGiven}
-use Rattle.qss_components.proofs.Places.{each_more}
-use Rattle.qss_devs.specs.Starts.{start_values, first_input, IsFirstCrossing, IsFirstAt}
+use Rattle.qss_devs.proofs.Common
+use Common.{[], ◌<◌, ◌∙◌, ◌∷◌, ◌≡◌, All, ap, AreParts, arith, clause_at, Condition, condition_at}
+use Common.{Crossing, CrossingModel, DetectorView, each_more, first_input, form_at, Input, input_at}
+use Common.{IsFirstAt, IsGiven, IsWithin, length, length-append, List, Machine, map, refl, speed_by}
+use Common.{start_values, state_count, subst, sym}
+use Rattle.qss_components.specs.Crossings.{IsInput, StaysIfDiscrete}
+use Rattle.qss_devs.specs.Starts.{IsFirstCrossing}
 use Rattle.qss_devs.proofs.Begun.{inputs_given, first_parts, own_condition, places_more, places_few}
 use Rattle.qss_devs.proofs.coupled_start.add_start_crossings.Goals as goal
 

@@ -1,8 +1,4 @@
-use Rattle.std.proofs.Common.{◌≡◌, ◌+◌, ◌≤◌, length}
-use Rattle.qss_machine.specs.Firing.{first_place}
-use Rattle.qss_hand.specs.Works.{clause_at}
-use Rattle.qss_components.specs.ComponentPlaces.{EachAt}
-use Rattle.qss_devs.specs.Starts.{IsFirstAt}
+use Rattle.qss_devs.proofs.Common.{◌+◌, ◌≡◌, ◌≤◌, clause_at, EachAt, first_place, IsFirstAt, length}
 use Rattle.qss_devs.proofs.coupled_start.add_start_crossings.Given as goal
 
 -- the crossings so far

@@ -1,5 +1,4 @@
-use Rattle.std.proofs.Common.{◌≡◌, ◌≤◌, false, replicate}
-use Rattle.std.specs.Prelude.{vec_len, vec_capacity}
+use Rattle.qss_devs.proofs.Common.{◌≡◌, ◌≤◌, false, replicate, vec_capacity, vec_len}
 use Rattle.qss_devs.proofs.coupled_start.blank_start_flags.Given as goal
 
 -- the flags so far

@@ -1,14 +1,8 @@
 -- The detector has the form's value and its speed.
-use Rattle.std.proofs.Common.{◌+◌, ◌≤◌, ◌^◌, map, unsigned_abs, arith}
-use Rattle.std.proofs.lemmas.Int.{ints, to_z-of_z}
-use Rattle.std.specs.Int.RustNames.{FitsSigned}
-use Rattle.std.specs.Prelude.{sum_by}
-use Rattle.mu_num.specs.Sizes.{IsWithin}
-use Rattle.qss_machine.specs.declared.machine_parts.Entry.{Entry}
-use Rattle.qss_machine.specs.declared.machine_parts.Form.{Form}
-use Rattle.qss_components.specs.Crossings.{entry_of}
+use Rattle.qss_devs.proofs.Common
+use Common.{◌+◌, ◌^◌, ◌≤◌, arith, Entry, entry_of, FitsSigned, Form, ints, IsWithin, map, sum_by}
+use Common.{to_z-of_z, unsigned_abs, w128, w64}
 use Rattle.qss_devs.proofs.coupled_start.start_coupled_detector.Goals as goal
-use mir.Syntax.{w64, w128}
 
 pub crossing_detector_of-requires-clause-parts : goal.crossing_detector_of-requires-clause-parts
 crossing_detector_of-requires-clause-parts c =

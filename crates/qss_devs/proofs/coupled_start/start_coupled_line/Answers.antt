@@ -1,16 +1,11 @@
 -- The line begins at tick 0.
-use Rattle.std.proofs.Common.{◌≡◌, length, ℤ, sym, ◌∙◌, ap, subst, arith}
-use Rattle.std.proofs.lemmas.Int.{ints}
-use Rattle.std.specs.Int.RustNames.{FitsSigned}
-use Rattle.mu_num.specs.Sizes.{IsWithin}
-use Rattle.mu_num.specs.IndexedSums.{int_at}
+use Rattle.qss_devs.proofs.Common
+use Common.{ℤ, ◌∙◌, ◌≡◌, ap, arith, FitsSigned, int_at, ints, IsWithin, length, start_values, subst}
+use Common.{sym, Values, w128, w64}
 use Rattle.qss_quant.specs.IntegratorLines.{IsLine}
-use Rattle.qss_components.specs.Agreement.{Values}
 use Rattle.qss_components.proofs.Lines.{line_at, line_is}
-use Rattle.qss_devs.specs.Starts.{start_values}
 use Rattle.qss_devs.proofs.Begun.{start_each, state_small, slope_small, level_small}
 use Rattle.qss_devs.proofs.coupled_start.start_coupled_line.Goals as goal
-use mir.Syntax.{w64, w128}
 
 pub state-x-requires : goal.state-x-requires
 state-x-requires c = omega (arith, c.requires.known, ap (λ (v : Values). length v.states) c.requires.values, (start_each c.args.m.now).states)

@@ -1,20 +1,13 @@
 -- One more slope.
-use Rattle.std.proofs.Common.{◌≡◌, ◌<◌, ◌++◌, ◌∷◌, [], List, length, ℤ, All, sym, ◌∙◌, ap, subst}
-use Rattle.std.proofs.Common.{arith}
-use Rattle.std.proofs.lemmas.Int.{to_z-of_z}
+use Rattle.qss_devs.proofs.Common
+use Common.{[], ℤ, ◌++◌, ◌<◌, ◌∙◌, ◌∷◌, ◌≡◌, All, ap, arith, count_start, discretes_start}
+use Common.{FitsSigned, IsWithin, length, levels_start, List, no_row, row_at, slope_at, state_count}
+use Common.{subst, sym, tabulate, to_z-of_z, w128}
 use Rattle.std.proofs.lemmas.List.FromFn.{map-range_with_len_more}
 use Rattle.std.specs.Bool.{IsTrue}
-use Rattle.std.specs.Int.RustNames.{FitsSigned}
-use Rattle.mu_num.specs.Sizes.{IsWithin}
-use Rattle.mu_num.specs.IndexedSums.{tabulate}
 use Rattle.qss_machine.specs.Slopes.{mode_fits}
-use Rattle.qss_machine.specs.Machines.{state_count, row_at, slope_at}
-use Rattle.qss_events.specs.Schedules.{no_row}
-use Rattle.qss_events.proofs.Starts.{levels_start, count_start}
-use Rattle.qss_machine.proofs.StartValues.{discretes_start}
 use Rattle.qss_devs.proofs.Begun.{start_row}
 use Rattle.qss_devs.proofs.coupled_start.start_coupled_slopes.Goals as goal
-use mir.Syntax.{w128}
 
 pub overflow_cast-row : goal.overflow_cast-row
 overflow_cast-row c = omega (arith, c.loop-j-test.true, ap length c.requires.levels, count_start c.args.m.now, c.args.m.now.has_variables.few)

@@ -1,7 +1,4 @@
-use Rattle.std.proofs.Common.{◌≡◌, ◌≤◌, length}
-use Rattle.std.specs.Prelude.{vec_len, vec_capacity}
-use Rattle.mu_num.specs.IndexedSums.{tabulate}
-use Rattle.qss_machine.specs.Machines.{slope_at}
+use Rattle.qss_devs.proofs.Common.{◌≡◌, ◌≤◌, length, slope_at, tabulate, vec_capacity, vec_len}
 use Rattle.qss_devs.proofs.coupled_start.start_coupled_slopes.Given as goal
 
 -- the slopes so far

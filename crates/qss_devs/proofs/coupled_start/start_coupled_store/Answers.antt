@@ -1,19 +1,12 @@
 -- What is kept represents the start.
-use Rattle.std.proofs.Common.{◌≤◌, List, length, map, All, sym, ◌∙◌, ap, subst, arith}
-use Rattle.std.proofs.lemmas.List.{length-map}
-use Rattle.qss_machine.specs.declared.machine_parts.DiscreteInfo.{DiscreteInfo}
-use Rattle.qss_machine.specs.declared.machine_parts.StateInfo.{StateInfo}
-use Rattle.qss_machine.specs.declared.machine_parts.RowKind.TheVariants as kind
-use Rattle.qss_machine.specs.declared.compiled_machine.Machine.{Machine}
-use Rattle.qss_machine.specs.Runs.{snapshot_rows}
-use Rattle.qss_quant.specs.declared.quantizer.Quantizer.{Quantizer}
-use Rattle.qss_quant.specs.IntegratorLines.{Line}
+use Rattle.qss_devs.proofs.Common
+use Common.{◌∙◌, ◌≤◌, All, ap, arith, CrossingModel, DiscreteInfo, IntegratorModel, length}
+use Common.{length-map, Line, List, Machine, map, Quantizer, snapshot_rows, StateInfo, Store, subst}
+use Common.{sym}
 use Rattle.qss_hand.specs.Values.{Values}
-use Rattle.qss_components.specs.declared.crossing_model.CrossingModel.{CrossingModel}
-use Rattle.qss_components.specs.declared.integrator_model.IntegratorModel.{IntegratorModel}
-use Rattle.qss_devs.specs.declared.coupled_start.Store.{Store}
 use Rattle.qss_devs.proofs.WorldRows.{rows_at}
 use Rattle.qss_devs.proofs.FirstStands.{held, AreFirst, first_snapshot, first_stands}
+use Rattle.qss_machine.specs.declared.machine_parts.RowKind.TheVariants as kind
 use Rattle.qss_devs.proofs.coupled_start.start_coupled_store.Goals as goal
 
 pub start_coupled_parts-requires-clause-states : goal.start_coupled_parts-requires-clause-states

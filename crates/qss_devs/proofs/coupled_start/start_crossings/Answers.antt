@@ -1,7 +1,5 @@
 -- The crossings of all clauses.
-use Rattle.std.proofs.Common.{length, ◌∙◌, ap, arith}
-use Rattle.qss_devs.specs.Starts.{IsFirstAt}
-use Rattle.qss_components.proofs.Places.{each_none}
+use Rattle.qss_devs.proofs.Common.{◌∙◌, ap, arith, each_none, IsFirstAt, length}
 use Rattle.qss_devs.proofs.Begun.{places_all}
 use Rattle.qss_devs.proofs.coupled_start.start_crossings.Goals as goal
 

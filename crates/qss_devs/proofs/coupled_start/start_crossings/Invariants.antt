@@ -1,7 +1,4 @@
-use Rattle.std.proofs.Common.{◌≡◌, length}
-use Rattle.qss_machine.specs.Firing.{first_place}
-use Rattle.qss_components.specs.ComponentPlaces.{EachAt}
-use Rattle.qss_devs.specs.Starts.{IsFirstAt}
+use Rattle.qss_devs.proofs.Common.{◌≡◌, EachAt, first_place, IsFirstAt, length}
 use Rattle.qss_devs.proofs.coupled_start.start_crossings.Given as goal
 
 -- the crossings of the clauses so far

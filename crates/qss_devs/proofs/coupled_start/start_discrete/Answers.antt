@@ -1,16 +1,10 @@
 -- The discrete value in the unit of states.
-use Rattle.std.proofs.Common.{◌≡◌, ◌-◌, ◌<◌, length, ℕ, ℤ, ◌*ℤ◌, sym, ◌∙◌, ap, subst, arith}
-use Rattle.std.proofs.lemmas.Int.{to_z-of_z}
-use Rattle.std.specs.Int.RustNames.{FitsSigned}
-use Rattle.std.specs.Prelude.{nat_lt, if◌then◌else◌}
-use Rattle.mu_num.specs.Sizes.{IsWithin}
-use Rattle.qss_machine.specs.Machines.{discrete_count, level_unit}
-use Rattle.mu_num.specs.IndexedSums.{int_at}
-use Rattle.qss_components.specs.Agreement.{Values}
-use Rattle.qss_devs.specs.Starts.{start_values}
+use Rattle.qss_devs.proofs.Common
+use Common.{ℕ, ℤ, ◌*ℤ◌, ◌-◌, ◌<◌, ◌∙◌, ◌≡◌, ap, arith, discrete_count, FitsSigned, if◌then◌else◌}
+use Common.{int_at, IsWithin, length, level_unit, nat_lt, start_values, subst, sym, to_z-of_z}
+use Common.{Values, w128, w64}
 use Rattle.qss_devs.proofs.Begun.{start_each, discrete_small}
 use Rattle.qss_devs.proofs.coupled_start.start_discrete.Goals as goal
-use mir.Syntax.{w64, w128}
 
 pub start_own_place-own-requires : goal.start_own_place-own-requires
 start_own_place-own-requires c = omega (arith, c.requires.known, ap length c.as_slice.ensures)

@@ -1,6 +1,6 @@
 -- The flags are the truths of the crossings.
-use Rattle.std.proofs.Common.{length, ◌∙◌, ap}
-use Rattle.std.proofs.lemmas.List.{length-replicate, with_items_is}
+use Rattle.qss_devs.proofs.Common.{◌∙◌, ap, length, with_items_is}
+use Rattle.std.proofs.lemmas.List.{length-replicate}
 use Rattle.qss_devs.proofs.coupled_start.start_flags.Goals as goal
 
 pub settle_all_arrival_truths-requires : goal.settle_all_arrival_truths-requires

@@ -1,14 +1,9 @@
 -- One more function.
-use Rattle.std.proofs.Common.{◌≡◌, ◌<◌, ◌+◌, length, List, [], Vec, Global, ℤ, sym}
-use Rattle.std.proofs.Common.{◌∙◌, ap, subst, arith}
-use Rattle.std.proofs.lemmas.List.{get_or-map, get_or-set_other, length-map, length-set}
-use Rattle.std.specs.Prelude.{None}
-use Rattle.qss_machine.specs.declared.compiled_machine.Machine.{Machine}
-use Rattle.qss_machine.specs.Machines.{state_count, discrete_count}
-use Rattle.qss_components.specs.declared.function_inputs.FunctionInput.{FunctionInput}
-use Rattle.qss_components.specs.FunctionInputs.{AreInputs, input_levels, input_discretes}
-use Rattle.qss_components.proofs.Places.{each_more, each_none}
-use Rattle.qss_devs.specs.Starts.{start_values, read_levels, AreFirstInputs, IsFirstFunction}
+use Rattle.qss_devs.proofs.Common
+use Common.{[], ℤ, ◌+◌, ◌<◌, ◌∙◌, ◌≡◌, ap, AreFirstInputs, AreInputs, arith, discrete_count}
+use Common.{each_more, each_none, FunctionInput, get_or-map, get_or-set_other, Global}
+use Common.{input_discretes, input_levels, IsFirstFunction, length, length-map, length-set, List}
+use Common.{Machine, None, read_levels, start_values, state_count, subst, sym, Vec}
 use Rattle.qss_devs.proofs.StartInputs.{all_inputs, all_levels, all_discretes}
 use Rattle.qss_devs.proofs.coupled_start.start_functions.Goals as goal
 

@@ -1,8 +1,6 @@
-use Rattle.std.proofs.Common.{◌≡◌, ◌≤◌, ◌<◌, ◌+◌, ℕ, length, get_or}
-use Rattle.std.specs.Prelude.{vec_len, vec_capacity}
-use Rattle.qss_machine.specs.Machines.{state_count, discrete_count}
-use Rattle.qss_components.specs.ComponentPlaces.{EachAt}
-use Rattle.qss_devs.specs.Starts.{IsFirstFunction, AreFirstInputs}
+use Rattle.qss_devs.proofs.Common
+use Common.{ℕ, ◌+◌, ◌<◌, ◌≡◌, ◌≤◌, AreFirstInputs, discrete_count, EachAt, get_or, IsFirstFunction}
+use Common.{length, state_count, vec_capacity, vec_len}
 use Rattle.qss_devs.proofs.coupled_start.start_functions.Given as goal
 
 -- the functions so far, and the inputs of the other rows

@@ -1,17 +1,9 @@
 -- The entry has the line of its variable.
-use Rattle.std.proofs.Common.{◌≡◌, ◌-◌, ◌≤◌, ◌<◌, length, ℤ, pos, sym, ◌∙◌, ap, arith}
-use Rattle.std.proofs.lemmas.Int.{to_z-of_z}
-use Rattle.std.specs.Int.RustNames.{FitsSigned}
-use Rattle.qss_machine.specs.declared.machine_parts.Entry.{Entry}
-use Rattle.qss_machine.specs.Machines.{state_count}
-use Rattle.mu_num.specs.IndexedSums.{int_at}
-use Rattle.qss_components.specs.declared.crossing_model.Input.{Input}
-use Rattle.qss_components.specs.Agreement.{Values, Moving}
-use Rattle.qss_components.proofs.Variables.{moving_state}
-use Rattle.qss_devs.specs.Starts.{start_values}
+use Rattle.qss_devs.proofs.Common
+use Common.{ℤ, ◌-◌, ◌<◌, ◌∙◌, ◌≡◌, ◌≤◌, ap, arith, Entry, FitsSigned, Input, int_at, length, Moving}
+use Common.{moving_state, pos, start_values, state_count, sym, to_z-of_z, Values, w128}
 use Rattle.qss_devs.proofs.Begun.{start_each, moving_later}
 use Rattle.qss_devs.proofs.coupled_start.start_input.Goals as goal
-use mir.Syntax.{w128}
 
 abbrev input : Entry → Moving → Input
 input entry moving = record { var = entry.var; coef = entry.coef; tick = 0; at = moving.at; speed = moving.speed }

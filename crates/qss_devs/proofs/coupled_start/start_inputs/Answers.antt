@@ -1,11 +1,8 @@
 -- One more input.
-use Rattle.std.proofs.Common.{◌+◌, ◌<◌, ◌++◌, ◌∷◌, [], List, length, get_or, map, take, pos, sym}
-use Rattle.std.proofs.Common.{◌∙◌, ap, subst, arith}
-use Rattle.std.proofs.lemmas.List.{map-append, take_all, take_more}
-use Rattle.qss_machine.specs.declared.machine_parts.Entry.{Entry}
-use Rattle.qss_machine.specs.Machines.{state_count, discrete_count}
-use Rattle.qss_components.specs.declared.crossing_model.Input.{Input}
-use Rattle.qss_devs.specs.Starts.{start_values, first_input}
+use Rattle.qss_devs.proofs.Common
+use Common.{[], ◌++◌, ◌+◌, ◌<◌, ◌∙◌, ◌∷◌, ap, arith, discrete_count, Entry, first_input, get_or}
+use Common.{Input, length, List, map, pos, start_values, state_count, subst, sym, take, take_all}
+use Rattle.std.proofs.lemmas.List.{map-append, take_more}
 use Rattle.qss_devs.proofs.coupled_start.start_inputs.Goals as goal
 
 abbrev none : Entry

@@ -1,6 +1,5 @@
-use Rattle.std.proofs.Common.{◌≡◌, ◌≤◌, map, take, length}
-use Rattle.std.specs.Prelude.{vec_len, vec_capacity}
-use Rattle.qss_devs.specs.Starts.{start_values, first_input}
+use Rattle.qss_devs.proofs.Common
+use Common.{◌≡◌, ◌≤◌, first_input, length, map, start_values, take, vec_capacity, vec_len}
 use Rattle.qss_devs.proofs.coupled_start.start_inputs.Given as goal
 
 -- the inputs so far

@@ -1,10 +1,7 @@
 -- One more integrator.
-use Rattle.std.proofs.Common.{◌≡◌, ◌<◌, length, sym, ◌∙◌, ap, subst, arith}
-use Rattle.qss_machine.specs.declared.compiled_machine.Machine.{Machine}
-use Rattle.qss_machine.specs.Machines.{state_count}
-use Rattle.qss_components.specs.Agreement.{Values}
-use Rattle.qss_components.proofs.Places.{each_more, each_none}
-use Rattle.qss_devs.specs.Starts.{IsFirstIntegrator}
+use Rattle.qss_devs.proofs.Common
+use Common.{◌<◌, ◌∙◌, ◌≡◌, ap, arith, each_more, each_none, IsFirstIntegrator, length, Machine}
+use Common.{state_count, subst, sym, Values}
 use Rattle.qss_devs.proofs.Begun.{start_each}
 use Rattle.qss_devs.proofs.coupled_start.start_integrators.Goals as goal
 

@@ -1,7 +1,5 @@
-use Rattle.std.proofs.Common.{◌≡◌, ◌≤◌, length}
-use Rattle.std.specs.Prelude.{vec_len, vec_capacity}
-use Rattle.qss_components.specs.ComponentPlaces.{EachAt}
-use Rattle.qss_devs.specs.Starts.{IsFirstIntegrator}
+use Rattle.qss_devs.proofs.Common
+use Common.{◌≡◌, ◌≤◌, EachAt, IsFirstIntegrator, length, vec_capacity, vec_len}
 use Rattle.qss_devs.proofs.coupled_start.start_integrators.Given as goal
 
 -- the integrators so far

@@ -1,10 +1,7 @@
 -- The lists are those at the start.
-use Rattle.std.proofs.Common.{◌≡◌, List, ℤ, ◌∙◌, ap}
-use Rattle.mu_num.specs.IndexedSums.{tabulate}
-use Rattle.qss_machine.specs.Machines.{state_count, slope_at, start_states, start_discretes}
-use Rattle.qss_events.proofs.Starts.{levels_at_start}
-use Rattle.qss_components.specs.Agreement.{Values}
-use Rattle.qss_devs.specs.Starts.{start_values}
+use Rattle.qss_devs.proofs.Common
+use Common.{ℤ, ◌∙◌, ◌≡◌, ap, levels_at_start, List, slope_at, start_discretes, start_states}
+use Common.{start_values, state_count, tabulate, Values}
 use Rattle.qss_devs.proofs.coupled_start.start_values.Goals as goal
 
 pub start_coupled_slopes-requires-clause-levels : goal.start_coupled_slopes-requires-clause-levels

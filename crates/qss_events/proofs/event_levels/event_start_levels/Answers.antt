@@ -1,14 +1,10 @@
 -- One more level.
-use Rattle.std.proofs.Common.{◌≡◌, ◌<◌, ◌++◌, ◌∷◌, [], length, get_or, sym, ◌∙◌, ap, subst, arith, to_z, of_z}
-use Rattle.std.proofs.lemmas.Int.{ints, to_z-of_z}
-use Rattle.std.specs.Int.RustNames.{FitsSigned}
-use Rattle.mu_num.specs.Sizes.{IsWithin}
-use Rattle.qss_machine.specs.declared.machine_parts.StateInfo.{StateInfo}
-use Rattle.mu_num.specs.Levels.{level_below}
-use Rattle.qss_machine.specs.Machines.{level_unit}
+use Rattle.qss_events.proofs.Common
+use Common.{[], ◌++◌, ◌<◌, ◌∙◌, ◌∷◌, ◌≡◌, ap, arith, FitsSigned, get_or, ints, IsWithin, length}
+use Common.{level_below, level_unit, StateInfo, subst, sym, to_z-of_z, w128, w64}
+use Rattle.std.proofs.Common.{to_z, of_z}
 use Rattle.qss_events.proofs.Starts.{levels_more, levels_all}
 use Rattle.qss_events.proofs.event_levels.event_start_levels.Goals as goal
-use mir.Syntax.{w64, w128}
 
 pub loop-j-preserved : goal.loop-j-preserved
 loop-j-preserved c =

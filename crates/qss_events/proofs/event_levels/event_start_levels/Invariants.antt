@@ -1,8 +1,5 @@
-use Rattle.std.proofs.Common.{◌≡◌, ◌≤◌, map, take, length}
-use Rattle.std.specs.Prelude.{vec_len, vec_capacity}
-use Rattle.qss_machine.specs.declared.machine_parts.StateInfo.{StateInfo}
-use Rattle.mu_num.specs.Levels.{level_below}
-use Rattle.qss_machine.specs.Machines.{level_unit}
+use Rattle.qss_events.proofs.Common
+use Common.{◌≡◌, ◌≤◌, length, level_below, level_unit, map, StateInfo, take, vec_capacity, vec_len}
 use Rattle.qss_events.proofs.event_levels.event_start_levels.Given as goal
 
 -- the levels so far

@@ -1,15 +1,10 @@
 -- The first tick after a line's own, at the quantum of its level.
-use Rattle.std.proofs.Common.{◌≡◌, refl, sym, ◌∙◌, ap, subst, arith}
-use Rattle.std.proofs.lemmas.Int.{ints, to_z-of_z}
-use Rattle.std.specs.Int.RustNames.{FitsSigned}
-use Rattle.mu_num.specs.Sizes.{IsWithin, IsPositiveWithin}
-use Rattle.qss_machine.specs.Machines.{quantum_of}
-use Rattle.qss_quant.specs.IntegratorLines.{Line}
-use Rattle.qss_machine.proofs.Near.{unit_fits}
+use Rattle.qss_events.proofs.Common
+use Common.{◌∙◌, ◌≡◌, ap, arith, FitsSigned, ints, IsPositiveWithin, IsWithin, Line, quantum_of}
+use Common.{refl, subst, sym, to_z-of_z, unit_fits, w128, w64}
 use Rattle.qss_events.proofs.Ranges.{quantum_fits}
 use Rattle.qss_events.proofs.NextLevels.{due_here}
 use Rattle.qss_events.proofs.event_levels.event_tick_leaving_level.Goals as goal
-use mir.Syntax.{w64, w128}
 
 pub due-requires-clause-quantum : goal.due-requires-clause-quantum
 due-requires-clause-quantum c =

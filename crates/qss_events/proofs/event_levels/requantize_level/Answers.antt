@@ -1,20 +1,11 @@
 -- The result of the quantizer is an allowed next level.
-use Rattle.std.proofs.Common.{◌≡◌, ℤ, sym, subst, arith}
-use Rattle.std.proofs.lemmas.Int.{ints, to_z-of_z}
-use Rattle.std.specs.Int.RustNames.{FitsSigned}
-use Rattle.std.specs.Prelude.{Option}
-use Rattle.mu_num.specs.Sizes.{IsPositiveWithin}
-use Rattle.qss_machine.specs.Machines.{level_unit, quantum_of}
-use Rattle.qss_machine.specs.Ticks.{IsNextLevel}
-use Rattle.qss_quant.specs.declared.quantizer.Rule.{Rule}
-use Rattle.qss_quant.specs.IntegratorLines.{IsLineWithinQuantum, IsAway}
-use Rattle.qss_quant.specs.LevelRules.{IsAnswer}
-use Rattle.qss_events.specs.AllowedLevels.{IsAllowedLevel}
-use Rattle.qss_machine.proofs.Near.{unit_fits}
+use Rattle.qss_events.proofs.Common
+use Common.{ℤ, ◌≡◌, arith, FitsSigned, ints, IsAllowedLevel, IsAnswer, IsAway, IsLineWithinQuantum}
+use Common.{IsNextLevel, IsPositiveWithin, level_unit, Option, quantum_of, Rule, subst, sym}
+use Common.{to_z-of_z, unit_fits, w128, w64}
 use Rattle.qss_events.proofs.Ranges.{quantum_fits}
 use Rattle.qss_events.proofs.NextLevels.{next_by}
 use Rattle.qss_events.proofs.event_levels.requantize_level.Goals as goal
-use mir.Syntax.{w64, w128}
 
 kept_by : (one x old q : ℤ) (answer : ℤ) {unit quantum : ℤ} → (IsLineWithinQuantum unit x old quantum → answer ≡ old) → unit ≡ one → quantum ≡ q → IsLineWithinQuantum one x old q → answer ≡ old
 kept_by one x old q answer {unit} {quantum} kept e f near = kept (subst (λ u. IsLineWithinQuantum u x old quantum) (sym e) (subst (λ v. IsLineWithinQuantum one x old v) (sym f) near))

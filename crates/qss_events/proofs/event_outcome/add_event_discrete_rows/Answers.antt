@@ -1,12 +1,8 @@
 -- One more row.
-use Rattle.std.proofs.Common.{◌+◌, ℤ, pos, ◌∙◌, ap, arith}
-use Rattle.std.proofs.lemmas.Int.{ints, to_z-of_z}
-use Rattle.std.specs.Int.RustNames.{FitsSigned}
-use Rattle.qss_machine.specs.declared.machine_parts.Row.{Row}
-use Rattle.mu_num.specs.IndexedSums.{int_at}
+use Rattle.qss_events.proofs.Common
+use Common.{ℤ, ◌+◌, ◌∙◌, ap, arith, FitsSigned, int_at, ints, pos, Row, to_z-of_z, w64}
 use Rattle.qss_events.proofs.EndRows.{discrete_row, row_more}
 use Rattle.qss_events.proofs.event_outcome.add_event_discrete_rows.Goals as goal
-use mir.Syntax.{w64}
 
 pub loop-g-preserved : goal.loop-g-preserved
 loop-g-preserved c =

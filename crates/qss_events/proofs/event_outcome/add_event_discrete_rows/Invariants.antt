@@ -1,6 +1,4 @@
-use Rattle.std.proofs.Common.{◌≡◌, ◌+◌, ◌++◌, map}
-use Rattle.std.specs.List.{range_with_len}
-use Rattle.std.specs.Prelude.{vec_len, vec_capacity}
+use Rattle.qss_events.proofs.Common.{◌++◌, ◌+◌, ◌≡◌, map, range_with_len, vec_capacity, vec_len}
 use Rattle.qss_events.proofs.EndRows.{discrete_row}
 use Rattle.qss_events.proofs.event_outcome.add_event_discrete_rows.Given as goal
 

@@ -1,6 +1,5 @@
 -- A condition that became true is found.
-use Rattle.std.proofs.Common.{sym, ◌∙◌, arith, inl, inr}
-use Rattle.std.proofs.lemmas.Bool.{cases_Bool}
+use Rattle.qss_events.proofs.Common.{◌∙◌, arith, cases_Bool, inl, inr, sym}
 use Rattle.qss_events.proofs.Risen.{none_due, some_due}
 use Rattle.qss_events.proofs.event_outcome.has_event_condition_risen.Goals as goal
 

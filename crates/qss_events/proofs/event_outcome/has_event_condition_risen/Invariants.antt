@@ -1,5 +1,4 @@
-use Rattle.std.proofs.Common.{◌≡◌, ℕ, ◌<◌, true, false}
-use Rattle.qss_events.specs.Schedules.{became_true}
+use Rattle.qss_events.proofs.Common.{ℕ, ◌<◌, ◌≡◌, became_true, false, true}
 use Rattle.qss_events.proofs.event_outcome.has_event_condition_risen.Given as goal
 
 -- whether one of the conditions so far became true

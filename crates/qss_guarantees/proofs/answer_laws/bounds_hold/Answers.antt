@@ -1,4 +1,4 @@
-use Rattle.qss_answers.proofs.BoundsHold.{bounds}
+use Rattle.qss_guarantees.proofs.Common.{bounds}
 use Rattle.qss_guarantees.proofs.answer_laws.bounds_hold.Goals as goal
 
 pub returns : goal.returns

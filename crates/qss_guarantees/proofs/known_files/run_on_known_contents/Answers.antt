@@ -1,8 +1,5 @@
-use Rattle.std.proofs.Common.{ap}
-use Rattle.std.specs.Prelude.{map}
-use Rattle.qss_cli.specs.Commands.{files_of}
-use Rattle.qss_guarantees.specs.ExpectedResults.{ExpectedResult, IsExpectedResult}
-use Rattle.qss_guarantees.specs.Replies.{IsReplyGiven}
+use Rattle.qss_guarantees.proofs.Common
+use Common.{ap, ExpectedResult, files_of, IsExpectedResult, IsReplyGiven, map}
 use Rattle.qss_guarantees.proofs.Completeness.{whole_answer}
 use Rattle.qss_guarantees.proofs.KnownFiles.{main_call, reply_met, line_reported}
 use Rattle.qss_guarantees.proofs.KnownFiles.{no_fault_unwritten, fault_expected, fault_counted}

@@ -1,15 +1,12 @@
 -- The value in its unit.
-use Rattle.std.proofs.Common.{◌≡◌, ℕ, ◌^◌, List, ℤ, pos, ap, ◌∙◌}
-use Rattle.std.proofs.lemmas.Int.{to_z-of_z}
-use Rattle.std.specs.Int.RustNames.{FitsSigned}
+use Rattle.qss_hand.proofs.Common
+use Common.{ℕ, ℤ, ◌∙◌, ◌≡◌, ap, FitsSigned, Form, List, Machine, pos, to_z-of_z, Values}
+use Rattle.std.proofs.Common.{◌^◌}
 use Rattle.mu_num.specs.Rounding.{nearest_of}
-use Rattle.qss_machine.specs.declared.machine_parts.Form.{Form}
-use Rattle.qss_machine.specs.declared.compiled_machine.Machine.{Machine}
 use Rattle.qss_machine.specs.Machines.{value_of}
 use Rattle.qss_machine.proofs.Powers.{power_positive}
-use Rattle.qss_hand.specs.Values.{Values}
-use Rattle.qss_hand.proofs.handler_statements.assigned.Goals as goal
 use mir.Syntax.{w128}
+use Rattle.qss_hand.proofs.handler_statements.assigned.Goals as goal
 
 value_by : (m : Machine) (form : Form) (w : Values) (x d pre : List ℤ) (tick : ℕ) → x ≡ w.x → d ≡ w.d → pre ≡ w.pre → tick ≡ w.tick →
     value_of m form x d pre tick ≡ value_of m form w.x w.d w.pre w.tick

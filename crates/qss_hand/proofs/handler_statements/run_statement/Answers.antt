@@ -1,5 +1,5 @@
 -- There are few states.
-use Rattle.std.proofs.Common.{length, ap, arith}
+use Rattle.qss_hand.proofs.Common.{ap, arith, length}
 use Rattle.qss_hand.proofs.handler_statements.run_statement.Goals as goal
 
 pub overflow_cast-states : goal.overflow_cast-states

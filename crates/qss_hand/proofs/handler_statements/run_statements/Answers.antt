@@ -1,11 +1,13 @@
 -- Each statement adds its part; the first that overflows ends them.
-use Rattle.std.proofs.Common.{◌≡◌, ◌+◌, ◌<◌, ◌≤◌, length, sym, ◌∙◌, ap, subst, arith, rules}
+use Rattle.qss_hand.proofs.Common
+use Common.{◌∙◌, ◌≡◌, ap, AreValuesOf, arith, fold, HandlerState, handling_of, length, run_action}
+use Common.{Some, subst, sym, Values, values_after}
+use Rattle.std.proofs.Common.{rules}
 use Rattle.std.proofs.lemmas.List.{take_all}
-use Rattle.std.specs.Prelude.{fold, Some, Err}
-use Rattle.qss_machine.specs.Handlers.{HandlerState, run_action}
-use Rattle.qss_hand.specs.Values.{Values}
-use Rattle.qss_hand.specs.Works.{AreValuesOf, handling_of, values_after, overflow_of}
-use Rattle.qss_hand.proofs.AfterStatements.{fits_action, rows_action, so_far_more, stuck, from_start, all_done}
+use Rattle.std.specs.Prelude.{Err}
+use Rattle.qss_hand.specs.Works.{overflow_of}
+use Rattle.qss_hand.proofs.AfterStatements.{fits_action, rows_action, so_far_more, stuck}
+use Rattle.qss_hand.proofs.AfterStatements.{from_start, all_done}
 use Rattle.qss_hand.proofs.handler_statements.run_statements.Goals as goal
 
 pub run_statement-requires-clause-room : goal.run_statement-requires-clause-room

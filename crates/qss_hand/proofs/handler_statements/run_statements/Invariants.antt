@@ -1,6 +1,5 @@
-use Rattle.std.proofs.Common.{◌≡◌, ◌+◌, ◌≤◌, length, take, fold}
-use Rattle.qss_machine.specs.Handlers.{run_action}
-use Rattle.qss_hand.specs.Works.{AreValuesOf, handling_of}
+use Rattle.qss_hand.proofs.Common
+use Common.{◌+◌, ◌≡◌, ◌≤◌, AreValuesOf, fold, handling_of, length, run_action, take}
 use Rattle.qss_hand.proofs.handler_statements.run_statements.Given as goal
 
 -- the statements so far have run, and none overflowed

@@ -1,14 +1,11 @@
 -- One more value follows, and in the end all have.
-use Rattle.std.proofs.Common.{◌+◌, ◌<◌, ℕ, ℤ, List, pos, length, get_or, drop, set, to_z, of_z, sym, ◌∙◌, ap, subst, arith, ◌==◌}
-use Rattle.std.proofs.lemmas.Int.{ints, to_z-of_z}
-use Rattle.std.proofs.lemmas.List.{length-set, drop_all, ext_get_or}
-use Rattle.std.specs.Int.RustNames.{FitsSigned}
-use Rattle.std.specs.List.{list_any}
-use Rattle.mu_num.specs.IndexedSums.{int_at}
-use Rattle.qss_hand.specs.Assigned.{AreSameBut}
+use Rattle.qss_hand.proofs.Common
+use Common.{ℕ, ℤ, ◌+◌, ◌<◌, ◌==◌, ◌∙◌, ap, AreSameBut, arith, drop, FitsSigned, get_or, int_at}
+use Common.{length, length-set, List, list_any, of_z, pos, set, subst, sym, to_z, to_z-of_z, w64}
+use Rattle.std.proofs.lemmas.Int.{ints}
+use Rattle.std.proofs.lemmas.List.{drop_all, ext_get_or}
 use Rattle.qss_hand.proofs.Assigned.{same_more}
 use Rattle.qss_hand.proofs.work.copy_work_discretes.Goals as goal
-use mir.Syntax.{w64}
 
 pub loop-assigned-preserved : goal.loop-assigned-preserved
 loop-assigned-preserved c =

@@ -1,5 +1,4 @@
-use Rattle.std.proofs.Common.{◌≡◌, length, drop}
-use Rattle.qss_hand.specs.Assigned.{AreSameBut}
+use Rattle.qss_hand.proofs.Common.{◌≡◌, AreSameBut, drop, length}
 use Rattle.qss_hand.proofs.work.copy_work_discretes.Given as goal
 
 -- the values at the places so far have followed

@@ -1,10 +1,8 @@
 -- The rows of the clauses so far and of one more are among all.
-use Rattle.std.proofs.Common.{◌≡◌, ℕ, ◌+◌, ◌<◌, ◌≤◌, List, length, get_or, take, sym, ◌∙◌, ap, subst, arith}
+use Rattle.qss_hand.proofs.Common
+use Common.{ℕ, ◌+◌, ◌<◌, ◌≡◌, ◌≤◌, ap, arith, BranchInfo, ClauseInfo, get_or, length, List}
+use Common.{row_room, sum_by, take}
 use Rattle.std.proofs.lemmas.List.Sums.{sum_by_more, sum_by_more_le}
-use Rattle.std.specs.Prelude.{sum_by}
-use Rattle.qss_machine.specs.declared.machine_parts.BranchInfo.{BranchInfo}
-use Rattle.qss_machine.specs.declared.machine_parts.ClauseInfo.{ClauseInfo}
-use Rattle.qss_hand.specs.Works.{row_room}
 use Rattle.qss_hand.proofs.work.work_row_room.Goals as goal
 
 abbrev rows_of : ClauseInfo → ℕ

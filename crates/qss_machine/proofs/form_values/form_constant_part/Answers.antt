@@ -1,8 +1,5 @@
-use Rattle.std.proofs.Math.Pow.{pow_mono}
-use Rattle.std.proofs.lemmas.Int.{to_z-of_z}
-use Rattle.std.specs.Int.RustNames.{FitsSigned}
+use Rattle.qss_machine.proofs.Common.{FitsSigned, pow_mono, to_z-of_z, w128}
 use Rattle.qss_machine.proofs.form_values.form_constant_part.Goals as goal
-use mir.Syntax.{w128}
 
 pub multiply_form_gamma-requires-clause-unit : goal.multiply_form_gamma-requires-clause-unit
 multiply_form_gamma-requires-clause-unit c =

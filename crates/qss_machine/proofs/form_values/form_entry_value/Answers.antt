@@ -1,9 +1,7 @@
-use Rattle.std.proofs.Common.{◌^◌, ◌≤◌, ◌*ℤ◌, arith, ◌∙◌, ap}
-use Rattle.std.proofs.Math.Nat.{mul-le-mul_left}
-use Rattle.std.proofs.lemmas.Int.{ints, to_z-of_z, unsigned_abs-mul}
-use Rattle.std.specs.Int.RustNames.{unsigned_abs, FitsSigned}
+use Rattle.qss_machine.proofs.Common
+use Common.{◌*ℤ◌, ◌^◌, ◌∙◌, ◌≤◌, ap, arith, FitsSigned, ints, mul-le-mul_left, to_z-of_z}
+use Common.{unsigned_abs, unsigned_abs-mul, w128, w64}
 use Rattle.qss_machine.proofs.form_values.form_entry_value.Goals as goal
-use mir.Syntax.{w64, w128}
 
 pub returns-clause-value : goal.returns-clause-value
 returns-clause-value c =

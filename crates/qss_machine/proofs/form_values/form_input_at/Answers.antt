@@ -1,13 +1,10 @@
-use Rattle.std.proofs.Common.{◌≡◌, ◌-◌, ◌^◌, ◌<◌, ◌≤◌, ◌∙◌, sym, ℕ, ℤ, pos, ◌*ℤ◌, List, ◌++◌, map, length, get_or, arith}
+use Rattle.qss_machine.proofs.Common
+use Common.{ℕ, ℤ, ◌*ℤ◌, ◌++◌, ◌-◌, ◌<◌, ◌^◌, ◌∙◌, ◌≡◌, ◌≤◌, All-get_or, arith, FitsSigned, get_or}
+use Common.{get_or-map, get_or_append_left, ints, IsWithin, length, length-map, List, map, pos, sym}
+use Common.{to_z-of_z, w128, w64}
 use Rattle.std.proofs.Math.Seq.{get_or-append_right}
-use Rattle.std.proofs.lemmas.Int.{ints, to_z-of_z}
-use Rattle.std.proofs.lemmas.List.{get_or_append_left, get_or-map, length-map}
-use Rattle.std.proofs.lemmas.List.Elements.{All-get_or}
-use Rattle.std.specs.Int.RustNames.{FitsSigned}
-use Rattle.mu_num.specs.Sizes.{IsWithin}
 use Rattle.qss_machine.proofs.Loops.{fits_below}
 use Rattle.qss_machine.proofs.form_values.form_input_at.Goals as goal
-use mir.Syntax.{w64, w128}
 
 -- a place of three lists, one after the other, the last two of them in another unit
 module _ (unit : ℤ) (states discretes before : List ℤ) (k : ℕ) (past : length states ≤ k) where

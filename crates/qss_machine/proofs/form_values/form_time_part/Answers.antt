@@ -1,8 +1,6 @@
-use Rattle.std.proofs.Math.Nat.{mul-le-mul_left}
-use Rattle.std.proofs.lemmas.Int.{to_z-of_z, unsigned_abs-mul}
-use Rattle.std.specs.Int.RustNames.{unsigned_abs, FitsSigned}
+use Rattle.qss_machine.proofs.Common
+use Common.{FitsSigned, mul-le-mul_left, to_z-of_z, unsigned_abs, unsigned_abs-mul, w128, w64}
 use Rattle.qss_machine.proofs.form_values.form_time_part.Goals as goal
-use mir.Syntax.{w64, w128}
 
 pub returns-clause-bound : goal.returns-clause-bound
 returns-clause-bound c =

@@ -1,9 +1,6 @@
-use Rattle.std.proofs.Common.{◌^◌, ◌≤◌, arith}
-use Rattle.std.proofs.Math.Pow.{pow_mono}
-use Rattle.std.specs.Int.RustNames.{unsigned_abs, FitsSigned}
+use Rattle.qss_machine.proofs.Common.{◌^◌, ◌≤◌, arith, FitsSigned, pow_mono, unsigned_abs, w128}
 use Rattle.qss_machine.proofs.Loops.{product_is, product_bound}
 use Rattle.qss_machine.proofs.form_values.form_unit_tick.Goals as goal
-use mir.Syntax.{w128}
 
 pub returns-clause-bound : goal.returns-clause-bound
 returns-clause-bound c =

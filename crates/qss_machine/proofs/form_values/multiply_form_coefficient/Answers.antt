@@ -1,9 +1,6 @@
-use Rattle.std.proofs.Common.{◌≡◌, ◌^◌, ◌∙◌, ◌*ℤ◌, ap, arith}
-use Rattle.std.proofs.lemmas.Int.{to_z-of_z}
-use Rattle.std.specs.Int.RustNames.{FitsSigned}
+use Rattle.qss_machine.proofs.Common.{◌*ℤ◌, ◌^◌, ◌∙◌, ◌≡◌, ap, arith, FitsSigned, to_z-of_z, w128}
 use Rattle.qss_machine.proofs.Loops.{product_fits, product_is}
 use Rattle.qss_machine.proofs.form_values.multiply_form_coefficient.Goals as goal
-use mir.Syntax.{w128}
 
 pub overflow_mul-result : goal.overflow_mul-result
 overflow_mul-result c =

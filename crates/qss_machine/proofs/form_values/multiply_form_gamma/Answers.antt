@@ -1,4 +1,4 @@
-use Rattle.std.proofs.Common.{◌^◌, arith}
+use Rattle.qss_machine.proofs.Common.{◌^◌, arith}
 use Rattle.qss_machine.proofs.Loops.{product_is, product_bound}
 use Rattle.qss_machine.proofs.form_values.multiply_form_gamma.Goals as goal
 

@@ -1,9 +1,5 @@
-use Rattle.std.proofs.Common.{◌∙◌}
-use Rattle.std.proofs.Math.Pow.{pow_mono}
-use Rattle.std.proofs.lemmas.Int.{to_z-of_z}
-use Rattle.std.specs.Int.RustNames.{FitsSigned}
+use Rattle.qss_machine.proofs.Common.{◌∙◌, FitsSigned, pow_mono, to_z-of_z, w128, w64}
 use Rattle.qss_machine.proofs.form_values.scale_discrete_value.Goals as goal
-use mir.Syntax.{w64, w128}
 
 pub returns-clause-value : goal.returns-clause-value
 returns-clause-value c =

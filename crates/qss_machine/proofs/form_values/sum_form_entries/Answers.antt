@@ -1,12 +1,8 @@
-use Rattle.std.proofs.Common.{◌^◌, ◌++◌, map, ℤ, pos, ◌*ℤ◌, arith, sym, ◌∙◌}
-use Rattle.std.specs.Int.RustNames.{unsigned_abs}
-use Rattle.qss_machine.specs.declared.machine_parts.Entry.{Entry}
-use Rattle.mu_num.specs.IndexedSums.{int_at}
+use Rattle.qss_machine.proofs.Common
+use Common.{ℤ, ◌*ℤ◌, ◌++◌, ◌^◌, ◌∙◌, arith, Entry, int_at, map, pos, sym, to_z, unsigned_abs, w128}
 use Rattle.qss_machine.proofs.Loops.{sum_done, weighed_fits, weighed_sum, weighed_bound}
 use Rattle.qss_machine.proofs.SumLaws.{weighted_sum-entries}
 use Rattle.qss_machine.proofs.form_values.sum_form_entries.Goals as goal
-use mir.Syntax.{w128}
-use mir.Val.{to_z}
 
 pub overflow_add-sum : goal.overflow_add-sum
 overflow_add-sum c =

@@ -1,5 +1,6 @@
-use Rattle.std.proofs.Common.{◌≡◌, ◌*◌, ◌^◌, ◌≤◌, ◌++◌, take, map, unsigned_abs, ◌*ℤ◌, pos, sum_by}
-use Rattle.mu_num.specs.IndexedSums.{int_at, sum_over}
+use Rattle.qss_machine.proofs.Common
+use Common.{◌*ℤ◌, ◌*◌, ◌++◌, ◌^◌, ◌≡◌, ◌≤◌, int_at, map, pos, sum_by, sum_over, take}
+use Rattle.std.proofs.Common.{unsigned_abs}
 use Rattle.qss_machine.proofs.form_values.sum_form_entries.Given as goal
 
 -- the sum so far, at most the coefficients so far times the greatest value

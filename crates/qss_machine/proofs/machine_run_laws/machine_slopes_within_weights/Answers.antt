@@ -1,5 +1,5 @@
+use Rattle.qss_machine.proofs.Common.{row_at}
 use Rattle.qss_machine.proofs.WeightLaws.{slope-within_weight}
-use Rattle.qss_machine.specs.Machines.{row_at}
 use Rattle.qss_machine.proofs.machine_run_laws.machine_slopes_within_weights.Goals as goal
 
 pub returns : goal.returns

@@ -1,12 +1,10 @@
-use Rattle.std.proofs.Common.{◌+◌, ◌^◌, ◌≤◌, ◌++◌, length, ◌+ℤ◌, ◌-ℤ◌, ◌*ℤ◌, arith, sym, ◌∙◌, ap}
-use Rattle.std.proofs.lemmas.Int.{ints, to_z-of_z}
-use Rattle.std.specs.Int.RustNames.{unsigned_abs, FitsSigned}
-use Rattle.mu_num.specs.IndexedSums.{int_at, abs_of, sum_below}
-use Rattle.qss_machine.specs.Slopes.{coefficient_of, mode_coefficient}
+use Rattle.qss_machine.proofs.Common
+use Common.{◌*ℤ◌, ◌++◌, ◌+ℤ◌, ◌+◌, ◌-ℤ◌, ◌^◌, ◌∙◌, ◌≤◌, abs_of, ap, arith, coefficient_of}
+use Common.{FitsSigned, int_at, ints, length, mode_coefficient, sum_below, sym, to_z-of_z}
+use Common.{unsigned_abs, w128}
 use Rattle.qss_machine.proofs.Few.{entries_few}
 use Rattle.qss_machine.proofs.WeightLaws.{sizes_sum-entries, weight_parts}
 use Rattle.qss_machine.proofs.slope_rows.absolute_row_sum.Goals as goal
-use mir.Syntax.{w128}
 
 pub slope_entry_weight-own-requires-clause-count_limit : goal.slope_entry_weight-own-requires-clause-count_limit
 slope_entry_weight-own-requires-clause-count_limit c =

@@ -1,10 +1,6 @@
-use Rattle.std.proofs.Common.{◌^◌, pos, arith, ◌==◌}
-use Rattle.std.specs.Prelude.{if◌then◌else◌}
-use Rattle.qss_machine.specs.declared.machine_parts.Entry.{Entry}
+use Rattle.qss_machine.proofs.Common.{◌==◌, ◌^◌, arith, Entry, if◌then◌else◌, pos, to_z, w128}
 use Rattle.qss_machine.proofs.Loops.{sum_step}
 use Rattle.qss_machine.proofs.slope_rows.entry_coefficient.Goals as goal
-use mir.Syntax.{w128}
-use mir.Val.{to_z}
 
 pub loop-entry-preserved : goal.loop-entry-preserved
 loop-entry-preserved c =

@@ -1,5 +1,5 @@
-use Rattle.std.proofs.Common.{◌≡◌, ◌*◌, ◌^◌, ◌≤◌, take, unsigned_abs}
-use Rattle.qss_machine.specs.Slopes.{coefficient_of}
+use Rattle.qss_machine.proofs.Common.{◌*◌, ◌^◌, ◌≡◌, ◌≤◌, coefficient_of, take}
+use Rattle.std.proofs.Common.{unsigned_abs}
 use Rattle.qss_machine.proofs.slope_rows.entry_coefficient.Given as goal
 
 -- the sum so far, which each entry changes by less than 2 ^ 63

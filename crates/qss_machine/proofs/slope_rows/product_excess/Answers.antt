@@ -1,16 +1,13 @@
 -- The states between those of products contribute 0.
-use Rattle.std.proofs.Common.{◌≡◌, ℕ, ◌+◌, ◌^◌, ◌<◌, ◌≤◌, List, length, get_or, ℤ, unsigned_abs, pos, ◌*◌, ◌*ℤ◌, ◌-ℤ◌, sym, ◌∙◌, ap, arith}
-use Rattle.std.proofs.Math.IntN.{zero-*ℤ}
-use Rattle.std.proofs.lemmas.Int.{ints}
-use Rattle.qss_machine.specs.declared.machine_parts.Product.{Product}
-use Rattle.qss_machine.specs.declared.machine_parts.SlopeRow.{SlopeRow}
-use Rattle.mu_num.specs.IndexedSums.{int_at, abs_of, sum_below}
-use Rattle.qss_machine.specs.Slopes.{coefficient_of, mode_coefficient}
+use Rattle.qss_machine.proofs.Common
+use Common.{ℕ, ℤ, ◌*ℤ◌, ◌*◌, ◌+◌, ◌-ℤ◌, ◌<◌, ◌^◌, ◌∙◌, ◌≡◌, ◌≤◌, abs_of, ap, arith, coefficient_of}
+use Common.{get_or, int_at, ints, length, List, mode_coefficient, pos, Product, SlopeRow, sum_below}
+use Common.{sym, to_z, w128, zero-*ℤ}
+use Rattle.std.proofs.Common.{unsigned_abs}
 use Rattle.qss_machine.proofs.Loops.{below_step}
-use Rattle.qss_machine.proofs.ProductStates.{IsFree, free_between, free_behind, below_one_more, own_mode, sum_past}
+use Rattle.qss_machine.proofs.ProductStates.{IsFree, free_between, free_behind, below_one_more}
+use Rattle.qss_machine.proofs.ProductStates.{own_mode, sum_past}
 use Rattle.qss_machine.proofs.slope_rows.product_excess.Goals as goal
-use mir.Syntax.{w128}
-use mir.Val.{to_z}
 
 -- what a state's products add to an absolute row sum
 abbrev excess_part : ℕ → SlopeRow → List ℤ → List ℤ → ℕ → ℤ

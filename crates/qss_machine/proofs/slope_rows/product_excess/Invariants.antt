@@ -1,6 +1,7 @@
-use Rattle.std.proofs.Common.{◌≡◌, ◌*◌, ◌^◌, ◌≤◌, length, unsigned_abs, ◌*ℤ◌, ◌-ℤ◌}
-use Rattle.mu_num.specs.IndexedSums.{int_at, abs_of, sum_below}
-use Rattle.qss_machine.specs.Slopes.{coefficient_of, mode_coefficient}
+use Rattle.qss_machine.proofs.Common
+use Common.{◌*ℤ◌, ◌*◌, ◌-ℤ◌, ◌^◌, ◌≡◌, ◌≤◌, abs_of, coefficient_of, int_at, length}
+use Common.{mode_coefficient, sum_below}
+use Rattle.std.proofs.Common.{unsigned_abs}
 use Rattle.qss_machine.proofs.ProductStates.{AreBelow}
 use Rattle.qss_machine.proofs.slope_rows.product_excess.Given as goal
 

@@ -1,15 +1,12 @@
 -- The states between those of products contribute 0.
-use Rattle.std.proofs.Common.{◌≡◌, ℕ, ◌+◌, ◌^◌, ◌<◌, ◌≤◌, List, length, get_or, ℤ, unsigned_abs, pos, ◌*◌, ◌*ℤ◌, sym, ◌∙◌, ap, arith}
-use Rattle.std.proofs.Math.IntN.{zero-*ℤ}
-use Rattle.mu_num.specs.Rounding.{nearest_of}
-use Rattle.qss_machine.specs.declared.machine_parts.Product.{Product}
-use Rattle.mu_num.specs.IndexedSums.{int_at, sum_below}
-use Rattle.qss_machine.specs.Slopes.{products_of}
+use Rattle.qss_machine.proofs.Common
+use Common.{ℕ, ℤ, ◌*ℤ◌, ◌*◌, ◌+◌, ◌<◌, ◌^◌, ◌∙◌, ◌≡◌, ◌≤◌, ap, arith, get_or, int_at, length, List}
+use Common.{nearest_of, pos, Product, products_of, sum_below, sym, to_z, w128, zero-*ℤ}
+use Rattle.std.proofs.Common.{unsigned_abs}
 use Rattle.qss_machine.proofs.Loops.{below_step}
-use Rattle.qss_machine.proofs.ProductStates.{IsFree, free_between, free_behind, below_one_more, none_rounded, sum_past}
+use Rattle.qss_machine.proofs.ProductStates.{IsFree, free_between, free_behind, below_one_more}
+use Rattle.qss_machine.proofs.ProductStates.{none_rounded, sum_past}
 use Rattle.qss_machine.proofs.slope_rows.product_slope.Goals as goal
-use mir.Syntax.{w128}
-use mir.Val.{to_z}
 
 -- a state's rounded products times its level
 abbrev product_part : ℕ → List Product → List ℤ → List ℤ → ℕ → ℤ

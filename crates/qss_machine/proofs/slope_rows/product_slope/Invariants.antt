@@ -1,7 +1,6 @@
-use Rattle.std.proofs.Common.{◌≡◌, ◌*◌, ◌^◌, ◌≤◌, length, unsigned_abs, ◌*ℤ◌, pos}
-use Rattle.mu_num.specs.Rounding.{nearest_of}
-use Rattle.mu_num.specs.IndexedSums.{int_at, sum_below}
-use Rattle.qss_machine.specs.Slopes.{products_of}
+use Rattle.qss_machine.proofs.Common
+use Common.{◌*ℤ◌, ◌*◌, ◌^◌, ◌≡◌, ◌≤◌, int_at, length, nearest_of, pos, products_of, sum_below}
+use Rattle.std.proofs.Common.{unsigned_abs}
 use Rattle.qss_machine.proofs.ProductStates.{AreBelow}
 use Rattle.qss_machine.proofs.slope_rows.product_slope.Given as goal
 

@@ -1,11 +1,8 @@
-use Rattle.std.proofs.Common.{◌^◌, ◌≤◌, pos, arith}
-use Rattle.std.proofs.Math.Pow.{pow_mono}
-use Rattle.std.proofs.lemmas.Int.{to_z-of_z}
-use Rattle.std.specs.Int.RustNames.{unsigned_abs, FitsSigned}
+use Rattle.qss_machine.proofs.Common
+use Common.{◌^◌, ◌≤◌, arith, FitsSigned, pos, pow_mono, to_z-of_z, unsigned_abs, w128}
 use Rattle.mu_num.proofs.Quotients.{nearest_bound}
 use Rattle.qss_machine.proofs.Powers.{power_positive}
 use Rattle.qss_machine.proofs.slope_rows.round_slope_products.Goals as goal
-use mir.Syntax.{w128}
 
 pub returns-clause-value : goal.returns-clause-value
 returns-clause-value c =

@@ -1,4 +1,4 @@
-use Rattle.std.proofs.Common.{length}
+use Rattle.qss_machine.proofs.Common.{length}
 use Rattle.qss_machine.proofs.Few.{products_few}
 use Rattle.qss_machine.proofs.slope_rows.rounded_row_products.Goals as goal
 

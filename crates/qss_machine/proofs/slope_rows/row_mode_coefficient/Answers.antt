@@ -1,8 +1,5 @@
-use Rattle.std.proofs.Common.{◌∙◌}
-use Rattle.std.proofs.lemmas.Int.{to_z-of_z}
-use Rattle.std.specs.Int.RustNames.{FitsSigned}
+use Rattle.qss_machine.proofs.Common.{◌∙◌, FitsSigned, to_z-of_z, w64}
 use Rattle.qss_machine.proofs.slope_rows.row_mode_coefficient.Goals as goal
-use mir.Syntax.{w64}
 
 pub search_slope_coefficient-own-requires : goal.search_slope_coefficient-own-requires
 search_slope_coefficient-own-requires c = record { rising = rw c.as_slice.ensures c.requires.row.entries.rising }

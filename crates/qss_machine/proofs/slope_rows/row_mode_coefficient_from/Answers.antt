@@ -1,11 +1,9 @@
-use Rattle.std.proofs.Common.{◌≡◌, ◌+◌, ◌^◌, ◌≤◌, ◌+ℤ◌, arith, ◌∙◌, ap}
-use Rattle.std.proofs.lemmas.Int.{ints, to_z-of_z}
-use Rattle.std.specs.Int.RustNames.{unsigned_abs}
-use Rattle.qss_machine.specs.Slopes.{coefficient_of}
+use Rattle.qss_machine.proofs.Common
+use Common.{◌+ℤ◌, ◌+◌, ◌^◌, ◌∙◌, ◌≡◌, ◌≤◌, ap, arith, coefficient_of, ints, to_z-of_z, unsigned_abs}
 use Rattle.qss_machine.proofs.Distinct.{coefficient_small}
 use Rattle.qss_machine.proofs.Loops.{two_fit, two_sum}
-use Rattle.qss_machine.proofs.slope_rows.row_mode_coefficient_from.Goals as goal
 use Rattle.qss_machine.proofs.slope_rows.row_mode_coefficient_from.Goals.{After-from-own}
+use Rattle.qss_machine.proofs.slope_rows.row_mode_coefficient_from.Goals as goal
 
 own_is : (c : After-from-own) → c.from-own.result ≡ coefficient_of c.args.row.now.entries c.args.state
 own_is c = let of_own = c.ranges.own in let same : c.from-own.result ≡ c.args.own = simp to_z-of_z at c.from-own.ensures in same ∙ c.requires.own

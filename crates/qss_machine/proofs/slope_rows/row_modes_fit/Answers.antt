@@ -1,15 +1,11 @@
 -- The states between those of products are within the limit.
-use Rattle.std.proofs.Common.{◌≡◌, ℕ, ◌+◌, ◌<◌, ◌≤◌, false, List, length, get_or, pos, sym, ◌∙◌, ap, subst, arith, inl, inr}
-use Rattle.std.proofs.lemmas.Bool.{cases_lt}
-use Rattle.std.proofs.lemmas.Int.{to_z-of_z}
-use Rattle.std.specs.Int.RustNames.{FitsSigned}
-use Rattle.mu_num.specs.Sizes.{exceeds}
-use Rattle.qss_machine.specs.declared.machine_parts.Product.{Product}
-use Rattle.qss_machine.specs.Slopes.{mode_coefficient}
+use Rattle.qss_machine.proofs.Common
+use Common.{ℕ, ◌+◌, ◌<◌, ◌∙◌, ◌≡◌, ◌≤◌, ap, arith, cases_lt, exceeds, false, FitsSigned, get_or}
+use Common.{inl, inr, length, List, mode_coefficient, pos, Product, subst, sym, to_z-of_z, w128}
 use Rattle.qss_machine.proofs.ModeTests.{fits_false, fits_true}
-use Rattle.qss_machine.proofs.ProductStates.{free_between, free_behind, below_one_more, own_mode_fits}
+use Rattle.qss_machine.proofs.ProductStates.{free_between, free_behind, below_one_more}
+use Rattle.qss_machine.proofs.ProductStates.{own_mode_fits}
 use Rattle.qss_machine.proofs.slope_rows.row_modes_fit.Goals as goal
-use mir.Syntax.{w128}
 
 pub returns-then-exceeds_power_of_two : goal.returns-then-exceeds_power_of_two
 returns-then-exceeds_power_of_two c =

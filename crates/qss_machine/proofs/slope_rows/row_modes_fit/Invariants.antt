@@ -1,6 +1,4 @@
-use Rattle.std.proofs.Common.{◌≡◌, ℕ, ◌<◌, ◌≤◌, false}
-use Rattle.mu_num.specs.Sizes.{exceeds}
-use Rattle.qss_machine.specs.Slopes.{mode_coefficient}
+use Rattle.qss_machine.proofs.Common.{ℕ, ◌<◌, ◌≡◌, ◌≤◌, exceeds, false, mode_coefficient}
 use Rattle.qss_machine.proofs.ProductStates.{AreBelow}
 use Rattle.qss_machine.proofs.slope_rows.row_modes_fit.Given as goal
 

@@ -1,11 +1,9 @@
-use Rattle.std.proofs.Common.{◌+◌, ◌^◌, ◌≤◌, ◌++◌, length, ◌+ℤ◌, arith, ◌∙◌, ap}
-use Rattle.std.proofs.lemmas.Int.{ints, to_z-of_z}
-use Rattle.std.specs.Int.RustNames.{unsigned_abs, FitsSigned}
-use Rattle.qss_machine.specs.Slopes.{weighted_sum}
+use Rattle.qss_machine.proofs.Common
+use Common.{◌++◌, ◌+ℤ◌, ◌+◌, ◌^◌, ◌∙◌, ◌≤◌, ap, arith, FitsSigned, ints, length, to_z-of_z}
+use Common.{unsigned_abs, w128, weighted_sum}
 use Rattle.qss_machine.proofs.Few.{entries_few}
 use Rattle.qss_machine.proofs.SlopeLaws.{slope_parts}
 use Rattle.qss_machine.proofs.slope_rows.row_slope.Goals as goal
-use mir.Syntax.{w128}
 
 pub sum_slope_entries-own-requires-clause-count_limit : goal.sum_slope_entries-own-requires-clause-count_limit
 sum_slope_entries-own-requires-clause-count_limit c =

@@ -1,8 +1,6 @@
 -- The closure gives an entry's variable.
-use Rattle.std.proofs.Common.{rules, Ok, Err, pos, sym, arith}
-use Rattle.std.proofs.lemmas.Int.{to_z-of_z}
+use Rattle.qss_machine.proofs.Common.{arith, Entry, Err, Ok, pos, rules, sym, to_z-of_z}
 use Rattle.std.proofs.lemmas.List.Sorted.{answers_always}
-use Rattle.qss_machine.specs.declared.machine_parts.Entry.{Entry}
 use Rattle.qss_machine.proofs.Halving.{searched}
 use Rattle.qss_machine.proofs.slope_rows.search_slope_coefficient.Goals as goal
 

@@ -1,10 +1,7 @@
-use Rattle.std.proofs.Common.{◌^◌, ◌++◌, pos, ◌*ℤ◌, arith}
-use Rattle.qss_machine.specs.declared.machine_parts.Entry.{Entry}
-use Rattle.mu_num.specs.IndexedSums.{int_at, abs_of}
+use Rattle.qss_machine.proofs.Common
+use Common.{◌*ℤ◌, ◌++◌, ◌^◌, abs_of, arith, Entry, int_at, pos, to_z, w128}
 use Rattle.qss_machine.proofs.Loops.{sum_step, sum_done}
 use Rattle.qss_machine.proofs.slope_rows.slope_entry_weight.Goals as goal
-use mir.Syntax.{w128}
-use mir.Val.{to_z}
 
 pub loop-entry-preserved : goal.loop-entry-preserved
 loop-entry-preserved c =

@@ -1,5 +1,6 @@
-use Rattle.std.proofs.Common.{◌≡◌, ◌*◌, ◌^◌, ◌≤◌, ◌++◌, take, unsigned_abs, ◌*ℤ◌}
-use Rattle.mu_num.specs.IndexedSums.{int_at, abs_of, sum_over}
+use Rattle.qss_machine.proofs.Common
+use Common.{◌*ℤ◌, ◌*◌, ◌++◌, ◌^◌, ◌≡◌, ◌≤◌, abs_of, int_at, sum_over, take}
+use Rattle.std.proofs.Common.{unsigned_abs}
 use Rattle.qss_machine.proofs.slope_rows.slope_entry_weight.Given as goal
 
 -- the sum so far, which each entry changes by at most 2 ^ 87

@@ -1,11 +1,8 @@
-use Rattle.std.proofs.Common.{length, arith}
-use Rattle.std.proofs.lemmas.Int.{ints, to_z-of_z}
-use Rattle.std.specs.Int.RustNames.{FitsSigned}
-use Rattle.qss_machine.specs.Slopes.{mode_coefficient}
+use Rattle.qss_machine.proofs.Common
+use Common.{arith, FitsSigned, ints, length, mode_coefficient, to_z-of_z, w128}
 use Rattle.qss_machine.proofs.ModeTests.{fits_at}
 use Rattle.qss_machine.proofs.Distinct.{coefficient_small}
 use Rattle.qss_machine.proofs.slope_rows.slope_product_at_level.Goals as goal
-use mir.Syntax.{w128}
 
 -- a mode coefficient and an entry's coefficient within limits leave the products within twice the limit
 pub wide_slope_term-requires-clause-coef : goal.wide_slope_term-requires-clause-coef

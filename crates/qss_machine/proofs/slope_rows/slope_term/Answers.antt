@@ -1,9 +1,7 @@
-use Rattle.std.proofs.Common.{◌≡◌, ◌^◌, ◌∙◌, ◌*ℤ◌, ap₂, arith}
-use Rattle.std.proofs.lemmas.Int.{to_z-of_z}
-use Rattle.std.specs.Int.RustNames.{FitsSigned}
+use Rattle.qss_machine.proofs.Common.{◌*ℤ◌, ◌^◌, ◌∙◌, ◌≡◌, arith, FitsSigned, to_z-of_z, w128}
+use Rattle.std.proofs.Common.{ap₂}
 use Rattle.qss_machine.proofs.Loops.{product_fits, product_is, product_bound}
 use Rattle.qss_machine.proofs.slope_rows.slope_term.Goals as goal
-use mir.Syntax.{w128}
 
 pub overflow_mul-result : goal.overflow_mul-result
 overflow_mul-result c =

@@ -1,13 +1,10 @@
-use Rattle.std.proofs.Common.{◌≡◌, ◌^◌, ◌≤◌, length, pos, ◌-ℤ◌, ◌*ℤ◌, arith, ◌∙◌, ap}
-use Rattle.std.proofs.lemmas.Int.{ints, to_z-of_z}
-use Rattle.std.specs.Int.RustNames.{unsigned_abs, FitsSigned}
-use Rattle.mu_num.specs.IndexedSums.{int_at, abs_of}
-use Rattle.qss_machine.specs.Slopes.{coefficient_of, mode_coefficient}
+use Rattle.qss_machine.proofs.Common
+use Common.{◌*ℤ◌, ◌-ℤ◌, ◌^◌, ◌∙◌, ◌≡◌, ◌≤◌, abs_of, ap, arith, coefficient_of, FitsSigned, int_at}
+use Common.{ints, length, mode_coefficient, pos, to_z-of_z, unsigned_abs, w128, w64}
 use Rattle.qss_machine.proofs.ModeTests.{fits_at}
 use Rattle.qss_machine.proofs.Distinct.{coefficient_small}
-use Rattle.qss_machine.proofs.slope_rows.state_product_excess.Goals as goal
 use Rattle.qss_machine.proofs.slope_rows.state_product_excess.Goals.{After-from}
-use mir.Syntax.{w64, w128}
+use Rattle.qss_machine.proofs.slope_rows.state_product_excess.Goals as goal
 
 pub search_slope_coefficient-own-requires : goal.search_slope_coefficient-own-requires
 search_slope_coefficient-own-requires c = record { rising = rw c.as_slice.ensures c.requires.row.entries.rising }

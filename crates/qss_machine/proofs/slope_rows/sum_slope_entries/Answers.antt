@@ -1,11 +1,8 @@
-use Rattle.std.proofs.Common.{◌^◌, ◌++◌, pos, ◌*ℤ◌, arith, sym, ◌∙◌, length-append}
-use Rattle.qss_machine.specs.declared.machine_parts.Entry.{Entry}
-use Rattle.mu_num.specs.IndexedSums.{int_at}
+use Rattle.qss_machine.proofs.Common
+use Common.{◌*ℤ◌, ◌++◌, ◌^◌, ◌∙◌, arith, Entry, int_at, length-append, pos, sym, to_z, w128}
 use Rattle.qss_machine.proofs.Loops.{sum_step, sum_done}
 use Rattle.qss_machine.proofs.SumLaws.{weighted_sum-is}
 use Rattle.qss_machine.proofs.slope_rows.sum_slope_entries.Goals as goal
-use mir.Syntax.{w128}
-use mir.Val.{to_z}
 
 pub loop-entry-preserved : goal.loop-entry-preserved
 loop-entry-preserved c =

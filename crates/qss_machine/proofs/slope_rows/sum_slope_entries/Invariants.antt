@@ -1,5 +1,5 @@
-use Rattle.std.proofs.Common.{◌≡◌, ◌*◌, ◌^◌, ◌≤◌, ◌++◌, take, unsigned_abs, ◌*ℤ◌}
-use Rattle.mu_num.specs.IndexedSums.{int_at, sum_over}
+use Rattle.qss_machine.proofs.Common.{◌*ℤ◌, ◌*◌, ◌++◌, ◌^◌, ◌≡◌, ◌≤◌, int_at, sum_over, take}
+use Rattle.std.proofs.Common.{unsigned_abs}
 use Rattle.qss_machine.proofs.slope_rows.sum_slope_entries.Given as goal
 
 -- the sum so far, which each entry changes by at most 2 ^ 87

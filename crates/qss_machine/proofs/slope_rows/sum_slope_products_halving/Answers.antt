@@ -1,18 +1,14 @@
 -- The halving ends at the first product of the state.
-use Rattle.std.proofs.Common.{rules, ◌≡◌, ◌+◌, ◌-◌, ◌*◌, ◌^◌, ◌<◌, ◌≤◌, ◌≢◌, true, false, length, get_or, pos, ◌*ℤ◌, arith, sym, ◌∙◌, ap, add-zero}
-use Rattle.std.proofs.lemmas.Bool.Decides.{nat_tests}
-use Rattle.std.proofs.lemmas.List.{take_all}
+use Rattle.qss_machine.proofs.Common
+use Common.{◌*ℤ◌, ◌*◌, ◌+◌, ◌-◌, ◌<◌, ◌==◌, ◌^◌, ◌∙◌, ◌≡◌, ◌≢◌, ◌≤◌, add-zero, ap, arith, eqb-yes}
+use Common.{false, get_or, if-true, if◌then◌else◌, int_at, length, nat_lt, nat_tests, pos, Product}
+use Common.{products_of, rules, sym, take_all, to_z, true, w128}
 use Rattle.std.proofs.lemmas.List.Sorted.{IsPartitionPoint-from_clause}
-use Rattle.std.specs.Prelude.{if◌then◌else◌, nat_lt, ◌==◌, unsigned_abs}
-use Rattle.mu_num.proofs.Tests.{if-true, eqb-yes}
-use Rattle.qss_machine.specs.declared.machine_parts.Product.{Product}
-use Rattle.mu_num.specs.IndexedSums.{int_at}
-use Rattle.qss_machine.specs.Slopes.{products_of}
+use Rattle.std.specs.Prelude.{unsigned_abs}
 use Rattle.qss_machine.proofs.Loops.{sum_step}
-use Rattle.qss_machine.proofs.StateProducts.{rest_at, rest_long, lesser_first, none_before, sum_ends}
+use Rattle.qss_machine.proofs.StateProducts.{rest_at, rest_long, lesser_first, none_before}
+use Rattle.qss_machine.proofs.StateProducts.{sum_ends}
 use Rattle.qss_machine.proofs.slope_rows.sum_slope_products_halving.Goals as goal
-use mir.Syntax.{w128}
-use mir.Val.{to_z}
 
 pub loop-product-init : goal.loop-product-init
 loop-product-init c =

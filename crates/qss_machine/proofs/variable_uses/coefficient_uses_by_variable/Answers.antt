@@ -1,15 +1,14 @@
 -- One more variable.
-use Rattle.std.proofs.Common.{◌≡◌, ◌+◌, ◌<◌, ◌++◌, ℕ, ℤ, List, [], ◌∷◌, length, get_or, map, Vec, Global, ◌∙◌, sym, ap, subst, arith, zero-add}
-use Rattle.std.proofs.lemmas.List.{get_or-map, length-map, map-append}
-use Rattle.std.proofs.lemmas.List.FromFn.{length-map-range_with_len, get_or-map-range_with_len, map-range_with_len_more}
-use Rattle.std.specs.Prelude.{All}
-use Rattle.qss_machine.specs.declared.compiled_machine.Machine.{Machine}
-use Rattle.qss_machine.specs.Machines.{state_count, discrete_count, row_coefficient}
-use Rattle.mu_num.specs.IndexedSums.{tabulate}
-use Rattle.qss_machine.specs.Readers.{row_reads, reading_rows, reading_coefficients}
+use Rattle.qss_machine.proofs.Common
+use Common.{[], ℕ, ℤ, ◌++◌, ◌+◌, ◌<◌, ◌∙◌, ◌∷◌, ◌≡◌, All, ap, arith, discrete_count, get_or}
+use Common.{get_or-map, get_or-map-range_with_len, Global, length, length-map}
+use Common.{length-map-range_with_len, List, Machine, map, map-append, reading_coefficients}
+use Common.{reading_rows, row_coefficient, row_reads, state_count, subst, sym, tabulate, Vec}
+use Common.{zero-add}
+use Rattle.std.proofs.lemmas.List.FromFn.{map-range_with_len_more}
 use Rattle.qss_machine.proofs.Marking.{items_of, places_below}
-use Rattle.qss_machine.proofs.variable_uses.coefficient_uses_by_variable.Goals as goal
 use Rattle.qss_machine.proofs.variable_uses.coefficient_uses_by_variable.Goals.{After-as_slice-readers}
+use Rattle.qss_machine.proofs.variable_uses.coefficient_uses_by_variable.Goals as goal
 
 -- the coefficients that a vector holds
 abbrev coefficients_of : Vec ℤ Global → List ℤ

@@ -1,7 +1,5 @@
-use Rattle.std.proofs.Common.{◌≡◌, ◌≤◌, map, length}
-use Rattle.std.specs.Prelude.{vec_len, vec_capacity}
-use Rattle.mu_num.specs.IndexedSums.{tabulate}
-use Rattle.qss_machine.specs.Readers.{reading_coefficients}
+use Rattle.qss_machine.proofs.Common
+use Common.{◌≡◌, ◌≤◌, length, map, reading_coefficients, tabulate, vec_capacity, vec_len}
 use Rattle.qss_machine.proofs.variable_uses.coefficient_uses_by_variable.Given as goal
 
 -- the lists so far

@@ -1,12 +1,9 @@
 -- One more coefficient.
-use Rattle.std.proofs.Common.{◌≡◌, ◌++◌, ℕ, ℤ, [], ◌∷◌, get_or, ◌∙◌, sym, ap, arith}
-use Rattle.std.proofs.lemmas.Int.{to_z-of_z}
+use Rattle.qss_machine.proofs.Common
+use Common.{[], ℕ, ℤ, ◌++◌, ◌∙◌, ◌∷◌, ◌≡◌, ap, arith, FitsSigned, get_or, of_z, row_coefficient}
+use Common.{sym, to_z, to_z-of_z, w64}
 use Rattle.std.proofs.lemmas.List.{map_more}
-use Rattle.std.specs.Int.RustNames.{FitsSigned}
-use Rattle.qss_machine.specs.Machines.{row_coefficient}
 use Rattle.qss_machine.proofs.variable_uses.coefficients_of_use.Goals as goal
-use mir.Syntax.{w64}
-use mir.Val.{to_z, of_z}
 
 pub loop-row-preserved : goal.loop-row-preserved
 loop-row-preserved c =

@@ -1,6 +1,5 @@
-use Rattle.std.proofs.Common.{◌≡◌, ◌≤◌, ℕ, map, take, length}
-use Rattle.std.specs.Prelude.{vec_len, vec_capacity}
-use Rattle.qss_machine.specs.Machines.{row_coefficient}
+use Rattle.qss_machine.proofs.Common
+use Common.{ℕ, ◌≡◌, ◌≤◌, length, map, row_coefficient, take, vec_capacity, vec_len}
 use Rattle.qss_machine.proofs.variable_uses.coefficients_of_use.Given as goal
 
 -- the coefficients so far

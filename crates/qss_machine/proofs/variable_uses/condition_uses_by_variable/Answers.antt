@@ -1,12 +1,7 @@
-use Rattle.std.proofs.Common.{◌≡◌, ◌∙◌, ℕ, List, length, take, sym, ap, subst, arith}
-use Rattle.std.specs.Prelude.{map, All, ◌++◌}
-use Rattle.qss_machine.specs.declared.machine_parts.BranchInfo.{BranchInfo}
-use Rattle.qss_machine.specs.declared.machine_parts.Condition.{Condition}
-use Rattle.std.proofs.lemmas.List.{length-map, take_all}
-use Rattle.std.proofs.lemmas.List.Elements.{All-get_or}
-use Rattle.qss_machine.specs.declared.machine_parts.ClauseInfo.{ClauseInfo}
-use Rattle.qss_machine.specs.Readers.{condition_reads}
-use Rattle.qss_machine.specs.Marks.{Collects, IsConditionOf}
+use Rattle.qss_machine.proofs.Common
+use Common.{ℕ, ◌++◌, ◌∙◌, ◌≡◌, All, All-get_or, ap, arith, BranchInfo, ClauseInfo, Collects}
+use Common.{Condition, condition_reads, IsConditionOf, length, length-map, List, map, subst, sym}
+use Common.{take, take_all}
 use Rattle.qss_machine.proofs.Places.{clauses_fit, count_more, conditions_in, conditions_more}
 use Rattle.qss_machine.proofs.Marking.{collected, items_of, condition_of}
 use Rattle.qss_machine.proofs.variable_uses.condition_uses_by_variable.Goals as goal

@@ -1,7 +1,4 @@
-use Rattle.std.proofs.Common.{◌≡◌, length, take}
-use Rattle.std.specs.Prelude.{map}
-use Rattle.qss_machine.specs.Readers.{condition_reads}
-use Rattle.qss_machine.specs.Marks.{Collects}
+use Rattle.qss_machine.proofs.Common.{◌≡◌, Collects, condition_reads, length, map, take}
 use Rattle.qss_machine.proofs.Places.{conditions_in}
 use Rattle.qss_machine.proofs.variable_uses.condition_uses_by_variable.Given as goal
 

@@ -1,5 +1,5 @@
-use Rattle.std.proofs.Common.{◌≡◌}
-use Rattle.std.specs.Prelude.{map, replicate, []}
+use Rattle.qss_machine.proofs.Common.{[], ◌≡◌, map}
+use Rattle.std.specs.Prelude.{replicate}
 use Rattle.qss_machine.proofs.variable_uses.empty_use_lists.Given as goal
 
 -- the lists so far

@@ -1,11 +1,6 @@
-use Rattle.std.proofs.Common.{◌+◌, List, length, ◌++◌, subst, arith, refl}
-use Rattle.std.specs.Prelude.{map}
-use Rattle.std.proofs.lemmas.List.{length-map, take_all}
-use Rattle.std.proofs.lemmas.List.Elements.{All-get_or}
-use Rattle.qss_machine.specs.declared.machine_parts.BranchInfo.{BranchInfo}
-use Rattle.qss_machine.specs.declared.machine_parts.Entry.{Entry}
-use Rattle.qss_machine.specs.Readers.{condition_reads, has_entry}
-use Rattle.qss_machine.specs.Marks.{MarksBy, Collects, IsConditionOf}
+use Rattle.qss_machine.proofs.Common
+use Common.{◌++◌, ◌+◌, All-get_or, arith, BranchInfo, Collects, condition_reads, Entry, has_entry}
+use Common.{IsConditionOf, length, length-map, List, map, MarksBy, refl, subst, take_all}
 use Rattle.qss_machine.proofs.Marking.{collect_branch, items_of, condition_of}
 use Rattle.qss_machine.proofs.variable_uses.mark_branch_uses.Goals as goal
 

@@ -1,9 +1,5 @@
-use Rattle.std.proofs.Common.{◌≡◌, List, length, take, ◌++◌}
-use Rattle.std.specs.Prelude.{map}
-use Rattle.qss_machine.specs.declared.machine_parts.BranchInfo.{BranchInfo}
-use Rattle.qss_machine.specs.declared.machine_parts.Condition.{Condition}
-use Rattle.qss_machine.specs.Readers.{condition_reads}
-use Rattle.qss_machine.specs.Marks.{Collects}
+use Rattle.qss_machine.proofs.Common
+use Common.{◌++◌, ◌≡◌, BranchInfo, Collects, Condition, condition_reads, length, List, map, take}
 use Rattle.qss_machine.proofs.variable_uses.mark_branch_uses.Given as goal
 
 -- the places so far, after any conditions before

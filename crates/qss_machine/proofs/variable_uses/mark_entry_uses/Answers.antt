@@ -1,10 +1,5 @@
-use Rattle.std.proofs.Common.{List, subst, pos, ◌==◌}
-use Rattle.std.specs.Prelude.{map}
-use Rattle.std.proofs.lemmas.List.Folds.{list_any_more}
-use Rattle.qss_machine.specs.declared.machine_parts.Entry.{Entry}
-use Rattle.qss_machine.specs.Readers.{has_entry}
-use Rattle.qss_machine.specs.Marks.{MarksBy}
-use Rattle.std.proofs.lemmas.List.{take_all}
+use Rattle.qss_machine.proofs.Common
+use Common.{◌==◌, Entry, has_entry, List, list_any_more, map, MarksBy, pos, subst, take_all}
 use Rattle.qss_machine.proofs.Marking.{marks_more, items_of}
 use Rattle.qss_machine.proofs.variable_uses.mark_entry_uses.Goals as goal
 

@@ -1,6 +1,4 @@
-use Rattle.std.specs.Prelude.{map, take}
-use Rattle.qss_machine.specs.Readers.{has_entry}
-use Rattle.qss_machine.specs.Marks.{MarksBy}
+use Rattle.qss_machine.proofs.Common.{has_entry, map, MarksBy, take}
 use Rattle.qss_machine.proofs.variable_uses.mark_entry_uses.Given as goal
 
 -- the marks so far

@@ -1,4 +1,4 @@
-use Rattle.std.proofs.Common.{refl}
+use Rattle.qss_machine.proofs.Common.{refl}
 use Rattle.qss_machine.proofs.Marking.{marks_more}
 use Rattle.qss_machine.proofs.variable_uses.mark_product_use.Goals as goal
 

@@ -1,10 +1,5 @@
-use Rattle.std.proofs.Common.{List, subst, pos, ◌==◌}
-use Rattle.std.specs.Prelude.{map, ◌||◌}
-use Rattle.std.specs.List.{list_any}
-use Rattle.std.proofs.lemmas.List.Folds.{list_any_more}
-use Rattle.qss_machine.specs.declared.machine_parts.Product.{Product}
-use Rattle.qss_machine.specs.Marks.{MarksBy}
-use Rattle.std.proofs.lemmas.List.{take_all}
+use Rattle.qss_machine.proofs.Common
+use Common.{◌==◌, ◌||◌, List, list_any, list_any_more, map, MarksBy, pos, Product, subst, take_all}
 use Rattle.qss_machine.proofs.Marking.{marks_more, items_of}
 use Rattle.qss_machine.proofs.variable_uses.mark_product_uses.Goals as goal
 

@@ -1,6 +1,4 @@
-use Rattle.std.specs.Prelude.{◌==◌, ◌||◌, map, take}
-use Rattle.std.specs.List.{list_any}
-use Rattle.qss_machine.specs.Marks.{MarksBy}
+use Rattle.qss_machine.proofs.Common.{◌==◌, ◌||◌, list_any, map, MarksBy, take}
 use Rattle.qss_machine.proofs.variable_uses.mark_product_uses.Given as goal
 
 -- the marks so far

@@ -1,9 +1,5 @@
-use Rattle.std.proofs.Common.{List, sym, ap, ◌∙◌, ◌==◌}
-use Rattle.std.specs.Prelude.{◌||◌}
-use Rattle.std.specs.List.{list_any}
-use Rattle.qss_machine.specs.declared.machine_parts.Entry.{Entry}
-use Rattle.qss_machine.specs.declared.machine_parts.Product.{Product}
-use Rattle.qss_machine.specs.Readers.{has_entry}
+use Rattle.qss_machine.proofs.Common
+use Common.{◌==◌, ◌||◌, ◌∙◌, ap, Entry, has_entry, List, list_any, Product, sym}
 use Rattle.qss_machine.proofs.Marking.{marks_more}
 use Rattle.qss_machine.proofs.variable_uses.mark_row_uses.Goals as goal
 

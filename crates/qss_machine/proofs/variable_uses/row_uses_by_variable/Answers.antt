@@ -1,10 +1,7 @@
-use Rattle.std.proofs.Common.{List, subst}
-use Rattle.std.specs.Prelude.{map}
-use Rattle.std.proofs.lemmas.List.{length-map, take_all}
-use Rattle.std.proofs.lemmas.List.Elements.{All-get_or}
-use Rattle.qss_machine.specs.declared.machine_parts.SlopeRow.{SlopeRow}
-use Rattle.qss_machine.specs.Readers.{row_reads}
-use Rattle.qss_machine.specs.Marks.{MarksBy, Collects, IsRowOf}
+use Rattle.qss_machine.proofs.Common
+use Common.{All-get_or, Collects, length-map, List, map, MarksBy, row_reads, SlopeRow, subst}
+use Common.{take_all}
+use Rattle.qss_machine.specs.Marks.{IsRowOf}
 use Rattle.qss_machine.proofs.Marking.{collect_more, collected, items_of}
 use Rattle.qss_machine.proofs.variable_uses.row_uses_by_variable.Goals as goal
 

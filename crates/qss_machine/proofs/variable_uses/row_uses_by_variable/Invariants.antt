@@ -1,6 +1,4 @@
-use Rattle.std.specs.Prelude.{map, take}
-use Rattle.qss_machine.specs.Readers.{row_reads}
-use Rattle.qss_machine.specs.Marks.{Collects}
+use Rattle.qss_machine.proofs.Common.{Collects, map, row_reads, take}
 use Rattle.qss_machine.proofs.variable_uses.row_uses_by_variable.Given as goal
 
 -- the places so far

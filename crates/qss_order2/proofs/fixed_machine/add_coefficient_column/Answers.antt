@@ -1,7 +1,6 @@
 -- The readers of a state are those of the machine.
-use Rattle.std.proofs.Common.{◌∙◌, sym, subst, arith}
+use Rattle.qss_order2.proofs.Common.{◌∙◌, arith, IsColumn, subst, sym}
 use Rattle.qss_machine.proofs.KeptReaders.{rows_many, rows_kept}
-use Rattle.qss_order2.specs.Fixed.{IsColumn}
 use Rattle.qss_order2.proofs.ColumnSums.{columns_more}
 use Rattle.qss_order2.proofs.fixed_machine.add_coefficient_column.Goals as goal
 

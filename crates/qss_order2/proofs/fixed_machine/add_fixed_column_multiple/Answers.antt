@@ -1,17 +1,10 @@
 -- Each iteration adds the multiple of one entry.
-use Rattle.std.proofs.Common.{rules, ◌≡◌, ◌<◌, ℤ, List, length, get_or, take, ◌+ℤ◌}
-use Rattle.std.proofs.Common.{◌*ℤ◌, refl, sym, ◌∙◌, ap, arith}
-use Rattle.std.proofs.lemmas.Int.{to_z-of_z}
-use Rattle.std.proofs.lemmas.List.{length-set, take_all}
-use Rattle.std.specs.Int.{int_wrap}
-use Rattle.std.specs.Int.RustNames.{FitsSigned}
-use Rattle.qss_machine.specs.declared.machine_parts.Entry.{Entry}
-use Rattle.mu_num.specs.IndexedSums.{int_at}
-use Rattle.qss_machine.specs.Slopes.{coefficient_of}
+use Rattle.qss_order2.proofs.Common
+use Common.{ℤ, ◌*ℤ◌, ◌+ℤ◌, ◌<◌, ◌∙◌, ◌≡◌, ap, arith, coefficient_of, Entry, FitsSigned, get_or}
+use Common.{int_at, int_wrap, length, length-set, List, of_z, refl, rules, sym, take, take_all}
+use Common.{to_z, to_z-of_z, w128, w64}
 use Rattle.qss_order2.proofs.ColumnSums.{entry_0, multiple_none, multiple_more}
 use Rattle.qss_order2.proofs.fixed_machine.add_fixed_column_multiple.Goals as goal
-use mir.Syntax.{w64, w128}
-use mir.Val.{to_z, of_z}
 
 pub loop-entry-init : goal.loop-entry-init
 loop-entry-init c = record {

@@ -1,7 +1,6 @@
-use Rattle.std.proofs.Common.{◌≡◌, ◌<◌, ℕ, ℤ, length, take, ◌+ℤ◌, ◌*ℤ◌}
-use Rattle.std.specs.Int.{int_wrap, w128}
-use Rattle.mu_num.specs.IndexedSums.{int_at}
-use Rattle.qss_machine.specs.Slopes.{coefficient_of}
+use Rattle.qss_order2.proofs.Common
+use Common.{ℕ, ℤ, ◌*ℤ◌, ◌+ℤ◌, ◌<◌, ◌≡◌, coefficient_of, int_at, int_wrap, length, take}
+use Rattle.std.specs.Int.{w128}
 use Rattle.qss_order2.proofs.fixed_machine.add_fixed_column_multiple.Given as goal
 
 -- the multiples of the entries so far

@@ -1,16 +1,11 @@
 -- Each iteration adds the coefficient of one row, unless it is 0.
-use Rattle.std.proofs.Common.{◌<◌, ◌≤◌, ℕ, List, [], length, get_or, take, refl, sym}
-use Rattle.std.proofs.Common.{subst}
-use Rattle.std.proofs.lemmas.Int.{to_z-of_z}
-use Rattle.std.specs.Int.RustNames.{FitsSigned}
-use Rattle.std.specs.List.Sorted.{IsStrictlyIncreasing}
-use Rattle.std.specs.Prelude.{All}
+use Rattle.qss_order2.proofs.Common
+use Common.{[], ℕ, ◌<◌, ◌≤◌, All, FitsSigned, get_or, IsStrictlyIncreasing, length, List, refl}
+use Common.{state_count, subst, sym, take, to_z-of_z, w64}
 use Rattle.mu_num.proofs.RisingNumbers.{not_before}
 use Rattle.qss_machine.proofs.KeptReaders.{rows_known, reading_numbers}
-use Rattle.qss_machine.specs.Machines.{state_count}
 use Rattle.qss_order2.proofs.ColumnSums.{IsColumnOf, no_column, column_more, column_done}
 use Rattle.qss_order2.proofs.fixed_machine.coefficient_column.Goals as goal
-use mir.Syntax.{w64}
 
 pub loop-row-init : goal.loop-row-init
 loop-row-init c = subst (IsColumnOf c.args.m.now c.args.state []) (sym c.new-entries.ensures.items)

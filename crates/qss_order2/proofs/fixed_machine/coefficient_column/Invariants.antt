@@ -1,4 +1,4 @@
-use Rattle.std.proofs.Common.{take}
+use Rattle.qss_order2.proofs.Common.{take}
 use Rattle.qss_order2.proofs.ColumnSums.{IsColumnOf}
 use Rattle.qss_order2.proofs.fixed_machine.coefficient_column.Given as goal
 

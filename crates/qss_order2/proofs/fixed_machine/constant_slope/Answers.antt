@@ -1,17 +1,12 @@
 -- At levels of 0 a slope is what no level changes.
-use Rattle.std.proofs.Common.{◌≡◌, [], pos, ◌∙◌, ap, sym, subst, arith}
-use Rattle.std.proofs.lemmas.Int.{to_z-of_z}
-use Rattle.std.specs.Int.RustNames.{FitsSigned}
-use Rattle.std.specs.Prelude.{All, IsTrue, replicate}
-use Rattle.mu_num.specs.Sizes.{IsWithin}
-use Rattle.qss_machine.specs.declared.machine_parts.SlopeRow.{SlopeRow}
-use Rattle.qss_machine.specs.Machines.{state_count, row_at, slope_at}
+use Rattle.qss_order2.proofs.Common
+use Common.{[], ◌∙◌, ◌≡◌, All, ap, arith, discretes_start, FitsSigned, IsWithin, pos, replicate}
+use Common.{row_at, SlopeRow, start_constant_part, state_count, subst, sym, to_z-of_z, w128}
+use Rattle.std.specs.Prelude.{IsTrue}
+use Rattle.qss_machine.specs.Machines.{slope_at}
 use Rattle.qss_machine.specs.Slopes.{mode_fits}
-use Rattle.qss_machine.specs.Legitimate.{start_constant_part}
-use Rattle.qss_machine.proofs.StartValues.{discretes_start}
 use Rattle.qss_order2.proofs.Sizes.{slope_of_zeros}
 use Rattle.qss_order2.proofs.fixed_machine.constant_slope.Goals as goal
-use mir.Syntax.{w128}
 
 pub slope-requires-clause-small_discretes : goal.slope-requires-clause-small_discretes
 slope-requires-clause-small_discretes c = subst (All (IsWithin 43)) (sym c.requires.start)

@@ -1,8 +1,5 @@
 -- The unit and the quantum are small.
-use Rattle.std.proofs.Common.{sym, subst}
-use Rattle.std.proofs.lemmas.Int.{to_z-of_z}
-use Rattle.mu_num.specs.Sizes.{IsPositiveWithin}
-use Rattle.qss_machine.proofs.Near.{unit_fits}
+use Rattle.qss_order2.proofs.Common.{IsPositiveWithin, subst, sym, to_z-of_z, unit_fits}
 use Rattle.qss_order2.proofs.fixed_machine.fine_state_quantum.Goals as goal
 
 pub fine_quantum-requires-clause-unit : goal.fine_quantum-requires-clause-unit

@@ -1,6 +1,5 @@
-use Rattle.std.proofs.Common.{◌≡◌, ◌≤◌, map, take, length}
-use Rattle.std.specs.Prelude.{vec_len, vec_capacity}
-use Rattle.qss_machine.specs.declared.machine_parts.DiscreteInfo.{DiscreteInfo}
+use Rattle.qss_order2.proofs.Common
+use Common.{◌≡◌, ◌≤◌, DiscreteInfo, length, map, take, vec_capacity, vec_len}
 use Rattle.qss_order2.proofs.fixed_machine.fixed_discretes_of.Given as goal
 
 -- the values so far

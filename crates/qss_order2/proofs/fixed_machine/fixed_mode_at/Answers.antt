@@ -1,15 +1,9 @@
 -- Discrete values of the start are small, and so are the coefficients there.
-use Rattle.std.proofs.Common.{◌≡◌, List, ℤ, ◌∙◌, ap, subst, sym, arith}
-use Rattle.std.proofs.lemmas.Int.{ints, to_z-of_z}
-use Rattle.std.specs.Int.RustNames.{FitsSigned}
-use Rattle.std.specs.Prelude.{All}
-use Rattle.mu_num.specs.Sizes.{IsWithin}
+use Rattle.qss_order2.proofs.Common
+use Common.{ℤ, ◌∙◌, ◌≡◌, All, ap, arith, discretes_start, FitsSigned, ints, IsWithin, List}
+use Common.{mode_small, start_coefficient, subst, sym, to_z-of_z, w128, w64}
 use Rattle.qss_machine.specs.Machines.{mode_coefficient_at}
-use Rattle.qss_machine.specs.Legitimate.{start_coefficient}
-use Rattle.qss_machine.proofs.ModeTests.{mode_small}
-use Rattle.qss_machine.proofs.StartValues.{discretes_start}
 use Rattle.qss_order2.proofs.fixed_machine.fixed_mode_at.Goals as goal
-use mir.Syntax.{w64, w128}
 
 pub mode_coef-requires-clause-size_limit : goal.mode_coef-requires-clause-size_limit
 mode_coef-requires-clause-size_limit c = subst (All (IsWithin 43)) (sym c.requires.start)

@@ -1,13 +1,9 @@
 -- Each iteration adds the coefficient of the next state that the row names, unless it is 0.
-use Rattle.std.proofs.Common.{◌≡◌, ◌+◌, List, [], length, sym, subst, ap, arith}
-use Rattle.std.proofs.lemmas.Int.{to_z-of_z}
-use Rattle.std.specs.Int.RustNames.{FitsSigned}
-use Rattle.qss_machine.specs.declared.machine_parts.Entry.{Entry}
-use Rattle.qss_machine.specs.Machines.{state_count}
-use Rattle.qss_order2.specs.Fixed.{AreModesBelow}
+use Rattle.qss_order2.proofs.Common
+use Common.{[], ◌+◌, ◌≡◌, ap, AreModesBelow, arith, Entry, FitsSigned, length, List, state_count}
+use Common.{subst, sym, to_z-of_z, w64}
 use Rattle.qss_order2.proofs.FixedRows.{no_modes, skip_to, modes_more}
 use Rattle.qss_order2.proofs.fixed_machine.fixed_modes_of.Goals as goal
-use mir.Syntax.{w64}
 
 pub loop-state-init : goal.loop-state-init
 loop-state-init c =

@@ -1,6 +1,4 @@
-use Rattle.std.proofs.Common.{◌-◌, ◌≤◌}
-use Rattle.qss_machine.specs.Machines.{state_count}
-use Rattle.qss_order2.specs.Fixed.{AreModesBelow}
+use Rattle.qss_order2.proofs.Common.{◌-◌, ◌≤◌, AreModesBelow, state_count}
 use Rattle.qss_order2.proofs.fixed_machine.fixed_modes_of.Given as goal
 
 abbrev pub invariant-loop-state : goal.invariant-loop-state

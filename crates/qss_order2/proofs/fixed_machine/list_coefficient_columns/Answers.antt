@@ -1,7 +1,5 @@
 -- All states have a column.
-use Rattle.std.proofs.Common.{◌≡◌, length, ap, subst, arith}
-use Rattle.qss_machine.specs.Machines.{state_count}
-use Rattle.qss_order2.specs.Fixed.{AreColumnsBelow}
+use Rattle.qss_order2.proofs.Common.{◌≡◌, ap, AreColumnsBelow, arith, length, state_count, subst}
 use Rattle.qss_order2.proofs.fixed_machine.list_coefficient_columns.Goals as goal
 
 pub returns : goal.returns

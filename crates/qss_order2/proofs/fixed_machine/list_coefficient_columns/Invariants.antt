@@ -1,4 +1,4 @@
-use Rattle.qss_order2.specs.Fixed.{AreColumnsBelow}
+use Rattle.qss_order2.proofs.Common.{AreColumnsBelow}
 use Rattle.qss_order2.proofs.fixed_machine.list_coefficient_columns.Given as goal
 
 -- the columns so far

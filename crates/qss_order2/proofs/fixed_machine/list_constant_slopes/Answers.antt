@@ -1,11 +1,7 @@
 -- One more drive.
-use Rattle.std.proofs.Common.{arith, ◌∙◌}
-use Rattle.std.proofs.lemmas.Int.{to_z-of_z}
-use Rattle.std.specs.Int.RustNames.{FitsSigned}
-use Rattle.qss_machine.specs.Legitimate.{start_constant_part}
+use Rattle.qss_order2.proofs.Common.{◌∙◌, arith, FitsSigned, start_constant_part, to_z-of_z, w128}
 use Rattle.qss_order2.proofs.Tables.{table_more}
 use Rattle.qss_order2.proofs.fixed_machine.list_constant_slopes.Goals as goal
-use mir.Syntax.{w128}
 
 pub loop-row-preserved : goal.loop-row-preserved
 loop-row-preserved c =

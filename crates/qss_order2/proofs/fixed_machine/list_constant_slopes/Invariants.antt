@@ -1,7 +1,4 @@
-use Rattle.std.proofs.Common.{◌≡◌, ◌≤◌}
-use Rattle.std.specs.Prelude.{vec_len, vec_capacity}
-use Rattle.qss_machine.specs.Legitimate.{start_constant_part}
-use Rattle.mu_num.specs.IndexedSums.{tabulate}
+use Rattle.qss_order2.proofs.Common.{◌≡◌, ◌≤◌, start_constant_part, tabulate, vec_capacity, vec_len}
 use Rattle.qss_order2.proofs.fixed_machine.list_constant_slopes.Given as goal
 
 -- the drives so far

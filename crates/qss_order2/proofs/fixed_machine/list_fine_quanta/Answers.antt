@@ -1,11 +1,7 @@
 -- One more limit.
-use Rattle.std.proofs.Common.{arith, ◌∙◌}
-use Rattle.std.proofs.lemmas.Int.{to_z-of_z}
-use Rattle.std.specs.Int.RustNames.{FitsSigned}
-use Rattle.qss_order2.specs.SecondSteps.{reach_of}
+use Rattle.qss_order2.proofs.Common.{◌∙◌, arith, FitsSigned, reach_of, to_z-of_z, w128}
 use Rattle.qss_order2.proofs.Tables.{table_more}
 use Rattle.qss_order2.proofs.fixed_machine.list_fine_quanta.Goals as goal
-use mir.Syntax.{w128}
 
 pub loop-state-preserved : goal.loop-state-preserved
 loop-state-preserved c =

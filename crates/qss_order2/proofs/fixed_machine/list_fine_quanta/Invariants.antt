@@ -1,7 +1,4 @@
-use Rattle.std.proofs.Common.{◌≡◌, ◌≤◌}
-use Rattle.std.specs.Prelude.{vec_len, vec_capacity}
-use Rattle.mu_num.specs.IndexedSums.{tabulate}
-use Rattle.qss_order2.specs.SecondSteps.{reach_of}
+use Rattle.qss_order2.proofs.Common.{◌≡◌, ◌≤◌, reach_of, tabulate, vec_capacity, vec_len}
 use Rattle.qss_order2.proofs.fixed_machine.list_fine_quanta.Given as goal
 
 -- the limits so far

@@ -1,9 +1,7 @@
 -- Halving ends at the first product of a state from this one on.
-use Rattle.std.proofs.Common.{rules, get_or, pos, arith}
-use Rattle.std.proofs.lemmas.List.Sorted.{IsPartitionPoint-from_clause}
-use Rattle.std.specs.List.Sorted.{IsNonDecreasingBy}
-use Rattle.std.specs.Prelude.{nat_lt}
-use Rattle.qss_machine.specs.declared.machine_parts.Product.{Product}
+use Rattle.qss_order2.proofs.Common
+use Common.{arith, get_or, IsNonDecreasingBy, IsPartitionPoint-from_clause, nat_lt, pos, Product}
+use Common.{rules}
 use Rattle.qss_order2.proofs.NextStates.{rising_products, lesser_first, reached, none_between}
 use Rattle.qss_order2.proofs.NextStates.{first_is}
 use Rattle.qss_order2.proofs.fixed_machine.next_fixed_product.Goals as goal

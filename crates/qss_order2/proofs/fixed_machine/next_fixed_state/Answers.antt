@@ -1,9 +1,6 @@
 -- Neither an entry nor a product is of a state before the next one.
-use Rattle.std.proofs.Common.{◌≡◌, ◌≤◌, ◌<◌, List, length, get_or, subst, arith}
-use Rattle.std.specs.Prelude.{All}
-use Rattle.qss_machine.specs.declared.machine_parts.Entry.{Entry}
-use Rattle.qss_machine.specs.declared.machine_parts.Product.{Product}
-use Rattle.qss_machine.specs.declared.machine_parts.SlopeRow.{SlopeRow}
+use Rattle.qss_order2.proofs.Common
+use Common.{◌<◌, ◌≡◌, ◌≤◌, All, arith, Entry, get_or, length, List, Product, SlopeRow, subst}
 use Rattle.qss_order2.proofs.NextStates.{no_mode, none_before}
 use Rattle.qss_order2.proofs.fixed_machine.next_fixed_state.Goals as goal
 

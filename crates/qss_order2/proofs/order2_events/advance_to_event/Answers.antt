@@ -1,16 +1,9 @@
 -- Event steps without rows are silent; the first with rows is the next event.
-use Rattle.std.proofs.Common.{◌≡◌, ◌≢◌, ℕ, ◌++◌, ◌∷◌, [], List, true, false, length, refl, sym, ◌∙◌}
-use Rattle.std.proofs.Common.{ap, subst, arith, Vec, Global}
-use Rattle.std.specs.Prelude.{Option, None, vec_len, ◌==◌}
-use Rattle.mu_num.proofs.Tests.{eqb-true, eqb-false}
-use Rattle.qss_order2.specs.declared.order2_rows.Row2.{Row2}
-use Rattle.qss_order2.specs.Calls.{view_of}
-use Rattle.qss_order2.specs.Events.{IsVisit2}
-use Rattle.qss_order2.specs.SlopeRules.{IsRuled2}
-use Rattle.qss_order2.specs.SecondRuns.{end_rows}
-use Rattle.qss_order2.specs.Stores.{snapshot_of, motion_at}
-use Rattle.qss_order2.specs.SecondSteps.{SecondSnapshot, second_snapshot_unless}
-use Rattle.qss_machine.specs.Machines.{state_count}
+use Rattle.qss_order2.proofs.Common
+use Common.{[], ℕ, ◌++◌, ◌==◌, ◌∙◌, ◌∷◌, ◌≡◌, ◌≢◌, ap, arith, end_rows, eqb-false, eqb-true, false}
+use Common.{Global, IsRuled2, IsVisit2, length, List, motion_at, None, Option, refl, Row2}
+use Common.{second_snapshot_unless, SecondSnapshot, snapshot_of, state_count, subst, sym, true, Vec}
+use Common.{vec_len, view_of}
 use Rattle.qss_order2.proofs.Motions.{can_move}
 use Rattle.qss_order2.proofs.Advances.{visit_on, rows_on, silent_visit, overflows_at_start}
 use Rattle.qss_order2.proofs.Advances.{overflows_later}

@@ -1,9 +1,6 @@
-use Rattle.std.proofs.Common.{◌≡◌, ◌-◌, ◌≤◌, List}
-use Rattle.std.specs.Prelude.{None}
-use Rattle.qss_order2.specs.Calls.{AreSilent2}
-use Rattle.qss_order2.specs.SlopeRules.{IsRuled2}
-use Rattle.qss_order2.specs.Stores.{snapshot_of, motion_at, Stands}
-use Rattle.qss_order2.specs.SecondSteps.{SecondSnapshot}
+use Rattle.qss_order2.proofs.Common
+use Common.{◌-◌, ◌≡◌, ◌≤◌, AreSilent2, IsRuled2, List, motion_at, None, SecondSnapshot, snapshot_of}
+use Common.{Stands}
 use Rattle.qss_order2.proofs.order2_events.advance_to_event.Given as goal
 
 -- the store is at the tick, within its limits, and the ticks up to it had no rows

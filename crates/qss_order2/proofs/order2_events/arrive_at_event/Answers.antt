@@ -1,20 +1,9 @@
 -- The limits are checked in their order.
-use Rattle.std.proofs.Common.{◌≡◌, ◌<◌, ℕ, ℤ, All, true, false, List}
-use Rattle.std.proofs.Common.{length, refl, sym, ◌∙◌, ap, subst, arith, inl, inr, ◌≤ℤ◌}
-use Rattle.std.proofs.Common.{Vec, Global}
-use Rattle.std.proofs.lemmas.Bool.{cases_Bool}
-use Rattle.std.specs.Prelude.{Some, None}
-use Rattle.mu_num.specs.ListedPlaces.{is_listed}
-use Rattle.mu_num.specs.IndexedSums.{int_at, abs_of}
-use Rattle.qss_machine.specs.Machines.{state_count}
-use Rattle.qss_order2.specs.declared.order2_motion.Motion.{Motion}
-use Rattle.qss_order2.specs.declared.order2_motion.Place.{Place}
-use Rattle.qss_order2.specs.declared.order2_start.Store.{Store}
-use Rattle.qss_order2.specs.Places.{levels_on, CanRead}
-use Rattle.qss_order2.specs.SecondRunLimits.{past_levels}
-use Rattle.qss_order2.specs.SecondSteps.{rise_at}
-use Rattle.qss_order2.specs.SlopeRules.{IsRuled2}
-use Rattle.qss_order2.specs.Stores.{AreQuiet, HasSettled, HasChanged}
+use Rattle.qss_order2.proofs.Common
+use Common.{ℕ, ℤ, ◌<◌, ◌∙◌, ◌≡◌, ◌≤ℤ◌, abs_of, All, ap, AreQuiet, arith, CanRead, cases_Bool, false}
+use Common.{Global, HasChanged, HasSettled, inl, inr, int_at, is_listed, IsRuled2, length}
+use Common.{levels_on, List, Motion, None, past_levels, Place, refl, rise_at, Some, state_count}
+use Common.{Store, subst, sym, true, Vec}
 use Rattle.qss_order2.proofs.Arrivals.{by_false}
 use Rattle.qss_order2.proofs.CalmLines.{same_bound}
 use Rattle.qss_order2.proofs.Settled.{high_settled, has_settled, window_reads, rise_bounded}

@@ -1,13 +1,8 @@
 -- Calm levels are past no limit.
-use Rattle.std.proofs.Common.{◌≡◌, ◌<◌, ℕ, ℤ, All, List, length, sym}
-use Rattle.std.proofs.Common.{◌∙◌, ap, subst, arith, inl, inr, ◌≤ℤ◌}
-use Rattle.std.proofs.lemmas.Bool.{cases_Bool}
-use Rattle.mu_num.specs.ListedPlaces.{is_listed}
-use Rattle.mu_num.specs.IndexedSums.{int_at, abs_of}
-use Rattle.qss_machine.specs.Machines.{state_count}
-use Rattle.qss_order2.specs.declared.order2_motion.Place.{Place}
-use Rattle.qss_order2.specs.Places.{place_in, level_on, levels_on}
-use Rattle.qss_order2.specs.SecondRunLimits.{past_levels}
+use Rattle.qss_order2.proofs.Common
+use Common.{ℕ, ℤ, ◌<◌, ◌∙◌, ◌≡◌, ◌≤ℤ◌, abs_of, All, ap, arith, cases_Bool, inl, inr, int_at}
+use Common.{is_listed, length, level_on, levels_on, List, past_levels, Place, place_in, state_count}
+use Common.{subst, sym}
 use Rattle.qss_order2.proofs.CalmLines.{same_bound}
 use Rattle.qss_order2.proofs.Motions.{can_read_slices, levels_of_slices, at_levels, many_levels}
 use Rattle.qss_order2.proofs.Motions.{here_level}

@@ -1,15 +1,10 @@
 -- The states that leave are those that are due.
-use Rattle.std.proofs.Common.{◌≡◌, ◌+◌, ◌<◌, ℕ, ℤ, All, true, false, List, refl}
-use Rattle.std.proofs.Common.{sym, ◌∙◌, ap, subst, arith, ◌≤ℤ◌, ◌*ℤ◌}
-use Rattle.std.specs.Int.{int_wrap, w128}
-use Rattle.mu_num.proofs.SizeTests.{within-passes}
-use Rattle.mu_num.specs.Sizes.{IsWithin, exceeds}
-use Rattle.mu_num.specs.ListedPlaces.{is_listed}
-use Rattle.mu_num.specs.IndexedSums.{int_at, abs_of}
-use Rattle.qss_machine.specs.Machines.{state_count, level_unit}
-use Rattle.qss_order2.specs.SecondRunLaws.{bend_at}
-use Rattle.qss_order2.specs.SecondSteps.{rise_change_weight}
-use Rattle.qss_order2.specs.Stores.{snapshot_of, motion_at, AreQuiet, HasArrived}
+use Rattle.qss_order2.proofs.Common
+use Common.{ℕ, ℤ, ◌*ℤ◌, ◌+◌, ◌<◌, ◌∙◌, ◌≡◌, ◌≤ℤ◌, abs_of, All, ap, AreQuiet, arith, bend_at}
+use Common.{exceeds, false, HasArrived, int_at, int_wrap, is_listed, IsWithin, level_unit, List}
+use Common.{motion_at, refl, rise_change_weight, snapshot_of, state_count, subst, sym, true}
+use Common.{within-passes}
+use Rattle.std.specs.Int.{w128}
 use Rattle.qss_order2.proofs.Arrivals.{since_touched, level1, reads1, near1}
 use Rattle.qss_order2.proofs.Bounds.{bends_flat}
 use Rattle.qss_order2.proofs.ColumnSums.{wrap_small}

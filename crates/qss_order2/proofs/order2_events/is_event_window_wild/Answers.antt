@@ -1,10 +1,6 @@
 -- A level that is calm at both ends of a line is calm along it.
-use Rattle.std.proofs.Common.{ℤ, List, length}
-use Rattle.std.proofs.Common.{ap, subst, arith}
-use Rattle.mu_num.specs.IndexedSums.{int_at}
-use Rattle.qss_machine.specs.Machines.{state_count}
-use Rattle.qss_order2.specs.declared.order2_motion.Place.{Place}
-use Rattle.qss_order2.specs.Places.{place_in, IsLineWithin}
+use Rattle.qss_order2.proofs.Common
+use Common.{ℤ, ap, arith, int_at, IsLineWithin, length, List, Place, place_in, state_count, subst}
 use Rattle.qss_order2.proofs.CalmLines.{calm_between}
 use Rattle.qss_order2.proofs.Motions.{can_read_slices}
 use Rattle.qss_order2.proofs.order2_events.is_event_window_wild.Goals as goal

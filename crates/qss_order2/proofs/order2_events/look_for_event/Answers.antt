@@ -1,20 +1,10 @@
 -- A look is a visit.
-use Rattle.std.proofs.Common.{◌≡◌, ℕ, ◌+◌, ◌-◌, ◌<◌, true, false, List, ℤ}
-use Rattle.std.proofs.Common.{refl, sym, ◌∙◌, ap, subst, arith}
-use Rattle.std.specs.Prelude.{Option, flat_map}
-use Rattle.mu_num.specs.ListedPlaces.{is_listed}
-use Rattle.qss_machine.specs.Machines.{state_count}
-use Rattle.mu_num.specs.IndexedSums.{int_at}
-use Rattle.qss_order2.specs.declared.order2_motion.Place.{Place}
-use Rattle.qss_order2.specs.declared.order2_rows.Kind2.TheVariants as kind
-use Rattle.qss_order2.specs.declared.order2_start.Store.{Store}
-use Rattle.qss_order2.specs.Events.{IsVisit2}
-use Rattle.qss_order2.specs.Places.{place_in, levels_on}
-use Rattle.qss_order2.specs.SecondRuns.{tick_rows2, last_second_snapshot}
-use Rattle.qss_order2.specs.SlopeRules.{IsRuled2}
-use Rattle.qss_order2.specs.SecondSteps.{SecondSnapshot, second_snapshot_unless}
-use Rattle.qss_order2.specs.Stores.{motion_at, snapshot_of, due_at, until, Moves, IsDue2}
-use Rattle.qss_order2.specs.Stores.{KeepsDues, place_rows}
+use Rattle.qss_order2.proofs.Common
+use Common.{ℕ, ℤ, ◌+◌, ◌-◌, ◌<◌, ◌∙◌, ◌≡◌, ap, arith, due_at, false, int_at, is_listed, IsDue2}
+use Common.{IsRuled2, IsVisit2, KeepsDues, last_second_snapshot, levels_on, List, motion_at, Moves}
+use Common.{Option, Place, place_in, place_rows, refl, second_snapshot_unless, SecondSnapshot}
+use Common.{snapshot_of, state_count, Store, subst, sym, tick_rows2, true, until}
+use Rattle.std.specs.Prelude.{flat_map}
 use Rattle.qss_order2.proofs.Arrivals.{by_false, states2, levels2, past2, near2, small2, line2}
 use Rattle.qss_order2.proofs.Looks.{look_later}
 use Rattle.qss_order2.proofs.Motions.{level_here, state_here, small_here, small_rise_here}
@@ -23,6 +13,7 @@ use Rattle.qss_order2.proofs.Looked.{found, visited, visited_rows, moves_on, lev
 use Rattle.qss_order2.proofs.Shifts.{dues_kept}
 use Rattle.qss_order2.proofs.RowLists.{listed_rows}
 use Rattle.qss_order2.proofs.Silent.{calm_worlds}
+use Rattle.qss_order2.specs.declared.order2_rows.Kind2.TheVariants as kind
 use Rattle.qss_order2.proofs.order2_events.look_for_event.Goals as goal
 
 pub overflow_add-result : goal.overflow_add-result

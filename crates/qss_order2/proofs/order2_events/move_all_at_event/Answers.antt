@@ -1,13 +1,8 @@
 -- All places are of the tick.
-use Rattle.std.proofs.Common.{◌≡◌, ◌<◌, ℕ, ℤ, List, length, refl, ◌∙◌, ap}
-use Rattle.std.proofs.Common.{arith}
-use Rattle.std.proofs.lemmas.List.{with_items_is}
-use Rattle.std.specs.Vec.{with_items}
-use Rattle.mu_num.specs.IndexedSums.{int_at}
-use Rattle.qss_machine.specs.Machines.{state_count}
-use Rattle.qss_order2.specs.declared.order2_motion.Place.{Place}
-use Rattle.qss_order2.specs.Places.{place_in, states_on, levels_on, rises_on, rise_on}
-use Rattle.qss_order2.specs.Stores.{MotionAt, motion_at, place_there}
+use Rattle.qss_order2.proofs.Common
+use Common.{ℕ, ℤ, ◌<◌, ◌∙◌, ◌≡◌, ap, arith, int_at, length, levels_on, List, motion_at, MotionAt}
+use Common.{Place, place_in, place_there, refl, rise_on, rises_on, state_count, states_on}
+use Common.{with_items, with_items_is}
 use Rattle.qss_order2.proofs.Motions.{can_move, can_move_slices, place_slices, rise_slices}
 use Rattle.qss_order2.proofs.Motions.{same_motion, levels_all, states_all, rises_all}
 use Rattle.qss_order2.proofs.order2_events.move_all_at_event.Goals as goal

@@ -1,20 +1,10 @@
 -- The affected states move, and those that left have new levels.
-use Rattle.std.proofs.Common.{◌≡◌, ◌<◌, ℕ, ℤ, ◌+ℤ◌, true, false, List, length, pos}
-use Rattle.std.proofs.Common.{refl, sym, ◌∙◌, ap, arith, inl, inr}
-use Rattle.std.proofs.lemmas.Bool.{cases_Bool}
-use Rattle.std.proofs.lemmas.Int.{ints}
-use Rattle.std.proofs.lemmas.List.{with_items_is}
-use Rattle.std.specs.Int.{int_wrap, w128}
-use Rattle.std.specs.Vec.{with_items}
-use Rattle.mu_num.specs.Sizes.{IsWithin}
-use Rattle.mu_num.specs.ListedPlaces.{is_listed}
-use Rattle.mu_num.specs.IndexedSums.{int_at}
-use Rattle.qss_machine.specs.Machines.{state_count, level_unit}
-use Rattle.qss_order2.specs.declared.order2_motion.Place.{Place}
-use Rattle.qss_order2.specs.Places.{place_in, floor_place, rise_on, levels_on}
-use Rattle.qss_order2.specs.Places.{level_shift}
-use Rattle.qss_order2.specs.SecondSteps.{rise_at}
-use Rattle.qss_order2.specs.Stores.{place_there}
+use Rattle.qss_order2.proofs.Common
+use Common.{ℕ, ℤ, ◌+ℤ◌, ◌<◌, ◌∙◌, ◌≡◌, ap, arith, cases_Bool, false, floor_place, inl, inr, int_at}
+use Common.{int_wrap, ints, is_listed, IsWithin, length, level_shift, level_unit, levels_on, List}
+use Common.{Place, place_in, place_there, pos, refl, rise_at, rise_on, state_count, sym, true}
+use Common.{with_items, with_items_is}
+use Rattle.std.specs.Int.{w128}
 use Rattle.qss_order2.proofs.ColumnSums.{wrap_small}
 use Rattle.qss_order2.proofs.Gains.{rise_on_small, risen_by, quiet_shift}
 use Rattle.qss_order2.proofs.Motions.{can_move, can_move_slices, place_slices, rise_slices}

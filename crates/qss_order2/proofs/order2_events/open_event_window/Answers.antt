@@ -1,10 +1,7 @@
 -- All states are at the tick, and the next window begins.
-use Rattle.std.proofs.Common.{◌≡◌, ◌+◌, ◌-◌, ◌<◌, ℕ, Bool, true, false, List, length}
-use Rattle.std.proofs.Common.{sym, ◌∙◌, ap, subst, arith}
-use Rattle.mu_num.specs.ListedPlaces.{is_listed}
-use Rattle.qss_machine.specs.Machines.{state_count}
-use Rattle.qss_order2.specs.Stores.{motion_at, Moves}
-use Rattle.qss_order2.specs.Stores.{IsWindow}
+use Rattle.qss_order2.proofs.Common
+use Common.{ℕ, ◌+◌, ◌-◌, ◌<◌, ◌∙◌, ◌≡◌, ap, arith, Bool, false, is_listed, IsWindow, length, List}
+use Common.{motion_at, Moves, state_count, subst, sym, true}
 use Rattle.qss_order2.proofs.Bounds.{change_small}
 use Rattle.qss_order2.proofs.Motions.{small_here, small_rise_here, on_the_way}
 use Rattle.qss_order2.proofs.Settled.{listed_below}

@@ -1,10 +1,7 @@
 -- Only due ticks are new, of the states that are touched.
-use Rattle.std.proofs.Common.{◌-◌, ℕ, List}
-use Rattle.std.proofs.Common.{sym, ◌∙◌, ap, subst, arith, inl, inr}
-use Rattle.std.proofs.lemmas.Bool.{cases_Bool}
-use Rattle.std.specs.Prelude.{Option}
-use Rattle.mu_num.specs.ListedPlaces.{is_listed}
-use Rattle.qss_order2.specs.Stores.{motion_at, snapshot_of, until, IsDue2}
+use Rattle.qss_order2.proofs.Common
+use Common.{ℕ, ◌-◌, ◌∙◌, ap, arith, cases_Bool, inl, inr, is_listed, IsDue2, List, motion_at}
+use Common.{Option, snapshot_of, subst, sym, until}
 use Rattle.qss_order2.proofs.order2_events.prepare_event.Goals as goal
 
 pub set_leaving_dues-requires-clause-list : goal.set_leaving_dues-requires-clause-list

@@ -1,10 +1,9 @@
 -- A curve that does not change stays inside.
-use Rattle.std.proofs.Common.{◌≡◌, ℕ, ℤ, pos, ◌+ℤ◌, ◌*ℤ◌, sym, ◌∙◌, ap, arith}
-use Rattle.std.proofs.lemmas.Int.{ints, to_z-of_z}
-use Rattle.std.specs.Prelude.{unsigned_abs}
-use Rattle.mu_num.specs.Curves.{curve_at, sum_to}
+use Rattle.qss_order2.proofs.Common
+use Common.{ℕ, ℤ, ◌*ℤ◌, ◌+ℤ◌, ◌∙◌, ◌≡◌, ap, arith, curve_at, ints, pos, sym, to_z-of_z}
+use Common.{unsigned_abs, w128}
+use Rattle.mu_num.specs.Curves.{sum_to}
 use Rattle.qss_order2.proofs.order2_leaving.first_step_past_limit.Goals as goal
-use mir.Syntax.{w128}
 
 still : (c b a : ℤ) (n : ℕ) → b ≡ pos 0 → a ≡ pos 0 → curve_at c b a n ≡ c
 still c b a n of_b of_a = ap (λ z. c +ℤ pos n *ℤ z +ℤ pos (sum_to n) *ℤ a) of_b

@@ -1,10 +1,6 @@
-use Rattle.std.proofs.Common.{◌^◌, ℤ, ◌*ℤ◌, arith}
-use Rattle.std.proofs.lemmas.Int.{to_z-of_z}
-use Rattle.std.specs.Int.RustNames.{FitsSigned}
-use Rattle.qss_machine.proofs.Loops.{fits_below}
+use Rattle.qss_order2.proofs.Common.{ℤ, ◌*ℤ◌, ◌^◌, arith, fits_below, FitsSigned, to_z-of_z, w128}
 use Rattle.qss_order2.proofs.Differences.{difference_fits, difference_is, difference_within}
 use Rattle.qss_order2.proofs.order2_leaving.leaving_drift_of.Goals as goal
-use mir.Syntax.{w128}
 
 pub overflow_mul-result : goal.overflow_mul-result
 overflow_mul-result c =

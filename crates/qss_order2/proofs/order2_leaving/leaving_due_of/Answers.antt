@@ -1,30 +1,15 @@
 -- The gap between a state and its level moves along a parabola.
-use Rattle.std.proofs.Common.{◌≡◌, ◌<◌, ℕ, List, length, get_or, ℤ, pos, ◌-ℤ◌, ◌*ℤ◌, ◌≤ℤ◌, ◌<ℤ◌}
-use Rattle.std.proofs.Common.{◌^◌, unsigned_abs, sym, subst, ap, ◌∙◌, arith}
-use Rattle.std.proofs.lemmas.Int.{ints, to_z-of_z}
-use Rattle.std.proofs.lemmas.List.FromFn.{length-map-range_with_len}
-use Rattle.std.proofs.lemmas.List.{get_or_default}
-use Rattle.std.specs.Int.RustNames.{FitsSigned}
-use Rattle.mu_num.specs.Curves.{curve_at, FirstUpTo}
-use Rattle.mu_num.specs.Sizes.{IsWithin, IsPositiveWithin}
-use Rattle.qss_machine.specs.declared.compiled_machine.Machine.{Machine}
-use Rattle.mu_num.specs.IndexedSums.{int_at}
-use Rattle.qss_machine.specs.Machines.{state_count, level_unit}
-use Rattle.qss_order2.specs.declared.fixed_machine.FixedMachine.{FixedMachine}
-use Rattle.qss_order2.specs.declared.order2_motion.Motion.{Motion}
-use Rattle.qss_order2.specs.declared.order2_motion.Place.{Place}
-use Rattle.qss_order2.specs.Places.{no_place, place_in}
-use Rattle.qss_order2.specs.Stores.{motion_at, HasLists, Moves}
+use Rattle.qss_order2.proofs.Common
+use Common.{ℕ, ℤ, ◌*ℤ◌, ◌-ℤ◌, ◌<ℤ◌, ◌<◌, ◌^◌, ◌∙◌, ◌≡◌, ◌≤ℤ◌, ap, arith, bend_at, curve_at}
+use Common.{FirstUpTo, FitsSigned, FixedMachine, get_or, get_or_default, HasLists, int_at}
+use Common.{int_at-tabulate, ints, IsPositiveWithin, IsWithin, length, length-map-range_with_len}
+use Common.{level_unit, List, Machine, Motion, motion_at, Moves, no_place, Place, place_in, pos}
+use Common.{reach_of, rise_at, state_count, subst, sym, to_z-of_z, unit_fits, unsigned_abs, w128}
 use Rattle.qss_order2.proofs.Motions.{state_here, level_here, rise_here}
-use Rattle.qss_order2.specs.SecondSteps.{rise_at, reach_of}
-use Rattle.qss_order2.specs.SecondRunLaws.{bend_at}
 use Rattle.qss_order2.proofs.Bounds.{at_index, level_within, state_small, rise_small, bend_small}
 use Rattle.qss_order2.proofs.Bounds.{change_small, rise_is, bend_is}
-use Rattle.qss_machine.proofs.Near.{unit_fits}
 use Rattle.qss_order2.proofs.Sizes.{reach_small, reach_low}
-use Rattle.mu_num.proofs.Tables.{int_at-tabulate}
 use Rattle.qss_order2.proofs.order2_leaving.leaving_due_of.Goals as goal
-use mir.Syntax.{w128}
 
 wide : (z : ℤ) → IsWithin 126 z → FitsSigned w128 z
 wide z small = omega (arith, ints, small)

@@ -1,9 +1,7 @@
-use Rattle.std.proofs.Common.{◌≡◌, ◌^◌, ◌∙◌, ◌*ℤ◌, ◌-ℤ◌, ap, arith}
-use Rattle.std.proofs.lemmas.Int.{to_z-of_z}
-use Rattle.std.specs.Int.RustNames.{FitsSigned}
+use Rattle.qss_order2.proofs.Common
+use Common.{◌*ℤ◌, ◌-ℤ◌, ◌^◌, ◌∙◌, ◌≡◌, ap, arith, FitsSigned, to_z-of_z, w128}
 use Rattle.qss_order2.proofs.Differences.{difference_fits, difference_is, difference_within}
 use Rattle.qss_order2.proofs.order2_leaving.leaving_gap_of.Goals as goal
-use mir.Syntax.{w128}
 
 pub overflow_sub-result : goal.overflow_sub-result
 overflow_sub-result c =

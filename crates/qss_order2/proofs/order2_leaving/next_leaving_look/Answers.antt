@@ -1,10 +1,7 @@
 -- The next look is at the least due tick, or at the end of the window.
-use Rattle.std.proofs.Common.{◌≡◌, ◌-◌, ◌<◌, ℕ, length, sym, ◌∙◌, ap}
-use Rattle.std.proofs.Common.{arith}
-use Rattle.std.specs.Prelude.{Some}
-use Rattle.mu_num.specs.ListedPlaces.{is_listed}
-use Rattle.qss_machine.specs.Machines.{state_count}
-use Rattle.qss_order2.specs.Stores.{due_at, until}
+use Rattle.qss_order2.proofs.Common
+use Common.{ℕ, ◌-◌, ◌<◌, ◌∙◌, ◌≡◌, ap, arith, due_at, is_listed, length, Some, state_count, sym}
+use Common.{until}
 use Rattle.qss_order2.proofs.NextLooks.{until_least, next_later, same_due, due_inside, from_first}
 use Rattle.qss_order2.proofs.NextLooks.{listed_is_due}
 use Rattle.qss_order2.proofs.order2_leaving.next_leaving_look.Goals as goal

@@ -1,5 +1,4 @@
-use Rattle.std.proofs.Common.{◌^◌, arith}
-use Rattle.qss_machine.proofs.Loops.{product_is, product_bound}
+use Rattle.qss_order2.proofs.Common.{◌^◌, arith, product_bound, product_is}
 use Rattle.qss_order2.proofs.order2_leaving.scale_leaving_level.Goals as goal
 
 pub returns-clause-value : goal.returns-clause-value

@@ -1,9 +1,7 @@
 -- One more due tick.
-use Rattle.std.proofs.Common.{◌<◌, ◌+◌, ℕ, List, length, get_or, take, sym, subst, arith}
-use Rattle.std.specs.Prelude.{None, Option}
-use Rattle.mu_num.specs.Writes.{IsWritten}
-use Rattle.mu_num.proofs.Writes.{written_more, written_all, among_at}
-use Rattle.qss_order2.specs.Stores.{snapshot_of, motion_at, until, IsDue2}
+use Rattle.qss_order2.proofs.Common
+use Common.{ℕ, ◌+◌, ◌<◌, among_at, arith, get_or, IsDue2, IsWritten, length, List, motion_at, None}
+use Common.{Option, snapshot_of, subst, sym, take, until, written_all, written_more}
 use Rattle.qss_order2.proofs.order2_leaving.set_leaving_dues.Goals as goal
 
 pub leaving_due_tick-requires-clause-here : goal.leaving_due_tick-requires-clause-here

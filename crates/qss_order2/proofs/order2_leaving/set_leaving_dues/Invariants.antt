@@ -1,7 +1,4 @@
-use Rattle.std.proofs.Common.{take}
-use Rattle.std.specs.Prelude.{None}
-use Rattle.mu_num.specs.Writes.{IsWritten}
-use Rattle.qss_order2.specs.Stores.{snapshot_of, motion_at, until, IsDue2}
+use Rattle.qss_order2.proofs.Common.{IsDue2, IsWritten, motion_at, None, snapshot_of, take, until}
 use Rattle.qss_order2.proofs.order2_leaving.set_leaving_dues.Given as goal
 
 -- the due ticks so far

@@ -1,13 +1,9 @@
 -- The level that was tried.
-use Rattle.std.proofs.Common.{◌≡◌, ◌-◌, ◌^◌, ◌≤◌, pos, sym, ◌∙◌, subst, arith}
+use Rattle.qss_order2.proofs.Common
+use Common.{◌-◌, ◌^◌, ◌∙◌, ◌≡◌, ◌≤◌, arith, FitsSigned, ints, IsCalmLevel, IsWithin, of_z, pos}
+use Common.{subst, sym, to_z, to_z-of_z, w128}
 use Rattle.std.proofs.Math.Pow.{pow_mono}
-use Rattle.std.proofs.lemmas.Int.{ints, to_z-of_z}
-use Rattle.std.specs.Int.RustNames.{FitsSigned}
-use Rattle.mu_num.specs.Sizes.{IsWithin}
-use Rattle.qss_order2.specs.SecondRunLimits.{IsCalmLevel}
 use Rattle.qss_order2.proofs.order2_limits.calm_level_limit.Goals as goal
-use mir.Syntax.{w128}
-use mir.Val.{to_z, of_z}
 
 pub returns-then-branch : goal.returns-then-branch
 returns-then-branch c level same =

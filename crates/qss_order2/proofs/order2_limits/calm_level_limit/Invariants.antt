@@ -1,4 +1,4 @@
-use Rattle.std.proofs.Common.{◌≤◌}
+use Rattle.qss_order2.proofs.Common.{◌≤◌}
 use Rattle.qss_order2.proofs.order2_limits.calm_level_limit.Given as goal
 
 -- at most 50 bits are left to try

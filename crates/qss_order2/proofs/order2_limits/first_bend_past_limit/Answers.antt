@@ -1,8 +1,5 @@
 -- The first one is the least.
-use Rattle.std.proofs.Common.{◌∙◌, sym, arith}
-use Rattle.mu_num.specs.Sizes.{exceeds}
-use Rattle.qss_machine.specs.Machines.{state_count}
-use Rattle.qss_order2.specs.SecondSteps.{rise_change_weight}
+use Rattle.qss_order2.proofs.Common.{◌∙◌, arith, exceeds, rise_change_weight, state_count, sym}
 use Rattle.qss_order2.proofs.Tables.{first_of_table, none_of_table}
 use Rattle.qss_order2.proofs.order2_limits.first_bend_past_limit.Goals as goal
 

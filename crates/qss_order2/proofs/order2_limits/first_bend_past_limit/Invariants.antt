@@ -1,6 +1,4 @@
-use Rattle.std.proofs.Common.{◌≡◌, ℕ, ◌<◌, false}
-use Rattle.mu_num.specs.Sizes.{exceeds}
-use Rattle.qss_order2.specs.SecondSteps.{rise_change_weight}
+use Rattle.qss_order2.proofs.Common.{ℕ, ◌<◌, ◌≡◌, exceeds, false, rise_change_weight}
 use Rattle.qss_order2.proofs.order2_limits.first_bend_past_limit.Given as goal
 
 -- none so far

@@ -1,12 +1,8 @@
 -- The first one is the least.
-use Rattle.std.proofs.Common.{◌≡◌, ◌∙◌, pos, true, sym, arith}
-use Rattle.std.proofs.lemmas.Int.{ints, to_z-of_z}
-use Rattle.std.specs.Int.RustNames.{FitsSigned}
-use Rattle.mu_num.specs.Sizes.{exceeds}
-use Rattle.mu_num.specs.IndexedSums.{int_at}
+use Rattle.qss_order2.proofs.Common
+use Common.{◌∙◌, ◌≡◌, arith, exceeds, FitsSigned, int_at, ints, pos, sym, to_z-of_z, true, w128}
 use Rattle.qss_order2.proofs.Tables.{first_is, none_is}
 use Rattle.qss_order2.proofs.order2_limits.first_level_past_limit.Goals as goal
-use mir.Syntax.{w128}
 
 pub returns-then-exceeds_power_of_two : goal.returns-then-exceeds_power_of_two
 returns-then-exceeds_power_of_two c =

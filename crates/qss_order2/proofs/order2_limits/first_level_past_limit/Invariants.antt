@@ -1,6 +1,4 @@
-use Rattle.std.proofs.Common.{◌≡◌, ℕ, ◌<◌, false}
-use Rattle.mu_num.specs.Sizes.{exceeds}
-use Rattle.mu_num.specs.IndexedSums.{int_at}
+use Rattle.qss_order2.proofs.Common.{ℕ, ◌<◌, ◌≡◌, exceeds, false, int_at}
 use Rattle.qss_order2.proofs.order2_limits.first_level_past_limit.Given as goal
 
 -- none so far

@@ -1,6 +1,5 @@
 -- All levels at the tick are looked at.
-use Rattle.std.proofs.Common.{◌∙◌, ap}
-use Rattle.qss_order2.specs.SecondRunLimits.{past_levels}
+use Rattle.qss_order2.proofs.Common.{◌∙◌, ap, past_levels}
 use Rattle.qss_order2.proofs.order2_limits.first_line_past_limit.Goals as goal
 
 pub returns : goal.returns

@@ -1,8 +1,5 @@
 -- Where no level is past its limit, levels are small.
-use Rattle.std.proofs.Common.{◌∙◌, sym, arith}
-use Rattle.mu_num.specs.Sizes.{IsWithin}
-use Rattle.qss_machine.specs.Machines.{state_count}
-use Rattle.qss_machine.proofs.Ranges.{none_past}
+use Rattle.qss_order2.proofs.Common.{◌∙◌, arith, IsWithin, none_past, state_count, sym}
 use Rattle.qss_order2.proofs.Tables.{all_of}
 use Rattle.qss_order2.proofs.order2_limits.first_state_past_limits.Goals as goal
 

@@ -1,8 +1,6 @@
 -- None of the list.
-use Rattle.std.proofs.Common.{◌≡◌, false, subst, arith}
-use Rattle.mu_num.specs.Sizes.{exceeds}
-use Rattle.qss_order2.specs.SecondSteps.{rise_change_weight}
-use Rattle.mu_num.proofs.Writes.{index_of}
+use Rattle.qss_order2.proofs.Common
+use Common.{◌≡◌, arith, exceeds, false, index_of, rise_change_weight, subst}
 use Rattle.qss_order2.proofs.order2_limits.has_bend_past_limit.Goals as goal
 
 pub returns : goal.returns

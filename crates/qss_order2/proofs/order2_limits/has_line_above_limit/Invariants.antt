@@ -1,6 +1,4 @@
-use Rattle.std.proofs.Common.{◌<◌, ℕ, get_or}
-use Rattle.mu_num.specs.IndexedSums.{int_at}
-use Rattle.qss_order2.specs.Places.{place_in, IsLineWithin}
+use Rattle.qss_order2.proofs.Common.{ℕ, ◌<◌, get_or, int_at, IsLineWithin, place_in}
 use Rattle.qss_order2.proofs.order2_limits.has_line_above_limit.Given as goal
 
 -- none so far

@@ -1,11 +1,7 @@
 -- None of the list.
-use Rattle.std.proofs.Common.{◌≤ℤ◌, get_or, subst, arith}
-use Rattle.std.proofs.lemmas.Int.{to_z-of_z}
-use Rattle.mu_num.specs.IndexedSums.{abs_of}
-use Rattle.qss_order2.specs.Places.{place_in}
-use Rattle.mu_num.proofs.Writes.{index_of}
+use Rattle.qss_order2.proofs.Common
+use Common.{◌≤ℤ◌, abs_of, arith, get_or, index_of, place_in, subst, to_z-of_z, w128}
 use Rattle.qss_order2.proofs.order2_limits.has_place_above_limit.Goals as goal
-use mir.Syntax.{w128}
 
 pub returns : goal.returns
 returns c e j among =

@@ -1,6 +1,4 @@
-use Rattle.std.proofs.Common.{◌<◌, ℕ, get_or, ◌≤ℤ◌}
-use Rattle.mu_num.specs.IndexedSums.{abs_of}
-use Rattle.qss_order2.specs.Places.{place_in}
+use Rattle.qss_order2.proofs.Common.{ℕ, ◌<◌, ◌≤ℤ◌, abs_of, get_or, place_in}
 use Rattle.qss_order2.proofs.order2_limits.has_place_above_limit.Given as goal
 
 -- none so far

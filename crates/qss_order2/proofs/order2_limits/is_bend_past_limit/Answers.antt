@@ -1,7 +1,5 @@
 -- The sizes along a row add up as in the definitions.
-use Rattle.std.proofs.Common.{◌∙◌, ap, sym, subst}
-use Rattle.mu_num.specs.Sizes.{exceeds}
-use Rattle.qss_order2.specs.Fixed.{AreModes}
+use Rattle.qss_order2.proofs.Common.{◌∙◌, ap, AreModes, exceeds, subst, sym}
 use Rattle.qss_order2.proofs.FixedFacts.{row_is}
 use Rattle.qss_order2.proofs.FixedSums.{bend_weight_is}
 use Rattle.qss_order2.proofs.order2_limits.is_bend_past_limit.Goals as goal

@@ -1,14 +1,10 @@
 -- A row's absolute row sum is that of the definitions.
-use Rattle.std.proofs.Common.{◌≡◌, ◌∙◌, ap, sym, subst, arith}
-use Rattle.std.proofs.lemmas.Int.{to_z-of_z}
-use Rattle.std.specs.Int.RustNames.{FitsSigned}
-use Rattle.mu_num.specs.Sizes.{IsWithin, exceeds}
-use Rattle.qss_order2.specs.Fixed.{AreModes}
-use Rattle.qss_order2.specs.SecondSteps.{rise_weight}
+use Rattle.qss_order2.proofs.Common
+use Common.{◌∙◌, ◌≡◌, ap, AreModes, arith, exceeds, FitsSigned, IsWithin, rise_weight, subst, sym}
+use Common.{to_z-of_z, w128}
 use Rattle.qss_order2.proofs.FixedFacts.{wide, in_drives, drive_is, drive_within, row_is}
 use Rattle.qss_order2.proofs.FixedSums.{weight_is}
 use Rattle.qss_order2.proofs.order2_limits.is_row_past_limit.Goals as goal
-use mir.Syntax.{w128}
 
 pub index-requires-2 : goal.index-requires-2
 index-requires-2 c = in_drives c.args.f.now c.args.row c.requires.row

@@ -1,16 +1,10 @@
 -- Where these levels are past no limit, levels at most them in size are not either.
-use Rattle.std.proofs.Common.{◌≡◌, ◌^◌, length, pos, sym, ◌∙◌, ap, arith}
-use Rattle.std.proofs.lemmas.Int.{to_z-of_z}
-use Rattle.std.proofs.lemmas.List.{length-replicate}
-use Rattle.std.proofs.lemmas.List.FromFn.{length-map-range_with_len}
-use Rattle.std.specs.Int.RustNames.{FitsSigned}
-use Rattle.std.specs.Prelude.{replicate}
-use Rattle.qss_machine.specs.Machines.{state_count}
-use Rattle.qss_order2.specs.SecondRunLimits.{past_levels}
-use Rattle.qss_order2.specs.SecondSteps.{reach_of}
+use Rattle.qss_order2.proofs.Common
+use Common.{◌^◌, ◌∙◌, ◌≡◌, ap, arith, FitsSigned, length, length-map-range_with_len}
+use Common.{length-replicate, past_levels, pos, reach_of, replicate, state_count, sym, to_z-of_z}
+use Common.{w128}
 use Rattle.qss_order2.proofs.CalmLevels.{calm}
 use Rattle.qss_order2.proofs.order2_limits.is_within_calm_limit.Goals as goal
-use mir.Syntax.{w128}
 
 pub first_state_past_limits-requires : goal.first_state_past_limits-requires
 first_state_past_limits-requires c =

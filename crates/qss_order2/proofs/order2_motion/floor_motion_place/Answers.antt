@@ -1,12 +1,9 @@
 -- The unit is positive.
-use Rattle.std.proofs.Common.{◌≡◌, pos, ◌<ℤ◌, unsigned_abs, ap, arith}
-use Rattle.std.proofs.lemmas.Int.{ints, to_z-of_z}
-use Rattle.std.specs.Int.RustNames.{FitsSigned}
-use Rattle.qss_machine.specs.Machines.{level_unit}
+use Rattle.qss_order2.proofs.Common
+use Common.{◌<ℤ◌, ◌≡◌, ap, arith, FitsSigned, ints, level_unit, pos, to_z-of_z, unit_fits}
+use Common.{unsigned_abs, w128}
 use Rattle.qss_order2.proofs.FixedFacts.{wide}
-use Rattle.qss_machine.proofs.Near.{unit_fits}
 use Rattle.qss_order2.proofs.order2_motion.floor_motion_place.Goals as goal
-use mir.Syntax.{w128}
 
 pub floor_div-requires : goal.floor_div-requires
 floor_div-requires c =

@@ -1,13 +1,10 @@
 -- One more level.
-use Rattle.std.proofs.Common.{◌≡◌, ℕ, ℤ, length, pos, refl, sym, ◌∙◌, ap, arith}
-use Rattle.std.proofs.lemmas.Int.{to_z-of_z}
-use Rattle.std.specs.Int.RustNames.{FitsSigned}
-use Rattle.mu_num.specs.IndexedSums.{int_at, tabulate}
-use Rattle.qss_order2.specs.Places.{place_in, level_on}
+use Rattle.qss_order2.proofs.Common
+use Common.{ℕ, ℤ, ◌∙◌, ◌≡◌, ap, arith, FitsSigned, int_at, length, level_on, place_in, pos, refl}
+use Common.{sym, tabulate, to_z-of_z, w128}
 use Rattle.qss_order2.proofs.Motions.{levels_are}
 use Rattle.qss_order2.proofs.Tables.{filled_more, filled_table}
 use Rattle.qss_order2.proofs.order2_motion.list_motion_levels.Goals as goal
-use mir.Syntax.{w128}
 
 pub loop-j-preserved : goal.loop-j-preserved
 loop-j-preserved c =

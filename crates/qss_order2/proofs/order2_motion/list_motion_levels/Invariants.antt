@@ -1,6 +1,4 @@
-use Rattle.std.proofs.Common.{◌≡◌, pos}
-use Rattle.mu_num.specs.IndexedSums.{int_at}
-use Rattle.qss_order2.specs.Places.{place_in, level_on}
+use Rattle.qss_order2.proofs.Common.{◌≡◌, int_at, level_on, place_in, pos}
 use Rattle.qss_order2.proofs.Tables.{IsFilled}
 use Rattle.qss_order2.proofs.order2_motion.list_motion_levels.Given as goal
 

@@ -1,14 +1,10 @@
 -- One more state.
-use Rattle.std.proofs.Common.{◌≡◌, ◌<◌, ℕ, List, length, get_or, take, pos, sym, ◌∙◌, subst}
-use Rattle.std.proofs.Common.{arith}
-use Rattle.std.proofs.lemmas.Int.{to_z-of_z}
-use Rattle.std.specs.Int.RustNames.{FitsSigned}
-use Rattle.mu_num.specs.IndexedSums.{int_at}
-use Rattle.qss_order2.specs.Places.{no_place, place_in, place_at, rise_on, CanMove}
-use Rattle.mu_num.proofs.Writes.{written_more, written_all}
+use Rattle.qss_order2.proofs.Common
+use Common.{ℕ, ◌<◌, ◌∙◌, ◌≡◌, arith, CanMove, FitsSigned, get_or, int_at, length, List, no_place}
+use Common.{place_at, place_in, pos, rise_on, subst, sym, take, to_z-of_z, w128, written_all}
+use Common.{written_more}
 use Rattle.qss_order2.proofs.Motions.{still_moves, moved_once, risen_once}
 use Rattle.qss_order2.proofs.order2_motion.move_states_by_motion.Goals as goal
-use mir.Syntax.{w128}
 
 pub rise_moved_in_motion-rise-requires-clause-moves : goal.rise_moved_in_motion-rise-requires-clause-moves
 rise_moved_in_motion-rise-requires-clause-moves c =

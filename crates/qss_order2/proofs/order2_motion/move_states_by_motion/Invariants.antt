@@ -1,7 +1,5 @@
-use Rattle.std.proofs.Common.{◌≡◌, take, pos}
-use Rattle.mu_num.specs.Writes.{IsWritten}
-use Rattle.mu_num.specs.IndexedSums.{int_at}
-use Rattle.qss_order2.specs.Places.{no_place, place_in, place_at, rise_on}
+use Rattle.qss_order2.proofs.Common
+use Common.{◌≡◌, int_at, IsWritten, no_place, place_at, place_in, pos, rise_on, take}
 use Rattle.qss_order2.proofs.order2_motion.move_states_by_motion.Given as goal
 
 -- the places and the slopes so far

@@ -1,7 +1,5 @@
 -- A place of the tick stays.
-use Rattle.std.proofs.Common.{sym}
-use Rattle.mu_num.specs.IndexedSums.{int_at}
-use Rattle.qss_order2.specs.Places.{place_in}
+use Rattle.qss_order2.proofs.Common.{int_at, place_in, sym}
 use Rattle.qss_order2.proofs.Motions.{here_place}
 use Rattle.qss_order2.proofs.order2_motion.place_moved_in_motion.Goals as goal
 

@@ -1,9 +1,6 @@
 -- The sum fits.
-use Rattle.std.proofs.Common.{arith, ◌+ℤ◌}
-use Rattle.std.proofs.lemmas.Int.{ints, to_z-of_z}
-use Rattle.std.specs.Int.RustNames.{FitsSigned}
+use Rattle.qss_order2.proofs.Common.{◌+ℤ◌, arith, FitsSigned, ints, to_z-of_z, w128}
 use Rattle.qss_order2.proofs.order2_motion.state_after_motion.Goals as goal
-use mir.Syntax.{w128}
 
 pub returns : goal.returns
 returns c =

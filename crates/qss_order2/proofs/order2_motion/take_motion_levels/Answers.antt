@@ -1,27 +1,13 @@
 -- One more level, and the shifts that it causes.
-use Rattle.std.proofs.Common.{rules, ◌*ℤ◌, ◌≡◌, ◌<◌, ℕ, ℤ, List, length}
-use Rattle.std.proofs.Common.{get_or, set, take, ◌+ℤ◌, ◌-ℤ◌, refl, sym, ◌∙◌, ap, subst, arith, inl}
-use Rattle.std.proofs.Common.{inr}
-use Rattle.std.proofs.lemmas.Bool.{cases_Bool}
-use Rattle.std.proofs.lemmas.Int.{ints, to_z-of_z}
-use Rattle.std.proofs.lemmas.List.{get_or-set_same, get_or-set_other}
-use Rattle.std.specs.Int.{int_wrap}
-use Rattle.std.specs.Int.RustNames.{FitsSigned}
-use Rattle.std.specs.Prelude.{All}
-use Rattle.mu_num.specs.ListedPlaces.{is_listed}
-use Rattle.mu_num.proofs.Writes.{written_more, written_all}
-use Rattle.qss_machine.specs.declared.machine_parts.Entry.{Entry}
-use Rattle.mu_num.specs.IndexedSums.{int_at}
-use Rattle.qss_machine.specs.Legitimate.{start_coefficient}
-use Rattle.qss_machine.specs.Machines.{state_count, level_unit}
-use Rattle.qss_machine.specs.Slopes.{coefficient_of}
-use Rattle.qss_order2.specs.declared.order2_motion.Place.{Place}
-use Rattle.qss_order2.specs.Fixed.{column_at}
-use Rattle.qss_order2.specs.Places.{no_place, place_in, floor_place}
+use Rattle.qss_order2.proofs.Common
+use Common.{ℕ, ℤ, ◌*ℤ◌, ◌+ℤ◌, ◌-ℤ◌, ◌<◌, ◌∙◌, ◌≡◌, All, ap, arith, cases_Bool, coefficient_of}
+use Common.{column_at, Entry, FitsSigned, floor_place, get_or, get_or-set_other, get_or-set_same}
+use Common.{inl, inr, int_at, int_wrap, ints, is_listed, length, level_unit, List, no_place, Place}
+use Common.{place_in, refl, rules, set, start_coefficient, state_count, subst, sym, take, to_z-of_z}
+use Common.{w128, written_all, written_more}
 use Rattle.qss_order2.proofs.ColumnSums.{gain_none, column_gain}
 use Rattle.qss_order2.proofs.FixedFacts.{column_is}
 use Rattle.qss_order2.proofs.order2_motion.take_motion_levels.Goals as goal
-use mir.Syntax.{w128}
 
 pub loop-state-init : goal.loop-state-init
 loop-state-init c = record {

@@ -1,9 +1,7 @@
-use Rattle.std.proofs.Common.{◌≡◌, ◌<◌, ℕ, ℤ, length, take, ◌+ℤ◌}
-use Rattle.std.specs.Int.{int_wrap, w128}
-use Rattle.mu_num.specs.Writes.{IsWritten}
-use Rattle.mu_num.specs.IndexedSums.{int_at}
-use Rattle.qss_machine.specs.Machines.{state_count, level_unit}
-use Rattle.qss_order2.specs.Places.{no_place, place_in, floor_place, level_shift}
+use Rattle.qss_order2.proofs.Common
+use Common.{ℕ, ℤ, ◌+ℤ◌, ◌<◌, ◌≡◌, floor_place, int_at, int_wrap, IsWritten, length, level_shift}
+use Common.{level_unit, no_place, place_in, state_count, take}
+use Rattle.std.specs.Int.{w128}
 use Rattle.qss_order2.proofs.order2_motion.take_motion_levels.Given as goal
 
 -- the places and the shifts of the slopes so far

@@ -1,20 +1,9 @@
 -- At the start the rule may be asked before the limits are looked at.
-use Rattle.std.proofs.Common.{◌≡◌, ℕ, ◌<◌, Bool, true, false, List, length, ℤ, pos}
-use Rattle.std.proofs.Common.{sym, ◌∙◌, ap, subst, arith}
-use Rattle.std.proofs.lemmas.List.{with_items_is}
-use Rattle.std.proofs.lemmas.List.FromFn.{length-map-range_with_len}
-use Rattle.std.specs.Prelude.{All, None}
-use Rattle.std.specs.Vec.{with_items}
-use Rattle.mu_num.specs.Sizes.{IsWithin}
-use Rattle.mu_num.specs.ListedPlaces.{is_listed}
-use Rattle.mu_num.specs.Writes.{IsWritten}
-use Rattle.qss_machine.specs.Machines.{state_count, level_unit}
-use Rattle.mu_num.specs.IndexedSums.{int_at, tabulate}
-use Rattle.qss_order2.specs.Places.{place_in, levels_on}
-use Rattle.qss_order2.specs.SecondRunLaws.{bend_at}
-use Rattle.qss_order2.specs.SecondRunLimits.{past_levels}
-use Rattle.qss_order2.specs.SlopeRules.{IsAnswer, IsRuled2}
-use Rattle.qss_order2.specs.SecondSteps.{rise_at, fine_levels}
+use Rattle.qss_order2.proofs.Common
+use Common.{ℕ, ℤ, ◌<◌, ◌∙◌, ◌≡◌, All, ap, arith, bend_at, Bool, false, fine_levels, int_at}
+use Common.{int_at-tabulate, is_listed, IsAnswer, IsRuled2, IsWithin, IsWritten, length}
+use Common.{length-map-range_with_len, level_unit, levels_on, List, None, past_levels, place_in}
+use Common.{pos, rise_at, state_count, subst, sym, tabulate, true, with_items, with_items_is}
 use Rattle.qss_order2.proofs.Motions.{can_read_slices, levels_of_slices, many_levels, here_level}
 use Rattle.qss_order2.proofs.Motions.{same_levels_on}
 use Rattle.qss_order2.proofs.Settled.{listed_below, rise_bounded, listed_changes}
@@ -22,7 +11,6 @@ use Rattle.qss_order2.proofs.Settlings.{of_changes, past_first, past_then}
 use Rattle.qss_order2.proofs.Sizes.{start_level_small, start_rise_small}
 use Rattle.qss_order2.proofs.Starts.{asked_all, held_first}
 use Rattle.qss_order2.proofs.Tables.{all_of, same_list}
-use Rattle.mu_num.proofs.Tables.{int_at-tabulate}
 use Rattle.qss_order2.proofs.order2_rises.begin_rises.Goals as goal
 
 pub set_rises-requires-clause-reads : goal.set_rises-requires-clause-reads

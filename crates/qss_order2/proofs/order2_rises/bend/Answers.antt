@@ -1,12 +1,8 @@
 -- No row is past its limit.
-use Rattle.std.proofs.Common.{◌<◌, ◌≤◌, ◌^◌, ◌∙◌, sym, subst, unsigned_abs}
-use Rattle.mu_num.proofs.SizeTests.{within-passes}
-use Rattle.mu_num.specs.IndexedSums.{tabulate}
-use Rattle.qss_machine.specs.Machines.{state_count}
-use Rattle.qss_machine.proofs.Ranges.{none_past}
-use Rattle.qss_order2.specs.SecondSteps.{rise_change_weight}
+use Rattle.qss_order2.proofs.Common
+use Common.{◌<◌, ◌^◌, ◌∙◌, ◌≤◌, int_at-tabulate, none_past, rise_change_weight, state_count, subst}
+use Common.{sym, tabulate, unsigned_abs, within-passes}
 use Rattle.qss_order2.proofs.Settled.{listed_below}
-use Rattle.mu_num.proofs.Tables.{int_at-tabulate}
 use Rattle.qss_order2.proofs.order2_rises.bend.Goals as goal
 
 pub set_rise_bends-requires-clause-within : goal.set_rise_bends-requires-clause-within

@@ -1,13 +1,9 @@
 -- The level is one of those at the tick.
-use Rattle.std.proofs.Common.{◌≡◌, ℤ, List, length, pos, ◌*ℤ◌, sym, ◌∙◌, ap, subst, arith}
-use Rattle.std.proofs.lemmas.Int.{ints, to_z-of_z}
-use Rattle.std.specs.Int.RustNames.{FitsSigned}
-use Rattle.mu_num.specs.Sizes.{IsWithin}
-use Rattle.mu_num.specs.IndexedSums.{int_at}
-use Rattle.qss_order2.specs.Places.{levels_on}
+use Rattle.qss_order2.proofs.Common
+use Common.{ℤ, ◌*ℤ◌, ◌∙◌, ◌≡◌, ap, arith, FitsSigned, int_at, ints, IsWithin, length, levels_on}
+use Common.{List, pos, subst, sym, to_z-of_z, w128, w64}
 use Rattle.qss_order2.proofs.Motions.{at_levels, many_levels}
 use Rattle.qss_order2.proofs.order2_rises.entry_rise_term_at.Goals as goal
-use mir.Syntax.{w64, w128}
 
 pub rise_term-requires-clause-level : goal.rise_term-requires-clause-level
 rise_term-requires-clause-level c =

@@ -1,10 +1,6 @@
 -- None of the list, and none of the others.
-use Rattle.std.proofs.Common.{rules, sym, inl, inr}
-use Rattle.std.proofs.lemmas.Bool.{cases_Bool}
-use Rattle.mu_num.specs.Sizes.{exceeds}
-use Rattle.mu_num.specs.ListedPlaces.{is_listed}
-use Rattle.qss_machine.specs.Machines.{state_count}
-use Rattle.qss_order2.specs.SecondSteps.{rise_change_weight}
+use Rattle.qss_order2.proofs.Common
+use Common.{cases_Bool, exceeds, inl, inr, is_listed, rise_change_weight, rules, state_count, sym}
 use Rattle.qss_order2.proofs.Tables.{none_of_table}
 use Rattle.qss_order2.proofs.order2_rises.find_steep_rise.Goals as goal
 

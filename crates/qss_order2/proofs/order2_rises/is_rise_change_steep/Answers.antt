@@ -1,12 +1,8 @@
 -- A sum of sizes is past a limit where one of them is.
-use Rattle.std.proofs.Common.{◌≡◌, ℕ, ◌+◌, ◌^◌, ◌<◌, true, List, length, get_or, take, ℤ, pos, ◌*ℤ◌}
-use Rattle.std.proofs.Common.{◌≤ℤ◌, unsigned_abs, sym, arith}
-use Rattle.std.proofs.lemmas.Int.{ints}
-use Rattle.std.proofs.lemmas.Bool.Decides.{nat_tests}
-use Rattle.mu_num.specs.Sizes.{exceeds}
-use Rattle.qss_machine.specs.declared.machine_parts.Entry.{Entry}
-use Rattle.mu_num.specs.IndexedSums.{int_at, abs_of, sum_over}
-use Rattle.mu_num.proofs.Sums.{sum_over_more}
+use Rattle.qss_order2.proofs.Common
+use Common.{ℕ, ℤ, ◌*ℤ◌, ◌+◌, ◌<◌, ◌^◌, ◌≡◌, ◌≤ℤ◌, abs_of, arith, Entry, exceeds, get_or, int_at}
+use Common.{ints, length, List, nat_tests, pos, sum_over, sum_over_more, sym, take, true}
+use Common.{unsigned_abs}
 use Rattle.qss_order2.proofs.SizeSums.{term_below, size_from_zero}
 use Rattle.qss_order2.proofs.order2_rises.is_rise_change_steep.Goals as goal
 

@@ -1,5 +1,4 @@
-use Rattle.std.proofs.Common.{◌≡◌, ◌*◌, ◌^◌, ◌≤◌, take, pos, ◌*ℤ◌}
-use Rattle.mu_num.specs.IndexedSums.{int_at, abs_of, sum_over}
+use Rattle.qss_order2.proofs.Common.{◌*ℤ◌, ◌*◌, ◌^◌, ◌≡◌, ◌≤◌, abs_of, int_at, pos, sum_over, take}
 use Rattle.qss_order2.proofs.order2_rises.is_rise_change_steep.Given as goal
 
 -- the sum so far, which each entry changes by at most 2 ^ 94

@@ -1,16 +1,11 @@
 -- A row's sum is that of the definitions.
-use Rattle.std.proofs.Common.{◌≡◌, List, ℤ, length, ◌∙◌, sym, subst, arith}
-use Rattle.std.proofs.lemmas.Int.{to_z-of_z}
-use Rattle.std.specs.Int.RustNames.{FitsSigned}
-use Rattle.mu_num.specs.Sizes.{IsWithin}
-use Rattle.qss_machine.specs.Machines.{state_count}
-use Rattle.qss_order2.specs.Fixed.{AreModes}
-use Rattle.qss_order2.specs.Places.{levels_on}
+use Rattle.qss_order2.proofs.Common
+use Common.{ℤ, ◌∙◌, ◌≡◌, AreModes, arith, FitsSigned, IsWithin, length, levels_on, List}
+use Common.{state_count, subst, sym, to_z-of_z, w128}
 use Rattle.qss_order2.proofs.FixedFacts.{wide, in_drives, drive_is, drive_within, row_is}
 use Rattle.qss_order2.proofs.FixedSums.{rise_is}
 use Rattle.qss_order2.proofs.Motions.{many_levels}
 use Rattle.qss_order2.proofs.order2_rises.rise_at.Goals as goal
-use mir.Syntax.{w128}
 
 pub index-requires-2 : goal.index-requires-2
 index-requires-2 c = in_drives c.args.f.now c.args.row c.requires.row

@@ -1,13 +1,9 @@
 -- A row's sum is that of the definitions.
-use Rattle.std.proofs.Common.{◌∙◌, ap, sym, subst}
-use Rattle.std.proofs.lemmas.Int.{to_z-of_z}
-use Rattle.std.specs.Int.RustNames.{FitsSigned}
-use Rattle.mu_num.specs.Sizes.{exceeds}
-use Rattle.qss_order2.specs.Fixed.{AreModes}
+use Rattle.qss_order2.proofs.Common
+use Common.{◌∙◌, ap, AreModes, exceeds, FitsSigned, subst, sym, to_z-of_z, w128}
 use Rattle.qss_order2.proofs.FixedFacts.{row_is}
 use Rattle.qss_order2.proofs.FixedSums.{bend_is, bend_weight_is}
 use Rattle.qss_order2.proofs.order2_rises.rise_bend_at.Goals as goal
-use mir.Syntax.{w128}
 
 pub rise_change_sum-requires-clause-within : goal.rise_change_sum-requires-clause-within
 rise_change_sum-requires-clause-within c =

@@ -1,16 +1,10 @@
 -- Each term is at most the sum of sizes.
-use Rattle.std.proofs.Common.{◌^◌, pos, ◌*ℤ◌, arith, sym, ◌∙◌}
-use Rattle.std.proofs.lemmas.Int.{ints}
-use Rattle.mu_num.specs.Sizes.{IsWithin}
+use Rattle.qss_order2.proofs.Common
+use Common.{◌*ℤ◌, ◌^◌, ◌∙◌, abs_of, arith, Entry, int_at, ints, IsWithin, pos, sum_done, sum_over}
+use Common.{sum_step, sym, to_z, w128, weighted_sum-is}
 use Rattle.mu_num.proofs.SizeTests.{passes-within}
-use Rattle.qss_machine.specs.declared.machine_parts.Entry.{Entry}
-use Rattle.mu_num.specs.IndexedSums.{int_at, abs_of, sum_over}
-use Rattle.qss_machine.proofs.Loops.{sum_step, sum_done}
-use Rattle.qss_machine.proofs.SumLaws.{weighted_sum-is}
 use Rattle.qss_order2.proofs.SizeSums.{term_below, size_from_zero}
 use Rattle.qss_order2.proofs.order2_rises.rise_change_sum.Goals as goal
-use mir.Syntax.{w128}
-use mir.Val.{to_z}
 
 pub rise_change_term-sum-requires-clause-within : goal.rise_change_term-sum-requires-clause-within
 rise_change_term-sum-requires-clause-within c =

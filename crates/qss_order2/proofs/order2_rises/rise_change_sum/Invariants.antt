@@ -1,5 +1,4 @@
-use Rattle.std.proofs.Common.{◌≡◌, ◌*◌, ◌^◌, ◌≤◌, take, unsigned_abs, ◌*ℤ◌}
-use Rattle.mu_num.specs.IndexedSums.{int_at, sum_over}
+use Rattle.qss_order2.proofs.Common.{◌*ℤ◌, ◌*◌, ◌^◌, ◌≡◌, ◌≤◌, int_at, sum_over, take, unsigned_abs}
 use Rattle.qss_order2.proofs.order2_rises.rise_change_sum.Given as goal
 
 -- the sum so far, which each entry changes by at most 2 ^ 94

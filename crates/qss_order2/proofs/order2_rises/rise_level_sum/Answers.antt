@@ -1,14 +1,9 @@
 -- The sum grows by one term a turn.
-use Rattle.std.proofs.Common.{◌^◌, pos, ◌*ℤ◌, length, arith, sym, ◌∙◌}
-use Rattle.qss_machine.specs.declared.machine_parts.Entry.{Entry}
-use Rattle.mu_num.specs.IndexedSums.{int_at}
-use Rattle.qss_machine.proofs.Loops.{sum_step, sum_done}
-use Rattle.qss_machine.proofs.SumLaws.{weighted_sum-is}
-use Rattle.qss_order2.specs.Places.{levels_on}
+use Rattle.qss_order2.proofs.Common
+use Common.{◌*ℤ◌, ◌^◌, ◌∙◌, arith, Entry, int_at, length, levels_on, pos, sum_done, sum_step, sym}
+use Common.{to_z, w128, weighted_sum-is}
 use Rattle.qss_order2.proofs.Motions.{many_levels}
 use Rattle.qss_order2.proofs.order2_rises.rise_level_sum.Goals as goal
-use mir.Syntax.{w128}
-use mir.Val.{to_z}
 
 pub loop-entry-preserved : goal.loop-entry-preserved
 loop-entry-preserved c =

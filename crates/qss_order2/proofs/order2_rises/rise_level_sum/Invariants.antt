@@ -1,6 +1,5 @@
-use Rattle.std.proofs.Common.{◌≡◌, ◌*◌, ◌^◌, ◌≤◌, length, take, unsigned_abs, ◌*ℤ◌}
-use Rattle.mu_num.specs.IndexedSums.{int_at, sum_over}
-use Rattle.qss_order2.specs.Places.{levels_on}
+use Rattle.qss_order2.proofs.Common
+use Common.{◌*ℤ◌, ◌*◌, ◌^◌, ◌≡◌, ◌≤◌, int_at, length, levels_on, sum_over, take, unsigned_abs}
 use Rattle.qss_order2.proofs.order2_rises.rise_level_sum.Given as goal
 
 -- the sum so far, which each entry changes by at most 2 ^ 94

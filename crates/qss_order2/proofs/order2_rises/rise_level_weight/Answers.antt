@@ -1,11 +1,7 @@
 -- The sum grows by one size per iteration.
-use Rattle.std.proofs.Common.{◌^◌, pos, ◌*ℤ◌, arith}
-use Rattle.qss_machine.specs.declared.machine_parts.Entry.{Entry}
-use Rattle.mu_num.specs.IndexedSums.{int_at, abs_of}
-use Rattle.qss_machine.proofs.Loops.{sum_step, sum_done}
+use Rattle.qss_order2.proofs.Common
+use Common.{◌*ℤ◌, ◌^◌, abs_of, arith, Entry, int_at, pos, sum_done, sum_step, to_z, w128}
 use Rattle.qss_order2.proofs.order2_rises.rise_level_weight.Goals as goal
-use mir.Syntax.{w128}
-use mir.Val.{to_z}
 
 pub loop-entry-preserved : goal.loop-entry-preserved
 loop-entry-preserved c =

@@ -1,5 +1,5 @@
-use Rattle.std.proofs.Common.{◌≡◌, ◌*◌, ◌^◌, ◌≤◌, take, unsigned_abs, ◌*ℤ◌}
-use Rattle.mu_num.specs.IndexedSums.{int_at, abs_of, sum_over}
+use Rattle.qss_order2.proofs.Common
+use Common.{◌*ℤ◌, ◌*◌, ◌^◌, ◌≡◌, ◌≤◌, abs_of, int_at, sum_over, take, unsigned_abs}
 use Rattle.qss_order2.proofs.order2_rises.rise_level_weight.Given as goal
 
 -- the sum so far, which each entry changes by at most 2 ^ 94

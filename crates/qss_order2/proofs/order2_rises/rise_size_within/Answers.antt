@@ -1,10 +1,8 @@
 -- A product is past a limit where one factor is past the limit's quotient by the other.
-use Rattle.std.proofs.Common.{◌≡◌, ℕ, ◌+◌, ◌*◌, ◌/◌, ◌^◌, ◌<◌, ◌≤◌, ℤ, ◌*ℤ◌, true, unsigned_abs}
-use Rattle.std.proofs.Common.{◌∙◌, arith}
-use Rattle.std.proofs.Math.Nat.{mul-le-mul_left}
-use Rattle.std.proofs.lemmas.Int.{unsigned_abs-mul, to_z-of_z}
-use Rattle.std.proofs.lemmas.Bool.Decides.{nat_tests}
-use Rattle.mu_num.specs.Sizes.{exceeds}
+use Rattle.qss_order2.proofs.Common
+use Common.{ℕ, ℤ, ◌*ℤ◌, ◌*◌, ◌+◌, ◌<◌, ◌^◌, ◌∙◌, ◌≡◌, ◌≤◌, arith, exceeds, mul-le-mul_left}
+use Common.{nat_tests, to_z-of_z, true, unsigned_abs, unsigned_abs-mul}
+use Rattle.std.proofs.Common.{◌/◌}
 use Rattle.qss_order2.proofs.order2_rises.rise_size_within.Goals as goal
 
 past_product : (limit f v : ℕ) → 0 < f → limit / f < v → limit < f * v

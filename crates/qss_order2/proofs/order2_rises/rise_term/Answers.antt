@@ -1,9 +1,6 @@
-use Rattle.std.proofs.Common.{◌≡◌, ◌^◌, ◌∙◌, ◌*ℤ◌, ap, arith}
-use Rattle.std.proofs.lemmas.Int.{to_z-of_z}
-use Rattle.std.specs.Int.RustNames.{FitsSigned}
-use Rattle.qss_machine.proofs.Loops.{product_is, product_bound}
+use Rattle.qss_order2.proofs.Common
+use Common.{◌*ℤ◌, ◌^◌, ◌∙◌, ◌≡◌, ap, arith, FitsSigned, product_bound, product_is, to_z-of_z, w128}
 use Rattle.qss_order2.proofs.order2_rises.rise_term.Goals as goal
-use mir.Syntax.{w128}
 
 pub returns-clause-value : goal.returns-clause-value
 returns-clause-value c =

@@ -1,12 +1,8 @@
 -- One more bend.
-use Rattle.std.proofs.Common.{◌≡◌, ◌<◌, pos, length, get_or, ◌∙◌}
-use Rattle.std.proofs.Common.{arith}
-use Rattle.std.proofs.lemmas.Int.{to_z-of_z}
-use Rattle.std.specs.Int.RustNames.{FitsSigned}
-use Rattle.mu_num.proofs.Writes.{written_more, written_all, among_at}
-use Rattle.qss_order2.specs.SecondRunLaws.{bend_at}
+use Rattle.qss_order2.proofs.Common
+use Common.{◌<◌, ◌∙◌, ◌≡◌, among_at, arith, bend_at, FitsSigned, get_or, length, pos, to_z-of_z}
+use Common.{w128, written_all, written_more}
 use Rattle.qss_order2.proofs.order2_rises.set_rise_bends.Goals as goal
-use mir.Syntax.{w128}
 
 pub rise_bend_at-requires-clause-within : goal.rise_bend_at-requires-clause-within
 rise_bend_at-requires-clause-within c = c.requires.within

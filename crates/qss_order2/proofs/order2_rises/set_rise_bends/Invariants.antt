@@ -1,6 +1,4 @@
-use Rattle.std.proofs.Common.{◌≡◌, take, pos}
-use Rattle.mu_num.specs.Writes.{IsWritten}
-use Rattle.qss_order2.specs.SecondRunLaws.{bend_at}
+use Rattle.qss_order2.proofs.Common.{◌≡◌, bend_at, IsWritten, pos, take}
 use Rattle.qss_order2.proofs.order2_rises.set_rise_bends.Given as goal
 
 -- the bends so far

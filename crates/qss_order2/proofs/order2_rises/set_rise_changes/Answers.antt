@@ -1,17 +1,10 @@
 -- One more change.
-use Rattle.std.proofs.Common.{◌<◌, ℕ, pos, length, get_or, sym, subst}
-use Rattle.std.proofs.Common.{arith}
-use Rattle.std.proofs.lemmas.Int.{to_z-of_z}
-use Rattle.std.specs.Int.RustNames.{FitsSigned}
-use Rattle.mu_num.specs.Sizes.{IsWithin, IsPositiveWithin}
-use Rattle.mu_num.proofs.Writes.{written_more, written_all, among_at}
-use Rattle.mu_num.specs.IndexedSums.{int_at}
-use Rattle.qss_machine.specs.Machines.{level_unit}
-use Rattle.qss_order2.specs.SlopeRules.{IsAsked, IsAnswer}
+use Rattle.qss_order2.proofs.Common
+use Common.{ℕ, ◌<◌, among_at, arith, FitsSigned, get_or, int_at, IsAnswer, IsAsked}
+use Common.{IsPositiveWithin, IsWithin, length, level_unit, pos, subst, sym, to_z-of_z, unit_fits}
+use Common.{w128, written_all, written_more}
 use Rattle.qss_order2.proofs.FixedFacts.{wide}
-use Rattle.qss_machine.proofs.Near.{unit_fits}
 use Rattle.qss_order2.proofs.order2_rises.set_rise_changes.Goals as goal
-use mir.Syntax.{w128}
 
 pub change-requires : goal.change-requires
 change-requires g c =

@@ -1,8 +1,4 @@
-use Rattle.std.proofs.Common.{take, pos}
-use Rattle.mu_num.specs.Writes.{IsWritten}
-use Rattle.mu_num.specs.IndexedSums.{int_at}
-use Rattle.qss_machine.specs.Machines.{level_unit}
-use Rattle.qss_order2.specs.SlopeRules.{IsAnswer}
+use Rattle.qss_order2.proofs.Common.{int_at, IsAnswer, IsWritten, level_unit, pos, take}
 use Rattle.qss_order2.proofs.order2_rises.set_rise_changes.Given as goal
 
 -- the changes so far

@@ -1,13 +1,8 @@
 -- One more rise.
-use Rattle.std.proofs.Common.{◌≡◌, ◌<◌, pos, length, get_or, ◌∙◌}
-use Rattle.std.proofs.Common.{arith}
-use Rattle.std.proofs.lemmas.Int.{to_z-of_z}
-use Rattle.std.specs.Int.RustNames.{FitsSigned}
-use Rattle.mu_num.proofs.Writes.{written_more, written_all}
-use Rattle.qss_order2.specs.Places.{levels_on}
-use Rattle.qss_order2.specs.SecondSteps.{rise_at}
+use Rattle.qss_order2.proofs.Common
+use Common.{◌<◌, ◌∙◌, ◌≡◌, arith, FitsSigned, get_or, length, levels_on, pos, rise_at, to_z-of_z}
+use Common.{w128, written_all, written_more}
 use Rattle.qss_order2.proofs.order2_rises.set_rises.Goals as goal
-use mir.Syntax.{w128}
 
 pub loop-state-preserved : goal.loop-state-preserved
 loop-state-preserved c =

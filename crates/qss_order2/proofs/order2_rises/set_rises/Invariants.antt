@@ -1,7 +1,4 @@
-use Rattle.std.proofs.Common.{◌≡◌, take, length, pos}
-use Rattle.mu_num.specs.Writes.{IsWritten}
-use Rattle.qss_order2.specs.Places.{levels_on}
-use Rattle.qss_order2.specs.SecondSteps.{rise_at}
+use Rattle.qss_order2.proofs.Common.{◌≡◌, IsWritten, length, levels_on, pos, rise_at, take}
 use Rattle.qss_order2.proofs.order2_rises.set_rises.Given as goal
 
 -- the rises so far

@@ -1,19 +1,10 @@
 -- The rule applies to the slopes at the new levels.
-use Rattle.std.proofs.Common.{◌≡◌, ℕ, ◌<◌, true, List, ℤ, pos, ◌+ℤ◌, refl, sym}
-use Rattle.std.proofs.Common.{◌∙◌, ap, subst, arith}
-use Rattle.std.proofs.lemmas.List.{with_items_is}
-use Rattle.std.specs.Int.{int_wrap, w128}
-use Rattle.std.specs.Vec.{with_items}
-use Rattle.mu_num.specs.Sizes.{IsWithin}
-use Rattle.mu_num.specs.ListedPlaces.{is_listed}
-use Rattle.mu_num.specs.Writes.{IsWritten}
-use Rattle.qss_machine.specs.Legitimate.{start_coefficient}
-use Rattle.qss_machine.specs.Machines.{state_count, level_unit}
-use Rattle.mu_num.specs.IndexedSums.{int_at}
-use Rattle.qss_order2.specs.Places.{levels_on, change_shift}
-use Rattle.qss_order2.specs.SecondRunLaws.{bend_at}
-use Rattle.qss_order2.specs.SlopeRules.{IsAnswer, IsRuled2}
-use Rattle.qss_order2.specs.SecondSteps.{rise_at, AreChanges}
+use Rattle.qss_order2.proofs.Common
+use Common.{ℕ, ℤ, ◌+ℤ◌, ◌<◌, ◌∙◌, ◌≡◌, ap, AreChanges, arith, bend_at, change_shift, int_at}
+use Common.{int_wrap, is_listed, IsAnswer, IsRuled2, IsWithin, IsWritten, level_unit, levels_on}
+use Common.{List, pos, refl, rise_at, start_coefficient, state_count, subst, sym, true, with_items}
+use Common.{with_items_is}
+use Rattle.std.specs.Int.{w128}
 use Rattle.qss_order2.proofs.ColumnSums.{gain_is}
 use Rattle.qss_order2.proofs.Settled.{listed_below, rise_bounded, listed_changes}
 use Rattle.qss_order2.proofs.Settlings.{held_after}

@@ -1,26 +1,13 @@
 -- One more level slope, and the shifts that it causes.
-use Rattle.std.proofs.Common.{rules, ◌*ℤ◌, All, ◌≡◌, ◌<◌, ℕ, ℤ, pos, List}
-use Rattle.std.proofs.Common.{length, get_or, set, ◌+ℤ◌, ◌-ℤ◌, refl, sym, ◌∙◌, ap, subst}
-use Rattle.std.proofs.Common.{arith}
-use Rattle.std.proofs.lemmas.Int.{ints, to_z-of_z}
-use Rattle.std.proofs.lemmas.List.{get_or-set_same, get_or-set_other}
-use Rattle.std.specs.Int.{int_wrap}
-use Rattle.std.specs.Int.RustNames.{FitsSigned}
-use Rattle.mu_num.specs.Sizes.{IsWithin, IsPositiveWithin}
-use Rattle.mu_num.proofs.Writes.{written_more, written_all, among_at}
-use Rattle.mu_num.specs.IndexedSums.{int_at}
-use Rattle.qss_machine.specs.Legitimate.{start_coefficient}
-use Rattle.qss_machine.specs.Machines.{state_count, level_unit}
-use Rattle.qss_machine.specs.declared.machine_parts.Entry.{Entry}
-use Rattle.qss_machine.specs.Slopes.{coefficient_of}
-use Rattle.qss_order2.specs.Fixed.{column_at}
-use Rattle.qss_order2.specs.SlopeRules.{IsAsked, IsAnswer}
+use Rattle.qss_order2.proofs.Common
+use Common.{ℕ, ℤ, ◌*ℤ◌, ◌+ℤ◌, ◌-ℤ◌, ◌<◌, ◌∙◌, ◌≡◌, All, among_at, ap, arith, coefficient_of}
+use Common.{column_at, Entry, FitsSigned, get_or, get_or-set_other, get_or-set_same, int_at}
+use Common.{int_wrap, ints, IsAnswer, IsAsked, IsPositiveWithin, IsWithin, length, level_unit, List}
+use Common.{of_z, pos, refl, rules, set, start_coefficient, state_count, subst, sym, to_z}
+use Common.{to_z-of_z, unit_fits, w128, written_all, written_more}
 use Rattle.qss_order2.proofs.ColumnSums.{gain_none, column_gain}
 use Rattle.qss_order2.proofs.FixedFacts.{wide, column_is}
-use Rattle.qss_machine.proofs.Near.{unit_fits}
 use Rattle.qss_order2.proofs.order2_rises.update_rise_changes.Goals as goal
-use mir.Syntax.{w128}
-use mir.Val.{to_z, of_z}
 
 pub loop-state-init : goal.loop-state-init
 loop-state-init g c = record {

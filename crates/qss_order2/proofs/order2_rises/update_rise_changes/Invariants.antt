@@ -1,10 +1,7 @@
-use Rattle.std.proofs.Common.{◌≡◌, ◌<◌, ℕ, ℤ, ◌+ℤ◌, length, take, pos}
-use Rattle.std.specs.Int.{int_wrap, w128}
-use Rattle.mu_num.specs.Writes.{IsWritten}
-use Rattle.mu_num.specs.IndexedSums.{int_at}
-use Rattle.qss_machine.specs.Machines.{state_count, level_unit}
-use Rattle.qss_order2.specs.Places.{change_shift}
-use Rattle.qss_order2.specs.SlopeRules.{IsAnswer}
+use Rattle.qss_order2.proofs.Common
+use Common.{ℕ, ℤ, ◌+ℤ◌, ◌<◌, ◌≡◌, change_shift, int_at, int_wrap, IsAnswer, IsWritten, length}
+use Common.{level_unit, pos, state_count, take}
+use Rattle.std.specs.Int.{w128}
 use Rattle.qss_order2.proofs.order2_rises.update_rise_changes.Given as goal
 
 -- the level slopes and the shifts of the second differences so far

@@ -1,15 +1,10 @@
 -- One more row.
-use Rattle.std.proofs.Common.{◌≡◌, ◌+◌, ◌<◌, List, length, ℤ, ℕ, pos, sym, ◌∙◌, ap, subst, arith}
-use Rattle.std.proofs.lemmas.Int.{ints, to_z-of_z}
-use Rattle.std.specs.Int.RustNames.{FitsSigned}
-use Rattle.mu_num.specs.Sizes.{IsWithin}
-use Rattle.qss_machine.specs.Machines.{state_count, start_discretes}
-use Rattle.mu_num.specs.IndexedSums.{int_at}
-use Rattle.qss_order2.specs.declared.order2_rows.Row2.{Row2}
-use Rattle.qss_machine.proofs.StartValues.{discretes_start}
+use Rattle.qss_order2.proofs.Common
+use Common.{ℕ, ℤ, ◌+◌, ◌<◌, ◌∙◌, ◌≡◌, ap, arith, discretes_start, FitsSigned, int_at, ints}
+use Common.{IsWithin, length, List, pos, Row2, start_discretes, state_count, subst, sym, to_z-of_z}
+use Common.{w128, w64}
 use Rattle.qss_order2.proofs.RowLists.{row_more}
 use Rattle.qss_order2.proofs.order2_rows.add_discretes.Goals as goal
-use mir.Syntax.{w64, w128}
 
 pub loop-g-preserved : goal.loop-g-preserved
 loop-g-preserved c =

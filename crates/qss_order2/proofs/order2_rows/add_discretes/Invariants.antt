@@ -1,7 +1,6 @@
-use Rattle.std.proofs.Common.{◌≡◌, ◌+◌, ◌++◌, pos}
-use Rattle.std.specs.Prelude.{vec_len, vec_capacity}
-use Rattle.qss_machine.specs.Machines.{state_count, start_discretes}
-use Rattle.mu_num.specs.IndexedSums.{int_at, tabulate}
+use Rattle.qss_order2.proofs.Common
+use Common.{◌++◌, ◌+◌, ◌≡◌, int_at, pos, start_discretes, state_count, tabulate, vec_capacity}
+use Common.{vec_len}
 use Rattle.qss_order2.proofs.order2_rows.add_discretes.Given as goal
 
 -- the rows so far

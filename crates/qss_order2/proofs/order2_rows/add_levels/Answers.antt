@@ -1,11 +1,7 @@
 -- One more row.
-use Rattle.std.proofs.Common.{ℕ, ◌∙◌, ap, arith}
-use Rattle.mu_num.specs.IndexedSums.{int_at}
-use Rattle.qss_order2.specs.declared.order2_motion.Place.{Place}
-use Rattle.qss_order2.specs.declared.order2_rows.Row2.{Row2}
-use Rattle.qss_order2.specs.declared.order2_rows.Kind2.TheVariants as kind
-use Rattle.qss_order2.specs.Places.{place_in, place_at}
+use Rattle.qss_order2.proofs.Common.{ℕ, ◌∙◌, ap, arith, int_at, Place, place_at, place_in, Row2}
 use Rattle.qss_order2.proofs.RowLists.{row_more}
+use Rattle.qss_order2.specs.declared.order2_rows.Kind2.TheVariants as kind
 use Rattle.qss_order2.proofs.order2_rows.add_levels.Goals as goal
 
 pub loop-j-preserved : goal.loop-j-preserved

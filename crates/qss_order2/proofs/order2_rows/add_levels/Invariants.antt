@@ -1,8 +1,6 @@
-use Rattle.std.proofs.Common.{◌≡◌, ◌+◌, ◌++◌}
-use Rattle.std.specs.Prelude.{vec_len, vec_capacity}
-use Rattle.mu_num.specs.IndexedSums.{int_at, tabulate}
+use Rattle.qss_order2.proofs.Common
+use Common.{◌++◌, ◌+◌, ◌≡◌, int_at, place_at, place_in, tabulate, vec_capacity, vec_len}
 use Rattle.qss_order2.specs.declared.order2_rows.Kind2.TheVariants as kind
-use Rattle.qss_order2.specs.Places.{place_in, place_at}
 use Rattle.qss_order2.proofs.order2_rows.add_levels.Given as goal
 
 -- the rows so far

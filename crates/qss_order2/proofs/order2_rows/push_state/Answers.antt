@@ -1,7 +1,6 @@
 -- Two rows more.
-use Rattle.std.proofs.Common.{◌≡◌, List, [], ◌∷◌, ◌++◌, pos, ◌∙◌, ap, append_assoc}
-use Rattle.std.proofs.lemmas.Int.{to_z-of_z}
-use Rattle.qss_order2.specs.declared.order2_rows.Row2.{Row2}
+use Rattle.qss_order2.proofs.Common
+use Common.{[], ◌++◌, ◌∙◌, ◌∷◌, ◌≡◌, ap, append_assoc, List, pos, Row2, to_z-of_z}
 use Rattle.qss_order2.specs.declared.order2_rows.Kind2.TheVariants as kind
 use Rattle.qss_order2.proofs.order2_rows.push_state.Goals as goal
 

@@ -1,15 +1,10 @@
 -- Rows at the places of the end.
-use Rattle.std.proofs.Common.{◌≡◌, ℕ, ℤ, List, ◌++◌, length, sym, ◌∙◌, ap}
-use Rattle.mu_num.specs.IndexedSums.{int_at, tabulate}
-use Rattle.qss_machine.specs.Machines.{state_count}
-use Rattle.qss_order2.specs.declared.order2_motion.Place.{Place}
-use Rattle.qss_order2.specs.declared.order2_rows.Row2.{Row2}
-use Rattle.qss_order2.specs.declared.order2_rows.Kind2.TheVariants as kind
-use Rattle.qss_order2.specs.SecondRuns.{level_row, discrete_rows2}
-use Rattle.qss_order2.specs.Places.{place_in, place_at}
-use Rattle.qss_order2.specs.Stores.{motion_at, snapshot_of, place_there}
+use Rattle.qss_order2.proofs.Common
+use Common.{ℕ, ℤ, ◌++◌, ◌∙◌, ◌≡◌, ap, discrete_rows2, int_at, length, level_row, List, motion_at}
+use Common.{Place, place_at, place_in, place_there, Row2, snapshot_of, state_count, sym, tabulate}
 use Rattle.qss_order2.proofs.Motions.{can_move_slices, place_slices, at_states, at_levels}
 use Rattle.mu_num.proofs.Tables.{tabulate-same}
+use Rattle.qss_order2.specs.declared.order2_rows.Kind2.TheVariants as kind
 use Rattle.qss_order2.proofs.order2_rows.set_end_rows.Goals as goal
 
 pub add_levels-requires-clause-moves : goal.add_levels-requires-clause-moves

@@ -1,18 +1,10 @@
 -- The rows of one more state.
-use Rattle.std.proofs.Common.{◌≡◌, ℕ, List, ◌++◌, length, get_or, ◌∙◌, sym}
-use Rattle.std.proofs.Common.{ap, arith}
-use Rattle.std.proofs.lemmas.Int.{ints, to_z-of_z}
-use Rattle.std.proofs.lemmas.List.{take_all}
-use Rattle.std.specs.Int.RustNames.{FitsSigned}
+use Rattle.qss_order2.proofs.Common
+use Common.{ℕ, ◌++◌, ◌∙◌, ◌≡◌, ap, arith, FitsSigned, get_or, int_at, ints, length, List, Place}
+use Common.{place_in, place_rows, Row2, sym, take_all, to_z-of_z, w128}
 use Rattle.std.specs.Prelude.{flat_map}
 use Rattle.mu_num.proofs.RisingNumbers.{due_rows_more, few_numbers}
-use Rattle.mu_num.specs.IndexedSums.{int_at}
-use Rattle.qss_order2.specs.declared.order2_motion.Place.{Place}
-use Rattle.qss_order2.specs.declared.order2_rows.Row2.{Row2}
-use Rattle.qss_order2.specs.Places.{place_in}
-use Rattle.qss_order2.specs.Stores.{place_rows}
 use Rattle.qss_order2.proofs.order2_rows.set_left_rows.Goals as goal
-use mir.Syntax.{w128}
 
 pub push_state-requires-clause-count_limit : goal.push_state-requires-clause-count_limit
 push_state-requires-clause-count_limit c = omega (

@@ -1,6 +1,5 @@
-use Rattle.std.proofs.Common.{◌≡◌, ◌+◌, ◌≤◌, take}
-use Rattle.std.specs.Prelude.{flat_map, vec_len, vec_capacity}
-use Rattle.qss_order2.specs.Stores.{place_rows}
+use Rattle.qss_order2.proofs.Common.{◌+◌, ◌≡◌, ◌≤◌, place_rows, take, vec_capacity, vec_len}
+use Rattle.std.specs.Prelude.{flat_map}
 use Rattle.qss_order2.proofs.order2_rows.set_left_rows.Given as goal
 
 -- the rows so far

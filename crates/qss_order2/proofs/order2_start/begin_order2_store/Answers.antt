@@ -1,20 +1,11 @@
 -- The start of a run.
-use Rattle.std.proofs.Common.{◌≡◌, ◌<◌, ℕ, Bool, true, false, List, [], ◌++◌, length, ℤ}
-use Rattle.std.proofs.Common.{refl, sym, ◌∙◌, ap, subst, arith, Vec, Global}
-use Rattle.std.specs.List.{range_with_len}
-use Rattle.std.specs.Prelude.{All, None, flat_map}
-use Rattle.mu_num.specs.ListedPlaces.{is_listed, AreRisingBelow}
-use Rattle.mu_num.specs.IndexedSums.{int_at, tabulate}
-use Rattle.qss_machine.specs.Machines.{state_count}
-use Rattle.qss_order2.specs.declared.order2_motion.Motion.{Motion}
-use Rattle.qss_order2.specs.declared.order2_motion.Place.{Place}
-use Rattle.qss_order2.specs.declared.order2_rows.Row2.{Row2}
-use Rattle.qss_order2.specs.declared.order2_rows.Kind2.TheVariants as kind
-use Rattle.qss_order2.specs.SlopeRules.{IsRuled2}
-use Rattle.qss_order2.specs.SecondRuns.{discrete_rows2}
-use Rattle.qss_order2.specs.SecondSteps.{SecondSnapshot, rise_at}
-use Rattle.qss_order2.specs.SecondSteps.{first_exceeding_limit, AreChanges}
-use Rattle.qss_order2.specs.Stores.{motion_at, snapshot_of, start_place, place_rows, Moves}
+use Rattle.qss_order2.proofs.Common
+use Common.{[], ℕ, ℤ, ◌++◌, ◌<◌, ◌∙◌, ◌≡◌, All, ap, AreChanges, AreRisingBelow, arith, Bool}
+use Common.{discrete_rows2, false, first_exceeding_limit, Global, int_at, is_listed, IsRuled2}
+use Common.{length, List, Motion, motion_at, Moves, None, Place, place_rows, range_with_len, refl}
+use Common.{rise_at, Row2, SecondSnapshot, snapshot_of, start_place, state_count, subst, sym}
+use Common.{tabulate, true, Vec}
+use Rattle.std.specs.Prelude.{flat_map}
 use Rattle.qss_order2.proofs.Motions.{sized_at, small_here, small_rise_here, on_the_way}
 use Rattle.qss_order2.proofs.RowLists.{listed_rows}
 use Rattle.qss_order2.proofs.Settled.{listed_below}
@@ -22,6 +13,7 @@ use Rattle.qss_order2.proofs.Starts.{start_near, start_since, start_states_are, 
 use Rattle.qss_order2.proofs.Starts.{start_rises_are, start_place_is, all_listed, all_rising}
 use Rattle.qss_order2.proofs.Starts.{rows_of_all}
 use Rattle.mu_num.proofs.InPlace.{same_length}
+use Rattle.qss_order2.specs.declared.order2_rows.Kind2.TheVariants as kind
 use Rattle.qss_order2.proofs.order2_start.begin_order2_store.Goals as goal
 
 pub begin_rises-s-requires-clause-all : goal.begin_rises-s-requires-clause-all

@@ -1,8 +1,6 @@
 -- All lists have the machine's lengths.
-use Rattle.std.proofs.Common.{refl, length, ◌∙◌, ap, arith}
-use Rattle.std.proofs.lemmas.List.{length-replicate}
-use Rattle.std.specs.List.{range_with_len}
-use Rattle.qss_sched.specs.PlaceSets.{PlaceList}
+use Rattle.qss_order2.proofs.Common
+use Common.{◌∙◌, ap, arith, length, length-replicate, PlaceList, range_with_len, refl}
 use Rattle.qss_order2.proofs.order2_start.blank_order2_store.Goals as goal
 
 pub returns : goal.returns

@@ -1,16 +1,10 @@
 -- One more level.
-use Rattle.std.proofs.Common.{◌≡◌, map, ℤ, pos, ◌<ℤ◌, unsigned_abs, ◌∙◌, ap, arith}
-use Rattle.std.proofs.lemmas.Int.{ints, to_z-of_z}
-use Rattle.std.proofs.lemmas.List.{take_all}
-use Rattle.std.specs.Int.RustNames.{FitsSigned}
-use Rattle.mu_num.specs.Rounding.{floor_of}
-use Rattle.qss_machine.specs.Machines.{level_unit}
-use Rattle.mu_num.specs.IndexedSums.{int_at}
+use Rattle.qss_order2.proofs.Common
+use Common.{ℤ, ◌<ℤ◌, ◌∙◌, ◌≡◌, ap, arith, FitsSigned, floor_of, int_at, ints, level_unit, map, pos}
+use Common.{take_all, to_z-of_z, unit_fits, unsigned_abs, w128}
 use Rattle.qss_order2.proofs.FixedFacts.{wide}
-use Rattle.qss_machine.proofs.Near.{unit_fits}
 use Rattle.qss_order2.proofs.Tables.{map_more}
 use Rattle.qss_order2.proofs.order2_start.start_order2_levels.Goals as goal
-use mir.Syntax.{w128}
 
 pub loop-j-preserved : goal.loop-j-preserved
 loop-j-preserved c =

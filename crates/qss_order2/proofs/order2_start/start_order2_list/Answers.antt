@@ -1,5 +1,5 @@
 -- One more number.
-use Rattle.std.proofs.Common.{◌++◌, ◌∷◌, [], sym, ◌∙◌, ap, arith}
+use Rattle.qss_order2.proofs.Common.{[], ◌++◌, ◌∙◌, ◌∷◌, ap, arith, sym}
 use Rattle.qss_order2.proofs.RowLists.{range_more}
 use Rattle.qss_order2.proofs.order2_start.start_order2_list.Goals as goal
 

@@ -1,6 +1,4 @@
-use Rattle.std.proofs.Common.{◌≡◌, ◌≤◌}
-use Rattle.std.specs.List.{range_with_len}
-use Rattle.std.specs.Prelude.{vec_len, vec_capacity}
+use Rattle.qss_order2.proofs.Common.{◌≡◌, ◌≤◌, range_with_len, vec_capacity, vec_len}
 use Rattle.qss_order2.proofs.order2_start.start_order2_list.Given as goal
 
 -- the numbers so far

@@ -1,13 +1,8 @@
 -- A place and numbers for each state.
-use Rattle.std.proofs.Common.{◌≡◌, ℕ, ℤ, List, length, pos, replicate, ◌∙◌, sym, ap, arith}
-use Rattle.std.proofs.lemmas.List.{length-map, length-replicate}
-use Rattle.std.proofs.lemmas.List.FromFn.{length-map-range_with_len}
-use Rattle.mu_num.specs.Rounding.{floor_of}
-use Rattle.mu_num.specs.IndexedSums.{int_at, tabulate}
-use Rattle.qss_machine.specs.Machines.{state_count, level_unit}
-use Rattle.qss_order2.specs.declared.order2_motion.Place.{Place}
-use Rattle.qss_order2.specs.SecondSteps.{fine_states}
-use Rattle.qss_order2.specs.Stores.{start_place}
+use Rattle.qss_order2.proofs.Common
+use Common.{ℕ, ℤ, ◌∙◌, ◌≡◌, ap, arith, fine_states, floor_of, int_at, length, length-map}
+use Common.{length-map-range_with_len, length-replicate, level_unit, List, Place, pos, replicate}
+use Common.{start_place, state_count, sym, tabulate}
 use Rattle.qss_order2.proofs.Starts.{fine_count}
 use Rattle.qss_order2.proofs.order2_start.start_order2_motion.Goals as goal
 

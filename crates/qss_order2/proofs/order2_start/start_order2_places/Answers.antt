@@ -1,12 +1,9 @@
 -- One more place.
-use Rattle.std.proofs.Common.{◌≡◌, ℤ, ℕ, length, ◌∙◌, ap, arith, to_z, of_z}
-use Rattle.std.proofs.lemmas.Int.{ints, to_z-of_z}
-use Rattle.std.specs.Int.RustNames.{FitsSigned}
-use Rattle.mu_num.specs.IndexedSums.{int_at, tabulate}
-use Rattle.qss_order2.specs.declared.order2_motion.Place.{Place}
+use Rattle.qss_order2.proofs.Common
+use Common.{ℕ, ℤ, ◌∙◌, ◌≡◌, ap, arith, FitsSigned, int_at, ints, length, of_z, Place, tabulate}
+use Common.{to_z, to_z-of_z, w128}
 use Rattle.qss_order2.proofs.Tables.{table_more}
 use Rattle.qss_order2.proofs.order2_start.start_order2_places.Goals as goal
-use mir.Syntax.{w128}
 
 pub loop-j-preserved : goal.loop-j-preserved
 loop-j-preserved c =

@@ -1,6 +1,4 @@
-use Rattle.std.proofs.Common.{◌≡◌, ◌≤◌, length}
-use Rattle.std.specs.Prelude.{vec_len, vec_capacity}
-use Rattle.mu_num.specs.IndexedSums.{int_at, tabulate}
+use Rattle.qss_order2.proofs.Common.{◌≡◌, ◌≤◌, int_at, length, tabulate, vec_capacity, vec_len}
 use Rattle.qss_order2.proofs.order2_start.start_order2_places.Given as goal
 
 -- the places so far

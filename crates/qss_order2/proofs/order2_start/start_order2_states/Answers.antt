@@ -1,16 +1,11 @@
 -- One more state.
-use Rattle.std.proofs.Common.{◌≡◌, ◌<◌, ◌≤◌, List, length, get_or, map, ℤ, pos, ◌*ℤ◌, sym, ◌∙◌, ap}
-use Rattle.std.proofs.Common.{subst, arith}
-use Rattle.std.proofs.lemmas.Int.{to_z-of_z}
-use Rattle.std.proofs.lemmas.List.{take_all}
-use Rattle.std.specs.Int.RustNames.{FitsSigned}
-use Rattle.mu_num.specs.Sizes.{IsWithin}
-use Rattle.qss_machine.specs.declared.machine_parts.StateInfo.{StateInfo}
+use Rattle.qss_order2.proofs.Common
+use Common.{ℤ, ◌*ℤ◌, ◌<◌, ◌∙◌, ◌≡◌, ◌≤◌, ap, arith, FitsSigned, get_or, IsWithin, length, List, map}
+use Common.{pos, StateInfo, subst, sym, take_all, to_z-of_z, w128}
 use Rattle.qss_order2.proofs.FixedFacts.{wide}
 use Rattle.qss_order2.proofs.Tables.{map_more}
 use Rattle.mu_num.proofs.Tables.{map_twice}
 use Rattle.qss_order2.proofs.order2_start.start_order2_states.Goals as goal
-use mir.Syntax.{w128}
 
 pub fine_state-requires : goal.fine_state-requires
 fine_state-requires c =

@@ -1,6 +1,5 @@
-use Rattle.std.proofs.Common.{◌≡◌, ◌≤◌, map, take, length, pos, ◌*ℤ◌}
-use Rattle.std.specs.Prelude.{vec_len, vec_capacity}
-use Rattle.qss_machine.specs.declared.machine_parts.StateInfo.{StateInfo}
+use Rattle.qss_order2.proofs.Common
+use Common.{◌*ℤ◌, ◌≡◌, ◌≤◌, length, map, pos, StateInfo, take, vec_capacity, vec_len}
 use Rattle.qss_order2.proofs.order2_start.start_order2_states.Given as goal
 
 -- the states so far

@@ -1,6 +1,4 @@
-use Rattle.std.proofs.Common.{◌≡◌, refl, ◌∙◌, subst}
-use Rattle.qss_order2.specs.Events.{IsStarted}
-use Rattle.qss_order2.specs.SlopeRules.{IsRuled2}
+use Rattle.qss_order2.proofs.Common.{◌∙◌, ◌≡◌, IsRuled2, IsStarted, refl, subst}
 use Rattle.qss_order2.proofs.WrittenRuns.{known_ahead, plays, plays_nothing}
 use Rattle.qss_order2.proofs.second_run.write_second_order.Goals as goal
 

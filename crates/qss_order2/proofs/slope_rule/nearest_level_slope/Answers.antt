@@ -1,13 +1,10 @@
 -- The nearest change is close.
-use Rattle.std.proofs.Common.{◌≡◌, true, pos, ◌<ℤ◌, sym, subst, arith}
-use Rattle.std.proofs.lemmas.Int.{ints, to_z-of_z}
-use Rattle.std.specs.Int.RustNames.{FitsSigned}
+use Rattle.qss_order2.proofs.Common
+use Common.{◌<ℤ◌, ◌≡◌, arith, FitsSigned, FreeChange, ints, IsAnswer, pos, subst, sym, to_z-of_z}
+use Common.{true, w128}
 use Rattle.mu_num.specs.Rounding.{nearest_of}
-use Rattle.qss_order2.specs.SlopeRules.{IsAnswer}
-use Rattle.qss_order2.specs.SecondSteps.{FreeChange}
 use Rattle.qss_order2.proofs.Legitimacy.{nearest_is_free}
 use Rattle.qss_order2.proofs.slope_rule.nearest_level_slope.Goals as goal
-use mir.Syntax.{w128}
 
 pub returns : goal.returns
 returns c =

@@ -1,11 +1,7 @@
 -- The readers of one more state.
-use Rattle.std.proofs.Common.{◌≡◌, ℕ, true, ◌||◌, List, get_or, sym}
-use Rattle.std.proofs.Common.{◌∙◌, ap, arith, inl, inr}
-use Rattle.std.proofs.lemmas.Bool.{cases_lt, or_cases, or_left, or_right}
-use Rattle.mu_num.specs.ListedPlaces.{is_listed}
-use Rattle.mu_num.proofs.Writes.{among_at}
-use Rattle.qss_order2.specs.Fixed.{column_at, rows_in}
-use Rattle.qss_sched.specs.PlaceSets.{PlaceList}
+use Rattle.qss_order2.proofs.Common
+use Common.{ℕ, ◌||◌, ◌∙◌, ◌≡◌, among_at, ap, arith, cases_lt, column_at, get_or, inl, inr}
+use Common.{is_listed, List, or_cases, or_left, or_right, PlaceList, rows_in, sym, true}
 use Rattle.qss_order2.proofs.QuietStates.{quiet_states, reads_listed}
 use Rattle.qss_order2.proofs.touching.touch.Goals as goal
 

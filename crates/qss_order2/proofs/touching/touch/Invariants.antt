@@ -1,6 +1,4 @@
-use Rattle.std.proofs.Common.{◌≡◌, ◌<◌, ℕ, true, get_or}
-use Rattle.mu_num.specs.ListedPlaces.{is_listed}
-use Rattle.qss_order2.specs.Fixed.{column_at, rows_in}
+use Rattle.qss_order2.proofs.Common.{ℕ, ◌<◌, ◌≡◌, column_at, get_or, is_listed, rows_in, true}
 use Rattle.qss_order2.specs.Stores.{IsAffected}
 use Rattle.qss_order2.proofs.touching.touch.Given as goal
 

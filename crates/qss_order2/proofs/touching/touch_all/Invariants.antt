@@ -1,5 +1,4 @@
-use Rattle.std.proofs.Common.{◌≡◌, ◌<◌, ℕ, true}
-use Rattle.mu_num.specs.ListedPlaces.{is_listed}
+use Rattle.qss_order2.proofs.Common.{ℕ, ◌<◌, ◌≡◌, is_listed, true}
 use Rattle.qss_order2.proofs.touching.touch_all.Given as goal
 
 -- the states so far

@@ -1,13 +1,9 @@
 -- The column of a state has the rows that read it.
-use Rattle.std.proofs.Common.{◌≡◌, ◌<◌, ◌||◌, List, sym, ◌∙◌, ap, subst}
-use Rattle.std.proofs.Common.{arith}
-use Rattle.std.specs.Prelude.{All}
-use Rattle.mu_num.specs.ListedPlaces.{is_listed}
-use Rattle.qss_machine.specs.declared.machine_parts.Entry.{Entry}
-use Rattle.qss_machine.specs.Machines.{state_count}
-use Rattle.qss_order2.specs.Fixed.{column_at, rows_in}
-use Rattle.qss_order2.proofs.touching.touch_readers.Goals as goal
+use Rattle.qss_order2.proofs.Common
+use Common.{◌<◌, ◌||◌, ◌∙◌, ◌≡◌, All, ap, arith, column_at, Entry, is_listed, List, rows_in}
+use Common.{state_count, subst, sym}
 use Rattle.qss_order2.proofs.FixedFacts.{column_is}
+use Rattle.qss_order2.proofs.touching.touch_readers.Goals as goal
 
 pub touch_rows-requires : goal.touch_rows-requires
 touch_rows-requires c =

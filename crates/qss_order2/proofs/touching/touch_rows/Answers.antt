@@ -1,10 +1,7 @@
 -- One more row.
-use Rattle.std.proofs.Common.{◌≡◌, ◌≤◌, ℕ, ◌||◌, List, length, get_or, eqb, sym, ◌∙◌, ap}
-use Rattle.std.proofs.Common.{arith}
-use Rattle.std.proofs.lemmas.List.{take_all, length-map, get_or-map}
-use Rattle.mu_num.specs.ListedPlaces.{is_listed}
-use Rattle.qss_machine.specs.declared.machine_parts.Entry.{Entry}
-use Rattle.qss_order2.specs.Fixed.{rows_in}
+use Rattle.qss_order2.proofs.Common
+use Common.{ℕ, ◌||◌, ◌∙◌, ◌≡◌, ◌≤◌, ap, arith, Entry, eqb, get_or, get_or-map, is_listed, length}
+use Common.{length-map, List, rows_in, sym, take_all}
 use Rattle.qss_order2.proofs.ColumnSums.{entry_0}
 use Rattle.qss_order2.proofs.QuietStates.{touched_more, or_none}
 use Rattle.qss_order2.proofs.touching.touch_rows.Goals as goal

@@ -1,6 +1,4 @@
-use Rattle.std.proofs.Common.{◌≡◌, ℕ, ◌||◌, take}
-use Rattle.mu_num.specs.ListedPlaces.{is_listed}
-use Rattle.qss_order2.specs.Fixed.{rows_in}
+use Rattle.qss_order2.proofs.Common.{ℕ, ◌||◌, ◌≡◌, is_listed, rows_in, take}
 use Rattle.qss_order2.proofs.touching.touch_rows.Given as goal
 
 -- the rows so far

@@ -1,7 +1,5 @@
 -- One more state.
-use Rattle.std.proofs.Common.{◌||◌, sym, ◌∙◌, ap, arith}
-use Rattle.std.proofs.lemmas.List.{take_all}
-use Rattle.mu_num.specs.ListedPlaces.{is_listed}
+use Rattle.qss_order2.proofs.Common.{◌||◌, ◌∙◌, ap, arith, is_listed, sym, take_all}
 use Rattle.qss_order2.proofs.QuietStates.{touched_more, or_none}
 use Rattle.qss_order2.proofs.touching.touch_states.Goals as goal
 

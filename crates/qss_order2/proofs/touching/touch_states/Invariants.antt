@@ -1,5 +1,4 @@
-use Rattle.std.proofs.Common.{◌≡◌, ℕ, ◌||◌, take}
-use Rattle.mu_num.specs.ListedPlaces.{is_listed}
+use Rattle.qss_order2.proofs.Common.{ℕ, ◌||◌, ◌≡◌, is_listed, take}
 use Rattle.qss_order2.proofs.touching.touch_states.Given as goal
 
 -- the states so far

@@ -1,9 +1,7 @@
 -- The first one is the least.
-use Rattle.std.proofs.Common.{[], pos, ◌∙◌, sym, arith}
+use Rattle.qss_own_traces.proofs.Common
+use Common.{[], ◌∙◌, arith, exceeds_row_limits, first_is, none_is, pos, start_discretes, sym}
 use Rattle.qss_machine.specs.declared.machine_parts.SlopeRow.{SlopeRow}
-use Rattle.qss_machine.specs.Machines.{start_discretes}
-use Rattle.qss_machine.specs.Ticks.{exceeds_row_limits}
-use Rattle.qss_order2.proofs.Tables.{first_is, none_is}
 use Rattle.qss_own_traces.proofs.first_order_trace.first_heavy.Goals as goal
 
 pub returns-then-is_heavy : goal.returns-then-is_heavy

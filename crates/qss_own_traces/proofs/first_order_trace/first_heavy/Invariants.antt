@@ -1,6 +1,5 @@
-use Rattle.std.proofs.Common.{◌≡◌, ℕ, ◌<◌, false}
-use Rattle.qss_machine.specs.Machines.{row_at, start_discretes}
-use Rattle.qss_machine.specs.Ticks.{exceeds_row_limits}
+use Rattle.qss_own_traces.proofs.Common
+use Common.{ℕ, ◌<◌, ◌≡◌, exceeds_row_limits, false, row_at, start_discretes}
 use Rattle.qss_own_traces.proofs.first_order_trace.first_heavy.Given as goal
 
 -- none so far

@@ -1,9 +1,6 @@
 -- The run's states and levels are the trace's places.
-use Rattle.std.proofs.Common.{arith}
-use Rattle.qss_machine.specs.Machines.{state_count}
-use Rattle.qss_machine.specs.Ticks.{start_snapshot}
-use Rattle.qss_machine.specs.RunLaws.{states_from, levels_from}
-use Rattle.qss_own_traces.specs.FirstRuns.{first_run}
+use Rattle.qss_own_traces.proofs.Common
+use Common.{arith, first_run, levels_from, start_snapshot, state_count, states_from}
 use Rattle.qss_own_traces.proofs.FirstRuns.{first_legitimate, states_count}
 use Rattle.qss_own_traces.proofs.Legitimate.{held_trace, trace_legitimate}
 use Rattle.qss_own_traces.proofs.Placing.{held_places}

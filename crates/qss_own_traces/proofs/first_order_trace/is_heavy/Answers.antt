@@ -1,15 +1,10 @@
 -- The mode coefficients at the start fit, so what is left of the test is the absolute row sum.
-use Rattle.std.proofs.Common.{◌≡◌, Bool, List, ℤ, true, ◌∙◌, ap, sym, subst}
-use Rattle.std.proofs.lemmas.Int.{to_z-of_z}
-use Rattle.std.specs.Int.RustNames.{FitsSigned}
-use Rattle.std.specs.Prelude.{All, IsTrue, not, ◌||◌}
-use Rattle.mu_num.specs.Sizes.{IsWithin, exceeds}
-use Rattle.qss_machine.specs.Machines.{state_count, row_at, weight_at, start_discretes}
-use Rattle.qss_machine.specs.Slopes.{mode_fits}
-use Rattle.cert_check.proofs.Starts.{starts-fit}
-use Rattle.qss_machine.proofs.StartValues.{discretes_start}
+use Rattle.qss_own_traces.proofs.Common
+use Common.{ℤ, ◌||◌, ◌∙◌, ◌≡◌, All, ap, Bool, discretes_start, exceeds, FitsSigned, IsTrue}
+use Common.{IsWithin, List, mode_fits, not, row_at, start_discretes, starts-fit, state_count, subst}
+use Common.{sym, to_z-of_z, true, w128}
+use Rattle.qss_machine.specs.Machines.{weight_at}
 use Rattle.qss_own_traces.proofs.first_order_trace.is_heavy.Goals as goal
-use mir.Syntax.{w128}
 
 pub weight-requires-clause-small_discretes : goal.weight-requires-clause-small_discretes
 weight-requires-clause-small_discretes c = subst (All (IsWithin 43)) (sym c.requires.discretes) (discretes_start c.args.m.now)

@@ -1,18 +1,10 @@
 -- One more state.
-use Rattle.std.proofs.Common.{◌≡◌, ℕ, ◌<◌, ◌≤◌, length, List, ℤ, pos, ◌+ℤ◌, ◌∙◌, ap, sym, subst}
-use Rattle.std.proofs.Common.{arith}
-use Rattle.std.proofs.lemmas.Int.{ints, to_z-of_z}
-use Rattle.std.specs.Int.RustNames.{FitsSigned}
-use Rattle.std.specs.Prelude.{All, IsTrue}
-use Rattle.mu_num.specs.Sizes.{IsWithin}
-use Rattle.mu_num.specs.IndexedSums.{int_at, tabulate}
-use Rattle.qss_machine.specs.Machines.{state_count, row_at, slope_at, start_discretes}
-use Rattle.qss_machine.specs.Slopes.{mode_fits}
-use Rattle.cert_check.proofs.Starts.{starts-fit}
-use Rattle.qss_machine.proofs.StartValues.{discretes_start}
-use Rattle.qss_order2.proofs.Tables.{filled_more, filled_table}
+use Rattle.qss_own_traces.proofs.Common
+use Common.{ℕ, ℤ, ◌+ℤ◌, ◌<◌, ◌∙◌, ◌≡◌, ◌≤◌, All, ap, arith, discretes_start, filled_more}
+use Common.{filled_table, FitsSigned, int_at, ints, IsTrue, IsWithin, length, List, mode_fits, pos}
+use Common.{row_at, slope_at, start_discretes, starts-fit, state_count, subst, sym, tabulate}
+use Common.{to_z-of_z, w128}
 use Rattle.qss_own_traces.proofs.first_order_trace.move_states.Goals as goal
-use mir.Syntax.{w128}
 
 pub slope-requires-clause-small_discretes : goal.slope-requires-clause-small_discretes
 slope-requires-clause-small_discretes c = subst (All (IsWithin 43)) (sym c.requires.discretes) (discretes_start c.args.m.now)

@@ -1,7 +1,5 @@
-use Rattle.std.proofs.Common.{◌≡◌, pos, ◌+ℤ◌}
-use Rattle.mu_num.specs.IndexedSums.{int_at}
-use Rattle.qss_machine.specs.Machines.{slope_at, start_discretes}
-use Rattle.qss_order2.proofs.Tables.{IsFilled}
+use Rattle.qss_own_traces.proofs.Common
+use Common.{◌+ℤ◌, ◌≡◌, int_at, IsFilled, pos, slope_at, start_discretes}
 use Rattle.qss_own_traces.proofs.first_order_trace.move_states.Given as goal
 
 -- the states so far, and the others as they were

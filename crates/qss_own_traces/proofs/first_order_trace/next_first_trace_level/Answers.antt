@@ -1,16 +1,11 @@
 -- The level unit is within its limits, and a state that is not close leaves its level.
-use Rattle.std.proofs.Common.{◌≡◌, Bool, ℤ, pos, ◌-ℤ◌, ◌*ℤ◌, sym, ◌∙◌, ap, subst, arith}
-use Rattle.std.proofs.lemmas.Int.{ints, to_z-of_z}
-use Rattle.std.specs.Int.RustNames.{FitsSigned, unsigned_abs, int_lt}
-use Rattle.std.specs.Prelude.{if◌then◌else◌}
-use Rattle.mu_num.specs.Levels.{floor_level}
-use Rattle.mu_num.specs.Rounding.{floor_of}
-use Rattle.mu_num.specs.Sizes.{IsPositiveWithin}
-use Rattle.qss_machine.specs.Machines.{level_unit, quantum_of}
-use Rattle.qss_machine.specs.Ticks.{is_within_quantum}
-use Rattle.qss_machine.proofs.Near.{unit_fits}
+use Rattle.qss_own_traces.proofs.Common
+use Common.{ℤ, ◌*ℤ◌, ◌-ℤ◌, ◌∙◌, ◌≡◌, ap, arith, Bool, FitsSigned, floor_level, floor_of}
+use Common.{if◌then◌else◌, int_lt, ints, is_within_quantum, IsPositiveWithin, level_unit, pos}
+use Common.{subst, sym, to_z-of_z, unit_fits, w128, w64}
+use Rattle.std.specs.Int.RustNames.{unsigned_abs}
+use Rattle.qss_machine.specs.Machines.{quantum_of}
 use Rattle.qss_own_traces.proofs.first_order_trace.next_first_trace_level.Goals as goal
-use mir.Syntax.{w64, w128}
 
 pub is_first_trace_close-requires-clause-unit : goal.is_first_trace_close-requires-clause-unit
 is_first_trace_close-requires-clause-unit c =

@@ -1,15 +1,9 @@
 -- One more level.
-use Rattle.std.proofs.Common.{◌≡◌, ℕ, ◌<◌, ◌≤◌, length, ℤ, pos, ◌∙◌, ap, ap₂, arith}
-use Rattle.std.proofs.lemmas.Int.{ints, to_z-of_z}
-use Rattle.std.specs.Int.RustNames.{FitsSigned}
-use Rattle.std.specs.Prelude.{if◌then◌else◌}
-use Rattle.mu_num.specs.Levels.{floor_level}
-use Rattle.mu_num.specs.IndexedSums.{int_at, tabulate}
-use Rattle.qss_machine.specs.Machines.{level_unit}
-use Rattle.qss_machine.specs.Ticks.{is_within_quantum}
-use Rattle.qss_order2.proofs.Tables.{filled_more, filled_table}
+use Rattle.qss_own_traces.proofs.Common
+use Common.{ℕ, ℤ, ◌<◌, ◌∙◌, ◌≡◌, ◌≤◌, ap, ap₂, arith, filled_more, filled_table, FitsSigned}
+use Common.{floor_level, if◌then◌else◌, int_at, ints, is_within_quantum, length, level_unit, pos}
+use Common.{tabulate, to_z-of_z, w128}
 use Rattle.qss_own_traces.proofs.first_order_trace.set_first_trace_levels.Goals as goal
-use mir.Syntax.{w128}
 
 pub loop-j-preserved : goal.loop-j-preserved
 loop-j-preserved c =

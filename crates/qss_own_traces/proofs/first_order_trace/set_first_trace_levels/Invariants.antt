@@ -1,10 +1,5 @@
-use Rattle.std.proofs.Common.{◌≡◌, pos}
-use Rattle.std.specs.Prelude.{if◌then◌else◌}
-use Rattle.mu_num.specs.Levels.{floor_level}
-use Rattle.mu_num.specs.IndexedSums.{int_at}
-use Rattle.qss_machine.specs.Machines.{level_unit}
-use Rattle.qss_machine.specs.Ticks.{is_within_quantum}
-use Rattle.qss_order2.proofs.Tables.{IsFilled}
+use Rattle.qss_own_traces.proofs.Common
+use Common.{◌≡◌, floor_level, if◌then◌else◌, int_at, is_within_quantum, IsFilled, level_unit, pos}
 use Rattle.qss_own_traces.proofs.first_order_trace.set_first_trace_levels.Given as goal
 
 -- the levels so far, and the others as they were

@@ -1,5 +1,5 @@
 -- All levels.
-use Rattle.std.proofs.Common.{length, refl, ◌∙◌, arith}
+use Rattle.qss_own_traces.proofs.Common.{◌∙◌, arith, length, refl}
 use Rattle.qss_order2.proofs.Tables.{same_list}
 use Rattle.qss_own_traces.proofs.first_order_trace.shorten_first_trace_levels.Goals as goal
 

@@ -1,6 +1,4 @@
-use Rattle.std.proofs.Common.{◌≡◌, pos}
-use Rattle.mu_num.specs.IndexedSums.{int_at}
-use Rattle.qss_order2.proofs.Tables.{IsFilled}
+use Rattle.qss_own_traces.proofs.Common.{◌≡◌, int_at, IsFilled, pos}
 use Rattle.qss_own_traces.proofs.first_order_trace.shorten_first_trace_levels.Given as goal
 
 -- the levels so far

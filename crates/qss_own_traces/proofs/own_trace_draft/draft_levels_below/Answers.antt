@@ -1,15 +1,8 @@
 -- One more level.
-use Rattle.std.proofs.Common.{◌≡◌, map, ℤ, pos, ◌<ℤ◌, ◌∙◌, ap, sym, subst, arith}
-use Rattle.std.proofs.lemmas.Int.{ints, to_z-of_z}
-use Rattle.std.proofs.lemmas.List.{take_all}
-use Rattle.std.specs.Int.RustNames.{FitsSigned}
-use Rattle.mu_num.specs.Rounding.{floor_of}
-use Rattle.qss_machine.proofs.Near.{unit_positive}
-use Rattle.qss_machine.specs.Machines.{level_unit}
-use Rattle.mu_num.specs.IndexedSums.{int_at}
-use Rattle.qss_order2.proofs.Tables.{map_more}
+use Rattle.qss_own_traces.proofs.Common
+use Common.{ℤ, ◌<ℤ◌, ◌∙◌, ◌≡◌, ap, arith, FitsSigned, floor_of, int_at, ints, level_unit, map}
+use Common.{map_more, pos, subst, sym, take_all, to_z-of_z, unit_positive, w128}
 use Rattle.qss_own_traces.proofs.own_trace_draft.draft_levels_below.Goals as goal
-use mir.Syntax.{w128}
 
 pub loop-j-preserved : goal.loop-j-preserved
 loop-j-preserved c =

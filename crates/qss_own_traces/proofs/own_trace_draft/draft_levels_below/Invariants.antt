@@ -1,7 +1,5 @@
-use Rattle.std.proofs.Common.{◌≡◌, ◌≤◌, map, take, length, ℤ}
-use Rattle.std.specs.Prelude.{vec_len, vec_capacity}
-use Rattle.mu_num.specs.Rounding.{floor_of}
-use Rattle.qss_machine.specs.Machines.{level_unit}
+use Rattle.qss_own_traces.proofs.Common
+use Common.{ℤ, ◌≡◌, ◌≤◌, floor_of, length, level_unit, map, take, vec_capacity, vec_len}
 use Rattle.qss_own_traces.proofs.own_trace_draft.draft_levels_below.Given as goal
 
 -- the levels so far

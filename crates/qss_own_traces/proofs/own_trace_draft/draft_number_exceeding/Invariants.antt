@@ -1,6 +1,4 @@
-use Rattle.std.proofs.Common.{◌≡◌, ℕ, ◌<◌, false}
-use Rattle.mu_num.specs.Sizes.{exceeds}
-use Rattle.mu_num.specs.IndexedSums.{int_at}
+use Rattle.qss_own_traces.proofs.Common.{ℕ, ◌<◌, ◌≡◌, exceeds, false, int_at}
 use Rattle.qss_own_traces.proofs.own_trace_draft.draft_number_exceeding.Given as goal
 
 -- none so far

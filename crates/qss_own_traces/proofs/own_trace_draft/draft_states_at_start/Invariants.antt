@@ -1,6 +1,5 @@
-use Rattle.std.proofs.Common.{◌≡◌, ◌≤◌, map, take, length, pos, ◌*ℤ◌}
-use Rattle.std.specs.Prelude.{vec_len, vec_capacity}
-use Rattle.qss_machine.specs.declared.machine_parts.StateInfo.{StateInfo}
+use Rattle.qss_own_traces.proofs.Common
+use Common.{◌*ℤ◌, ◌≡◌, ◌≤◌, length, map, pos, StateInfo, take, vec_capacity, vec_len}
 use Rattle.qss_own_traces.proofs.own_trace_draft.draft_states_at_start.Given as goal
 
 -- the states so far

@@ -1,14 +1,8 @@
 -- The trace keeps its limits.
-use Rattle.std.proofs.Common.{◌≡◌, ℕ, List, length, ℤ, sym, ◌∙◌, ap, subst, arith}
-use Rattle.std.proofs.lemmas.List.{length-map}
-use Rattle.mu_num.specs.Sizes.{IsPositiveWithin}
-use Rattle.cert_check.specs.CertificateLimits.{IsSize}
-use Rattle.qss_machine.specs.declared.machine_parts.StateInfo.{StateInfo}
-use Rattle.qss_machine.specs.declared.compiled_machine.Machine.{Machine}
-use Rattle.qss_machine.specs.Machines.{state_count, quanta}
-use Rattle.qss_order2.proofs.Sizes.{quantum_fits}
-use Rattle.qss_order2.proofs.Tables.{all_of}
-use Rattle.qss_trace.specs.TraceLimits.{AreQuanta, ArePlaces}
+use Rattle.qss_own_traces.proofs.Common
+use Common.{ℕ, ℤ, ◌∙◌, ◌≡◌, all_of, ap, ArePlaces, AreQuanta, arith, IsPositiveWithin, IsSize}
+use Common.{length, length-map, List, Machine, quanta, quantum_fits, state_count, StateInfo, subst}
+use Common.{sym}
 use Rattle.qss_own_traces.proofs.own_trace_draft.finish_draft_trace.Goals as goal
 
 quanta_fit : (m : Machine) → AreQuanta (state_count m) (quanta m)

@@ -1,13 +1,8 @@
 -- One more quantum.
-use Rattle.std.proofs.Common.{◌≡◌, ◌<◌, ◌≤◌, ◌^◌, List, length, get_or, map, pos, ◌≤ℤ◌, sym, ◌∙◌}
-use Rattle.std.proofs.Common.{ap, subst, arith}
-use Rattle.std.proofs.lemmas.Int.{ints, to_z-of_z}
-use Rattle.std.proofs.lemmas.List.{take_all}
-use Rattle.std.specs.Int.RustNames.{FitsSigned}
-use Rattle.qss_machine.specs.declared.machine_parts.StateInfo.{StateInfo}
-use Rattle.qss_order2.proofs.Tables.{map_more}
+use Rattle.qss_own_traces.proofs.Common
+use Common.{◌<◌, ◌^◌, ◌∙◌, ◌≡◌, ◌≤ℤ◌, ◌≤◌, ap, arith, FitsSigned, get_or, ints, length, List, map}
+use Common.{map_more, pos, StateInfo, subst, sym, take_all, to_z-of_z, w128, w64}
 use Rattle.qss_own_traces.proofs.own_trace_draft.trace_draft_quanta.Goals as goal
-use mir.Syntax.{w64, w128}
 
 pub loop-j-preserved : goal.loop-j-preserved
 loop-j-preserved c =

@@ -1,6 +1,5 @@
-use Rattle.std.proofs.Common.{◌≡◌, ◌≤◌, map, take, length}
-use Rattle.std.specs.Prelude.{vec_len, vec_capacity}
-use Rattle.qss_machine.specs.declared.machine_parts.StateInfo.{StateInfo}
+use Rattle.qss_own_traces.proofs.Common
+use Common.{◌≡◌, ◌≤◌, length, map, StateInfo, take, vec_capacity, vec_len}
 use Rattle.qss_own_traces.proofs.own_trace_draft.trace_draft_quanta.Given as goal
 
 -- the quanta so far

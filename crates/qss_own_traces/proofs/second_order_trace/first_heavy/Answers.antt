@@ -1,9 +1,6 @@
 -- The first one is the least.
-use Rattle.std.proofs.Common.{ℕ, ◌∙◌, ap, sym, arith}
-use Rattle.std.specs.Prelude.{Some}
-use Rattle.mu_num.specs.Sizes.{exceeds}
-use Rattle.qss_machine.specs.Machines.{state_count}
-use Rattle.qss_own_traces.specs.TraceSystems.{row_weight}
+use Rattle.qss_own_traces.proofs.Common
+use Common.{ℕ, ◌∙◌, ap, arith, exceeds, row_weight, Some, state_count, sym}
 use Rattle.qss_order2.proofs.Tables.{first_of_table, none_of_table}
 use Rattle.qss_own_traces.proofs.second_order_trace.first_heavy.Goals as goal
 

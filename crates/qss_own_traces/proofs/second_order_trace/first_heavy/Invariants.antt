@@ -1,6 +1,4 @@
-use Rattle.std.proofs.Common.{◌≡◌, ℕ, ◌<◌, false}
-use Rattle.mu_num.specs.Sizes.{exceeds}
-use Rattle.qss_own_traces.specs.TraceSystems.{row_weight}
+use Rattle.qss_own_traces.proofs.Common.{ℕ, ◌<◌, ◌≡◌, exceeds, false, row_weight}
 use Rattle.qss_own_traces.proofs.second_order_trace.first_heavy.Given as goal
 
 -- none so far

@@ -1,7 +1,6 @@
 -- A state left, or none did.
-use Rattle.std.proofs.Common.{sym, arith}
+use Rattle.qss_own_traces.proofs.Common.{arith, flag_at, sym}
 use Rattle.qss_own_traces.proofs.Flags.{any_at, none_any}
-use Rattle.mu_num.specs.ListedPlaces.{flag_at}
 use Rattle.qss_own_traces.proofs.second_order_trace.has_second_trace_left.Goals as goal
 
 pub returns-then-left-j : goal.returns-then-left-j

@@ -1,5 +1,4 @@
-use Rattle.std.proofs.Common.{◌≡◌, ℕ, ◌<◌, false}
-use Rattle.mu_num.specs.ListedPlaces.{flag_at}
+use Rattle.qss_own_traces.proofs.Common.{ℕ, ◌<◌, ◌≡◌, false, flag_at}
 use Rattle.qss_own_traces.proofs.second_order_trace.has_second_trace_left.Given as goal
 
 -- none so far

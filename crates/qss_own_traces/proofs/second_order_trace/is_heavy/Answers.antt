@@ -1,13 +1,9 @@
 -- The absolute row sum by the system is the row's.
-use Rattle.std.proofs.Common.{◌≡◌, ℕ, ◌^◌, ◌<◌, true, pos, sym, ◌∙◌, ap, arith}
-use Rattle.std.proofs.lemmas.Bool.Decides.{nat_tests}
-use Rattle.std.proofs.lemmas.Int.{to_z-of_z}
-use Rattle.std.specs.Int.RustNames.{FitsSigned}
-use Rattle.mu_num.specs.Sizes.{exceeds}
-use Rattle.qss_own_traces.specs.TraceSystems.{system_weight}
+use Rattle.qss_own_traces.proofs.Common
+use Common.{ℕ, ◌<◌, ◌^◌, ◌∙◌, ◌≡◌, ap, arith, exceeds, FitsSigned, nat_tests, pos, sym}
+use Common.{system_weight, to_z-of_z, true, w128}
 use Rattle.qss_own_traces.proofs.SecondSums.{weight_is}
 use Rattle.qss_own_traces.proofs.second_order_trace.is_heavy.Goals as goal
-use mir.Syntax.{w128}
 
 past : (w : ℕ) → 2 ^ 126 < w → exceeds 94 (pos w) ≡ true
 past w h = grind (arith, nat_tests)

@@ -1,16 +1,9 @@
 -- The distance is not below the reach.
-use Rattle.std.proofs.Common.{◌≡◌, ℤ, pos, ◌+ℤ◌, ◌-ℤ◌, ◌*ℤ◌, unsigned_abs, sym, ◌∙◌, ap, ap₂, subst}
-use Rattle.std.proofs.Common.{arith}
-use Rattle.std.proofs.lemmas.Int.{ints, to_z-of_z}
-use Rattle.std.specs.Int.RustNames.{FitsSigned, int_lt}
-use Rattle.std.specs.Prelude.{not}
-use Rattle.mu_num.specs.Sizes.{IsWithin}
-use Rattle.qss_machine.specs.Machines.{quanta}
-use Rattle.mu_num.specs.IndexedSums.{int_at}
-use Rattle.qss_order2.proofs.Sizes.{quantum_fits}
+use Rattle.qss_own_traces.proofs.Common
+use Common.{ℤ, ◌*ℤ◌, ◌+ℤ◌, ◌-ℤ◌, ◌∙◌, ◌≡◌, ap, ap₂, arith, FitsSigned, int_at, int_lt, ints}
+use Common.{IsWithin, not, pos, quanta, quantum_fits, subst, sym, to_z-of_z, unsigned_abs, w128}
 use Rattle.qss_own_traces.proofs.SecondSums.{unit_is, quantum_is}
 use Rattle.qss_own_traces.proofs.second_order_trace.leaves_second_trace_level.Goals as goal
-use mir.Syntax.{w128}
 
 pub second_trace_distance_after-requires-clause-unit : goal.second_trace_distance_after-requires-clause-unit
 second_trace_distance_after-requires-clause-unit c =

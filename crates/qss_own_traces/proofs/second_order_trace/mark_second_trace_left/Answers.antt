@@ -1,14 +1,8 @@
 -- One more flag.
-use Rattle.std.proofs.Common.{◌≡◌, ◌<◌, false, length, ◌*ℤ◌, arith}
-use Rattle.std.proofs.lemmas.Int.{ints, to_z-of_z}
-use Rattle.std.specs.Int.RustNames.{FitsSigned}
-use Rattle.mu_num.specs.Sizes.{IsWithin}
-use Rattle.qss_machine.specs.Machines.{level_unit}
-use Rattle.mu_num.specs.IndexedSums.{int_at}
-use Rattle.qss_own_traces.specs.SecondPlaces.{has_left, leaves_from}
-use Rattle.qss_order2.proofs.Tables.{filled_more}
+use Rattle.qss_own_traces.proofs.Common
+use Common.{◌*ℤ◌, ◌<◌, ◌≡◌, arith, false, filled_more, FitsSigned, has_left, int_at, ints, IsWithin}
+use Common.{leaves_from, length, level_unit, to_z-of_z, w128}
 use Rattle.qss_own_traces.proofs.second_order_trace.mark_second_trace_left.Goals as goal
-use mir.Syntax.{w128}
 
 pub leaves_second_trace_level-requires-clause-change : goal.leaves_second_trace_level-requires-clause-change
 leaves_second_trace_level-requires-clause-change c =

@@ -1,6 +1,4 @@
-use Rattle.std.proofs.Common.{◌≡◌, false}
-use Rattle.qss_order2.proofs.Tables.{IsFilled}
-use Rattle.qss_own_traces.specs.SecondPlaces.{has_left}
+use Rattle.qss_own_traces.proofs.Common.{◌≡◌, false, has_left, IsFilled}
 use Rattle.qss_own_traces.proofs.second_order_trace.mark_second_trace_left.Given as goal
 
 -- the flags so far

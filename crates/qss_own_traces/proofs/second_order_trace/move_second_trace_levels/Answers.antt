@@ -1,17 +1,9 @@
 -- One more level.
-use Rattle.std.proofs.Common.{◌≡◌, ℕ, ◌<◌, ◌≤◌, length, ℤ, pos, ◌+ℤ◌, ◌<ℤ◌, sym, ◌∙◌, ap, subst}
-use Rattle.std.proofs.Common.{arith}
-use Rattle.std.proofs.lemmas.Int.{ints, to_z-of_z}
-use Rattle.std.specs.Int.RustNames.{FitsSigned}
-use Rattle.std.specs.Prelude.{if◌then◌else◌}
-use Rattle.mu_num.specs.Rounding.{floor_of}
-use Rattle.mu_num.specs.ListedPlaces.{flag_at}
-use Rattle.qss_machine.specs.Machines.{level_unit}
-use Rattle.mu_num.specs.IndexedSums.{int_at}
-use Rattle.qss_machine.proofs.Near.{unit_positive}
-use Rattle.qss_order2.proofs.Tables.{filled_more, filled_table}
+use Rattle.qss_own_traces.proofs.Common
+use Common.{ℕ, ℤ, ◌+ℤ◌, ◌<ℤ◌, ◌<◌, ◌∙◌, ◌≡◌, ◌≤◌, ap, arith, filled_more, filled_table, FitsSigned}
+use Common.{flag_at, floor_of, if◌then◌else◌, int_at, ints, length, level_unit, pos, subst, sym}
+use Common.{to_z-of_z, unit_positive, w128}
 use Rattle.qss_own_traces.proofs.second_order_trace.move_second_trace_levels.Goals as goal
-use mir.Syntax.{w128}
 
 pub loop-j-preserved : goal.loop-j-preserved
 loop-j-preserved c =

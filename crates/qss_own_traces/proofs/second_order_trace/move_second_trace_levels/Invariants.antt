@@ -1,10 +1,5 @@
-use Rattle.std.proofs.Common.{◌≡◌, pos, ◌+ℤ◌}
-use Rattle.std.specs.Prelude.{if◌then◌else◌}
-use Rattle.mu_num.specs.Rounding.{floor_of}
-use Rattle.mu_num.specs.ListedPlaces.{flag_at}
-use Rattle.qss_machine.specs.Machines.{level_unit}
-use Rattle.mu_num.specs.IndexedSums.{int_at}
-use Rattle.qss_order2.proofs.Tables.{IsFilled}
+use Rattle.qss_own_traces.proofs.Common
+use Common.{◌+ℤ◌, ◌≡◌, flag_at, floor_of, if◌then◌else◌, int_at, IsFilled, level_unit, pos}
 use Rattle.qss_own_traces.proofs.second_order_trace.move_second_trace_levels.Given as goal
 
 -- the levels so far, and the others as they were

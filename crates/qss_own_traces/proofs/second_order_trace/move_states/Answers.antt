@@ -1,15 +1,8 @@
 -- One more state.
-use Rattle.std.proofs.Common.{◌≡◌, ℕ, ◌<◌, length, ℤ, pos, ◌+ℤ◌, sym, ◌∙◌, ap₂, subst, arith}
-use Rattle.std.proofs.lemmas.Int.{ints, to_z-of_z}
-use Rattle.std.proofs.lemmas.List.FromFn.{fill_by_all}
-use Rattle.std.specs.Int.RustNames.{FitsSigned}
-use Rattle.mu_num.specs.Sizes.{IsWithin}
-use Rattle.qss_machine.specs.Machines.{state_count}
-use Rattle.mu_num.specs.IndexedSums.{int_at}
-use Rattle.qss_order2.specs.SecondSteps.{rise_at}
-use Rattle.qss_order2.proofs.Tables.{filled_more, all_of}
+use Rattle.qss_own_traces.proofs.Common
+use Common.{ℕ, ℤ, ◌+ℤ◌, ◌<◌, ◌∙◌, ◌≡◌, all_of, ap₂, arith, fill_by_all, filled_more, FitsSigned}
+use Common.{int_at, ints, IsWithin, length, pos, rise_at, state_count, subst, sym, to_z-of_z, w128}
 use Rattle.qss_own_traces.proofs.second_order_trace.move_states.Goals as goal
-use mir.Syntax.{w128}
 
 pub loop-j-preserved : goal.loop-j-preserved
 loop-j-preserved c =

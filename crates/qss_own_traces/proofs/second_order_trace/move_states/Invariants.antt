@@ -1,8 +1,4 @@
-use Rattle.std.proofs.Common.{◌≡◌, pos, ◌+ℤ◌}
-use Rattle.mu_num.specs.Sizes.{IsWithin}
-use Rattle.mu_num.specs.IndexedSums.{int_at}
-use Rattle.qss_order2.specs.SecondSteps.{rise_at}
-use Rattle.qss_order2.proofs.Tables.{IsFilled}
+use Rattle.qss_own_traces.proofs.Common.{◌+ℤ◌, ◌≡◌, int_at, IsFilled, IsWithin, pos, rise_at}
 use Rattle.qss_own_traces.proofs.second_order_trace.move_states.Given as goal
 
 -- the states so far, and the others as they were

@@ -1,10 +1,7 @@
 -- The run's states and levels are the trace's places.
-use Rattle.std.proofs.Common.{arith}
-use Rattle.qss_machine.specs.Machines.{state_count}
-use Rattle.qss_order2.specs.SecondSteps.{second_scale}
-use Rattle.qss_order2.specs.SecondRunLaws.{states_from2, levels_from2}
+use Rattle.qss_own_traces.proofs.Common
+use Common.{arith, levels_from2, second_order_run, second_scale, state_count, states_from2}
 use Rattle.qss_trace.proofs.Small.{small-system}
-use Rattle.qss_order2.specs.SecondRunTexts.{second_order_run}
 use Rattle.qss_own_traces.proofs.SecondLegitimate.{second_legitimate}
 use Rattle.qss_own_traces.proofs.SecondRuns.{states_count}
 use Rattle.qss_own_traces.proofs.Legitimate.{held_trace, trace_legitimate}

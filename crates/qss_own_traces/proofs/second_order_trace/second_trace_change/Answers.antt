@@ -1,16 +1,10 @@
 -- The unit is positive, and the rise is that of the levels.
-use Rattle.std.proofs.Common.{◌≡◌, Bool, ℤ, pos, ◌<ℤ◌, sym, ◌∙◌, ap, ap₂, subst, arith}
-use Rattle.std.proofs.lemmas.Int.{ints, to_z-of_z}
-use Rattle.std.specs.Int.RustNames.{FitsSigned}
-use Rattle.std.specs.Prelude.{if◌then◌else◌}
+use Rattle.qss_own_traces.proofs.Common
+use Common.{ℤ, ◌<ℤ◌, ◌∙◌, ◌≡◌, ap, ap₂, arith, Bool, FitsSigned, if◌then◌else◌, ints, IsWithin}
+use Common.{level_unit, nearest_change, pos, rise_at, subst, sym, to_z-of_z, unit_positive, w128}
 use Rattle.mu_num.specs.Rounding.{nearest_of}
-use Rattle.mu_num.specs.Sizes.{IsWithin}
-use Rattle.qss_machine.proofs.Near.{unit_positive}
-use Rattle.qss_machine.specs.Machines.{level_unit}
-use Rattle.qss_order2.specs.SecondSteps.{nearest_change, rise_at}
 use Rattle.qss_own_traces.proofs.SecondSums.{unit_is}
 use Rattle.qss_own_traces.proofs.second_order_trace.second_trace_change.Goals as goal
-use mir.Syntax.{w128}
 
 pub near_div-requires : goal.near_div-requires
 near_div-requires c =

@@ -1,6 +1,5 @@
 -- The constant part is not counted.
-use Rattle.std.proofs.Common.{◌∙◌, ap}
-use Rattle.mu_num.specs.IndexedSums.{first_exceeding}
+use Rattle.qss_own_traces.proofs.Common.{◌∙◌, ap, first_exceeding}
 use Rattle.qss_own_traces.proofs.SecondSteps.{undriven}
 use Rattle.qss_own_traces.proofs.second_order_trace.second_trace_change_excess.Goals as goal
 

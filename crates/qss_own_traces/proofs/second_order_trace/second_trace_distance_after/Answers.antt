@@ -1,10 +1,8 @@
 -- The level and its change are taken from the state one after the other.
-use Rattle.std.proofs.Common.{◌≡◌, ℤ, pos, ◌-ℤ◌, ◌*ℤ◌, unsigned_abs, ◌∙◌, ap, ap₂}
-use Rattle.std.proofs.lemmas.Int.{to_z-of_z}
-use Rattle.std.specs.Int.RustNames.{FitsSigned}
+use Rattle.qss_own_traces.proofs.Common
+use Common.{ℤ, ◌*ℤ◌, ◌-ℤ◌, ◌∙◌, ◌≡◌, ap, ap₂, FitsSigned, pos, to_z-of_z, unsigned_abs, w128}
 use Rattle.qss_own_traces.proofs.SecondSums.{spread}
 use Rattle.qss_own_traces.proofs.second_order_trace.second_trace_distance_after.Goals as goal
-use mir.Syntax.{w128}
 
 pub returns : goal.returns
 returns c =

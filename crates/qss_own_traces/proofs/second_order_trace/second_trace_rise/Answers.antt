@@ -1,10 +1,7 @@
 -- The sum is the rise.
-use Rattle.std.proofs.Common.{◌∙◌}
-use Rattle.std.proofs.lemmas.Int.{to_z-of_z}
-use Rattle.std.specs.Int.RustNames.{FitsSigned}
+use Rattle.qss_own_traces.proofs.Common.{◌∙◌, FitsSigned, to_z-of_z, w128}
 use Rattle.qss_own_traces.proofs.SecondSums.{rise_same}
 use Rattle.qss_own_traces.proofs.second_order_trace.second_trace_rise.Goals as goal
-use mir.Syntax.{w128}
 
 pub returns-clause-value : goal.returns-clause-value
 returns-clause-value c =

@@ -1,12 +1,8 @@
 -- The first one is the least.
-use Rattle.std.proofs.Common.{◌≡◌, sym, ◌∙◌, arith}
-use Rattle.std.proofs.lemmas.Int.{ints, to_z-of_z}
-use Rattle.std.specs.Int.RustNames.{FitsSigned}
-use Rattle.mu_num.specs.IndexedSums.{int_at}
-use Rattle.qss_own_traces.specs.WideValues.{is_wide_at}
+use Rattle.qss_own_traces.proofs.Common
+use Common.{◌∙◌, ◌≡◌, arith, FitsSigned, int_at, ints, is_wide_at, sym, to_z-of_z, w128}
 use Rattle.qss_own_traces.proofs.Flags.{first_below, none_below}
 use Rattle.qss_own_traces.proofs.second_order_trace.second_trace_wide_state.Goals as goal
-use mir.Syntax.{w128}
 
 pub returns-then-is_second_trace_wide : goal.returns-then-is_second_trace_wide
 returns-then-is_second_trace_wide c =

@@ -1,5 +1,4 @@
-use Rattle.std.proofs.Common.{◌≡◌, ℕ, ◌<◌, false}
-use Rattle.qss_own_traces.specs.WideValues.{is_wide_at}
+use Rattle.qss_own_traces.proofs.Common.{ℕ, ◌<◌, ◌≡◌, false, is_wide_at}
 use Rattle.qss_own_traces.proofs.second_order_trace.second_trace_wide_state.Given as goal
 
 -- none so far

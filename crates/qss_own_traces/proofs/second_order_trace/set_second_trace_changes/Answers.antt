@@ -1,16 +1,9 @@
 -- One more change.
-use Rattle.std.proofs.Common.{◌≡◌, ℕ, ◌<◌, length, ℤ, pos, ◌∙◌, ap, arith}
-use Rattle.std.proofs.lemmas.Int.{ints, to_z-of_z}
-use Rattle.std.proofs.lemmas.List.FromFn.{fill_by_all}
-use Rattle.std.specs.Int.RustNames.{FitsSigned}
-use Rattle.std.specs.Prelude.{if◌then◌else◌}
-use Rattle.mu_num.specs.ListedPlaces.{flag_at}
-use Rattle.qss_machine.specs.Machines.{state_count, level_unit}
-use Rattle.mu_num.specs.IndexedSums.{int_at}
-use Rattle.qss_order2.specs.SecondSteps.{rise_at, nearest_change}
-use Rattle.qss_order2.proofs.Tables.{filled_more}
+use Rattle.qss_own_traces.proofs.Common
+use Common.{ℕ, ℤ, ◌<◌, ◌∙◌, ◌≡◌, ap, arith, fill_by_all, filled_more, FitsSigned, flag_at}
+use Common.{if◌then◌else◌, int_at, ints, length, level_unit, nearest_change, pos, rise_at}
+use Common.{state_count, to_z-of_z, w128}
 use Rattle.qss_own_traces.proofs.second_order_trace.set_second_trace_changes.Goals as goal
-use mir.Syntax.{w128}
 
 pub loop-j-preserved : goal.loop-j-preserved
 loop-j-preserved c =

@@ -1,10 +1,5 @@
-use Rattle.std.proofs.Common.{◌≡◌, pos}
-use Rattle.std.specs.Prelude.{if◌then◌else◌}
-use Rattle.mu_num.specs.ListedPlaces.{flag_at}
-use Rattle.qss_machine.specs.Machines.{level_unit}
-use Rattle.mu_num.specs.IndexedSums.{int_at}
-use Rattle.qss_order2.specs.SecondSteps.{rise_at, nearest_change}
-use Rattle.qss_order2.proofs.Tables.{IsFilled}
+use Rattle.qss_own_traces.proofs.Common
+use Common.{◌≡◌, flag_at, if◌then◌else◌, int_at, IsFilled, level_unit, nearest_change, pos, rise_at}
 use Rattle.qss_own_traces.proofs.second_order_trace.set_second_trace_changes.Given as goal
 
 -- the changes so far, and the others as they were

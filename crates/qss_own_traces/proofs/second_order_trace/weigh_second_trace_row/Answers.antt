@@ -1,14 +1,10 @@
 -- One more number, and what leaves the range.
-use Rattle.std.proofs.Common.{◌≡◌, ℕ, ◌+◌, ◌*◌, ℤ, pos, ◌+ℤ◌, ◌*ℤ◌, unsigned_abs, refl, ◌∙◌, ap}
-use Rattle.std.proofs.Common.{arith}
-use Rattle.std.proofs.lemmas.Int.{ints, to_z-of_z}
-use Rattle.std.specs.Int.RustNames.{FitsSigned}
-use Rattle.cert_matrix.specs.Matrix.{table, vector, weight}
-use Rattle.mu_num.specs.IndexedSums.{abs_of, int_at}
+use Rattle.qss_own_traces.proofs.Common
+use Common.{ℕ, ℤ, ◌*ℤ◌, ◌*◌, ◌+ℤ◌, ◌+◌, ◌∙◌, ◌≡◌, abs_of, ap, arith, FitsSigned, int_at, ints, pos}
+use Common.{refl, table, to_z-of_z, unsigned_abs, vector, w128, weight}
 use Rattle.cert_matrix.proofs.Weights.{beyond-base}
 use Rattle.qss_own_traces.proofs.SecondSums.{same_more, weight_step}
 use Rattle.qss_own_traces.proofs.second_order_trace.weigh_second_trace_row.Goals as goal
-use mir.Syntax.{w128}
 
 pub loop-k-init : goal.loop-k-init
 loop-k-init c =

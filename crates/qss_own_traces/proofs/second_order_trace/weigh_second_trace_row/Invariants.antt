@@ -1,6 +1,5 @@
-use Rattle.std.proofs.Common.{◌≡◌, ◌+◌, ◌*◌, pos, unsigned_abs}
-use Rattle.mu_num.specs.IndexedSums.{abs_of}
-use Rattle.cert_matrix.specs.Matrix.{table, vector, weight}
+use Rattle.qss_own_traces.proofs.Common
+use Common.{◌*◌, ◌+◌, ◌≡◌, abs_of, pos, table, unsigned_abs, vector, weight}
 use Rattle.qss_own_traces.proofs.second_order_trace.weigh_second_trace_row.Given as goal
 
 -- the sum so far is its own absolute row sum

@@ -1,10 +1,8 @@
 -- The state leaves on the side to which it moves.
-use Rattle.std.proofs.Common.{◌≡◌, pos, ◌+ℤ◌, ◌-ℤ◌, ◌*ℤ◌, arith}
-use Rattle.std.proofs.lemmas.Int.{ints, to_z-of_z}
-use Rattle.std.specs.Int.RustNames.{FitsSigned}
+use Rattle.qss_quant.proofs.Common
+use Common.{◌*ℤ◌, ◌+ℤ◌, ◌-ℤ◌, ◌≡◌, arith, FitsSigned, ints, pos, to_z-of_z, w128}
 use Rattle.qss_quant.proofs.Leaving.{leaves_above, leaves_below}
 use Rattle.qss_quant.proofs.integrator.first_integrator_leaving.Goals as goal
-use mir.Syntax.{w128}
 
 pub returns-then-speed-lt0 : goal.returns-then-speed-lt0
 returns-then-speed-lt0 c =

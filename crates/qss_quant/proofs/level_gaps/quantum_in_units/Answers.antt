@@ -1,9 +1,8 @@
 -- A product of numbers from 1 on is from 1 on.
-use Rattle.std.proofs.Common.{pos, negsuc, ◌*ℤ◌, ◌<ℤ◌, ◌≤ℤ◌, ℤ, zero, suc, sym, arith, subst}
-use Rattle.std.proofs.lemmas.Int.{ints, to_z-of_z}
-use Rattle.std.specs.Int.RustNames.{FitsSigned}
+use Rattle.qss_quant.proofs.Common
+use Common.{ℤ, ◌*ℤ◌, ◌<ℤ◌, ◌≤ℤ◌, arith, FitsSigned, ints, pos, subst, sym, to_z-of_z, w128}
+use Rattle.std.proofs.Common.{negsuc, zero, suc}
 use Rattle.qss_quant.proofs.level_gaps.quantum_in_units.Goals as goal
-use mir.Syntax.{w128}
 
 product_positive : (a b : ℤ) → pos 1 ≤ℤ a → pos 1 ≤ℤ b → pos 0 <ℤ (a *ℤ b)
 product_positive (pos zero) b h g = absurd (omega (arith, ints))

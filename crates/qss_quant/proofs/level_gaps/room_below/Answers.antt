@@ -1,10 +1,9 @@
 -- One product for the quantum and the level.
-use Rattle.std.proofs.Common.{◌≡◌, ◌^◌, ◌≤◌, ◌-ℤ◌, ◌*ℤ◌, arith}
-use Rattle.std.proofs.lemmas.Int.{ints, to_z-of_z}
-use Rattle.std.specs.Int.RustNames.{unsigned_abs, FitsSigned}
+use Rattle.qss_quant.proofs.Common
+use Common.{◌*ℤ◌, ◌-ℤ◌, ◌^◌, ◌≡◌, ◌≤◌, arith, FitsSigned, ints, to_z-of_z, w128, w64}
+use Rattle.std.specs.Int.RustNames.{unsigned_abs}
 use Rattle.mu_num.proofs.Integers.{mul-sub}
 use Rattle.qss_quant.proofs.level_gaps.room_below.Goals as goal
-use mir.Syntax.{w64, w128}
 
 pub overflow_add-result : goal.overflow_add-result
 overflow_add-result c =

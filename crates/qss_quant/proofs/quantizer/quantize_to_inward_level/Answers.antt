@@ -1,9 +1,8 @@
-use Rattle.std.proofs.Common.{rules, ℤ, ◌*ℤ◌, ◌<ℤ◌, ◌≤ℤ◌, subst, FitsSigned}
-use Rattle.std.proofs.lemmas.Int.{to_z-of_z}
+use Rattle.qss_quant.proofs.Common.{ℤ, ◌*ℤ◌, ◌<ℤ◌, ◌≤ℤ◌, rules, subst, to_z-of_z, w128}
+use Rattle.std.proofs.Common.{FitsSigned}
 use Rattle.mu_num.proofs.Tests.{int_lt-true, int_lt-false}
 use Rattle.qss_quant.proofs.RuleAnswers.{above_answer, below_answer}
 use Rattle.qss_quant.proofs.quantizer.quantize_to_inward_level.Goals as goal
-use mir.Syntax.{w128}
 
 pub returns-then-levels_in_units-state : goal.returns-then-levels_in_units-state
 returns-then-levels_in_units-state c =

@@ -1,4 +1,4 @@
-use Rattle.std.proofs.Common.{rules}
+use Rattle.qss_quant.proofs.Common.{rules}
 use Rattle.qss_quant.proofs.RuleAnswers.{near_answer}
 use Rattle.qss_quant.proofs.quantizer.quantize_to_near_level.Goals as goal
 

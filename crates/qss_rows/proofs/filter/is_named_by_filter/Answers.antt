@@ -1,6 +1,5 @@
-use Rattle.std.proofs.Common.{arith, sym}
-use Rattle.std.specs.Prelude.{Some, None}
-use Rattle.std.proofs.lemmas.Bool.Decides.{Decides-eqb, nat_tests}
+use Rattle.qss_rows.proofs.Common.{arith, Decides-eqb, None, Some, sym}
+use Rattle.std.proofs.lemmas.Bool.Decides.{nat_tests}
 use Rattle.std.proofs.lemmas.Slice.Eq.{strip_prefix_is}
 use Rattle.qss_rows.proofs.Names.{named_test, named_never}
 use Rattle.qss_rows.proofs.filter.is_named_by_filter.Goals as goal

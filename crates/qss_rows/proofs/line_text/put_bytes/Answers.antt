@@ -1,4 +1,4 @@
-use Rattle.std.proofs.Common.{◌-◌, length, arith}
+use Rattle.qss_rows.proofs.Common.{◌-◌, arith, length}
 use Rattle.qss_rows.proofs.LineRecords.{put_before}
 use Rattle.qss_rows.proofs.line_text.put_bytes.Goals as goal
 

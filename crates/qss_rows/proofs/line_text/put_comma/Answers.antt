@@ -1,5 +1,4 @@
-use Rattle.std.proofs.Common.{◌≡◌, ◌<◌, ◌+◌, ◌-◌, length, arith}
-use Rattle.std.proofs.lemmas.List.{drop-set}
+use Rattle.qss_rows.proofs.Common.{◌+◌, ◌-◌, ◌<◌, ◌≡◌, arith, drop-set, length}
 use Rattle.qss_rows.proofs.line_text.put_comma.Goals as goal
 
 pub returns-clause-written : goal.returns-clause-written

@@ -1,7 +1,7 @@
-use Rattle.std.proofs.Common.{◌≡◌, ◌≤◌, ◌^◌, ◌+◌, ◌-◌, ℕ, List, ◌++◌, length, drop, decimal}
-use Rattle.std.proofs.Common.{ap, arith, rules, to_z-of_z}
-use Rattle.std.proofs.lemmas.Fmt.{length-decimal-le}
-use Rattle.std.proofs.lemmas.List.{drop-set}
+use Rattle.qss_rows.proofs.Common
+use Common.{ℕ, ◌++◌, ◌+◌, ◌-◌, ◌^◌, ◌≡◌, ◌≤◌, ap, arith, decimal, drop, drop-set, length}
+use Common.{length-decimal-le, List, rules}
+use Rattle.std.proofs.Common.{to_z-of_z}
 use Rattle.itoa.proofs.Decimal.{minus_first}
 use Rattle.qss_rows.proofs.line_text.put_i64.Goals as goal
 

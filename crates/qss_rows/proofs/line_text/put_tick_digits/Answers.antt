@@ -1,5 +1,4 @@
-use Rattle.std.proofs.Common.{arith, rules}
-use Rattle.std.proofs.lemmas.Fmt.{length-decimal-le}
+use Rattle.qss_rows.proofs.Common.{arith, length-decimal-le, rules}
 use Rattle.qss_rows.proofs.line_text.put_tick_digits.Goals as goal
 
 pub write_digits-requires : goal.write_digits-requires

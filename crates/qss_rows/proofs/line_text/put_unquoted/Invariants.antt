@@ -1,6 +1,6 @@
 -- The last bytes of the field are copied, and need no quotes.
-use Rattle.std.proofs.Common.{◌≡◌, ◌≤◌, ◌+◌, ◌++◌, false, length, drop}
-use Rattle.csv.specs.Writing.{default_writer, needs_quotes}
+use Rattle.qss_rows.proofs.Common
+use Common.{◌++◌, ◌+◌, ◌≡◌, ◌≤◌, default_writer, drop, false, length, needs_quotes}
 use Rattle.qss_rows.proofs.line_text.put_unquoted.Given as goal
 
 abbrev pub invariant-loop-left : goal.invariant-loop-left

@@ -1,6 +1,5 @@
-use Rattle.std.proofs.Common.{◌≡◌, ℕ, List, [], drop, decimal, refl, arith}
-use Rattle.std.proofs.lemmas.List.{drop_all}
-use Rattle.qss_rows.specs.PlainFields.{number_text}
+use Rattle.qss_rows.proofs.Common
+use Common.{[], ℕ, ◌≡◌, arith, decimal, drop, drop_all, List, number_text, refl}
 use Rattle.qss_rows.proofs.LineRecords.{line_parts, plain_record}
 use Rattle.qss_rows.proofs.Plain.{plain_decimal, plain_number}
 use Rattle.qss_rows.proofs.line_text.put_values.Goals as goal

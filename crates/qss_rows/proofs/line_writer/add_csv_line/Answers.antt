@@ -1,4 +1,4 @@
-use Rattle.std.proofs.Common.{subst, rules}
+use Rattle.qss_rows.proofs.Common.{rules, subst}
 use Rattle.qss_rows.specs.Writers.{Gains}
 use Rattle.qss_rows.proofs.LineRecords.{line_record}
 use Rattle.qss_rows.proofs.line_writer.add_csv_line.Goals as goal

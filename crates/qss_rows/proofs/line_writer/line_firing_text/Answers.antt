@@ -1,7 +1,8 @@
-use Rattle.std.proofs.Common.{◌≡◌, ◌<◌, ◌≤◌, ◌+◌, ◌-◌, ◌^◌, ℕ, List, [], ◌++◌, length, drop, set, decimal, arith, refl, append-nil, append_assoc, length-drop, length-set, take_all}
-use Rattle.std.specs.Prelude.{codes}
-use Rattle.std.proofs.lemmas.Fmt.{decimal_nonempty, length-decimal-le}
-use Rattle.std.proofs.lemmas.List.{drop-set, drop_all}
+use Rattle.qss_rows.proofs.Common
+use Common.{[], ℕ, ◌++◌, ◌+◌, ◌-◌, ◌<◌, ◌^◌, ◌≡◌, ◌≤◌, append-nil, append_assoc, arith, codes}
+use Common.{decimal, drop, drop-set, drop_all, length, length-decimal-le, List, refl, take_all}
+use Rattle.std.proofs.Common.{set, length-drop, length-set}
+use Rattle.std.proofs.lemmas.Fmt.{decimal_nonempty}
 use Rattle.qss_rows.proofs.line_writer.line_firing_text.Goals as goal
 
 -- the number after one of 32 bits takes at most ten digits

@@ -1,7 +1,7 @@
-use Rattle.std.proofs.Common.{◌≡◌, ◌<◌, List, ℕ, ◌++◌, length, take, sym, ◌∙◌, ap, subst, arith}
-use Rattle.std.proofs.lemmas.List.{take_all}
+use Rattle.qss_rows.proofs.Common
+use Common.{ℕ, ◌++◌, ◌<◌, ◌∙◌, ◌≡◌, ap, arith, bytes_in, length, line_at, List, subst, sym, take}
+use Common.{take_all, text_in}
 use Rattle.std.proofs.lemmas.Result.{on_err_weaker}
-use Rattle.qss_rows.specs.Simulations.{line_at, bytes_in, text_in}
 use Rattle.qss_rows.proofs.WrittenLines.{text_more, some_where}
 use Rattle.qss_rows.proofs.simulation_rows.make_simulation_lines.Goals as goal
 

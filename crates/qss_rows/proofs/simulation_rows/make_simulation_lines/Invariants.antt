@@ -1,6 +1,5 @@
-use Rattle.std.proofs.Common.{◌≡◌, take}
+use Rattle.qss_rows.proofs.Common.{◌≡◌, take, text_in}
 use Rattle.qss_rows.specs.HeldLines.{lines_in}
-use Rattle.qss_rows.specs.Simulations.{text_in}
 use Rattle.qss_rows.proofs.simulation_rows.make_simulation_lines.Given as goal
 
 -- the lines so far are held

@@ -1,8 +1,5 @@
-use Rattle.std.proofs.Common.{◌++◌, sym, ap, ◌∙◌, subst}
-use Rattle.std.specs.Prelude.{Some}
-use Rattle.qss_machine.specs.declared.compiled_machine.Machine.{Machine}
-use Rattle.qss_rows.specs.declared.simulation_rows.WriteStop.{WriteStop}
-use Rattle.qss_rows.specs.Simulations.{IsEndIn, IsResultOf}
+use Rattle.qss_rows.proofs.Common
+use Common.{◌++◌, ◌∙◌, ap, IsEndIn, IsResultOf, Machine, Some, subst, sym, WriteStop}
 use Rattle.qss_rows.proofs.Simulated.{written_whole, written_faulty, written_short}
 use Rattle.qss_rows.proofs.simulation_rows.write_simulation.Goals as goal
 

@@ -1,4 +1,4 @@
-use Rattle.std.proofs.Common.{refl}
+use Rattle.qss_rows.proofs.Common.{refl}
 use Rattle.qss_rows.proofs.WrittenLines.{writes_all}
 use Rattle.qss_rows.proofs.simulation_rows.write_simulation_bytes.Goals as goal
 

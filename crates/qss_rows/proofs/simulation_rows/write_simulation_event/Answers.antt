@@ -1,9 +1,5 @@
-use Rattle.std.proofs.Common.{◌≡◌, sym, subst, rules}
-use Rattle.std.specs.Prelude.{Some, Err}
-use Rattle.std.specs.Result.{result_err}
-use Rattle.qss_rows.specs.declared.simulation_rows.WriteStop.TheVariants.{Memory}
-use Rattle.qss_rows.specs.Simulations.{text_in}
-use Rattle.qss_rows.specs.Writes.{IsWriting}
+use Rattle.qss_rows.proofs.Common
+use Common.{◌≡◌, Err, IsWriting, Memory, result_err, rules, Some, subst, sym, text_in}
 use Rattle.qss_rows.proofs.simulation_rows.write_simulation_event.Goals as goal
 
 pub returns-in_err-write_last_event : goal.returns-in_err-write_last_event

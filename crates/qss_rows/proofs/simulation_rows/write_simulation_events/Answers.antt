@@ -1,13 +1,9 @@
-use Rattle.std.proofs.Common.{◌≡◌, [], ◌++◌, refl, sym, ◌∙◌, subst, rules}
-use Rattle.std.specs.Prelude.{Some, Err}
-use Rattle.std.specs.Result.{result_err}
-use Rattle.qss_machine.specs.declared.compiled_machine.Machine.{Machine}
-use Rattle.qss_rows.specs.declared.simulation_rows.RunEnd.{RunEnd}
-use Rattle.qss_rows.specs.declared.simulation_rows.WriteStop.TheVariants.{Memory}
-use Rattle.qss_rows.specs.Simulations.{text_in, IsEndIn}
-use Rattle.qss_rows.specs.Writes.{IsWriting}
+use Rattle.qss_rows.proofs.Common
+use Common.{[], ◌++◌, ◌∙◌, ◌≡◌, Err, IsEndIn, IsWriting, Machine, Memory, refl, result_err, rules}
+use Common.{RunEnd, Some, subst, sym, text_in}
 use Rattle.qss_rows.proofs.Simulated.{some_holds}
-use Rattle.qss_rows.proofs.WrittenLines.{text_in-append, stops_early, stops_sooner, begins, goes_on, fails, halts, ends}
+use Rattle.qss_rows.proofs.WrittenLines.{text_in-append, stops_early, stops_sooner, begins, goes_on}
+use Rattle.qss_rows.proofs.WrittenLines.{fails, halts, ends}
 use Rattle.qss_rows.proofs.simulation_rows.write_simulation_events.Goals as goal
 
 pub returns-in_err-write_last_event : goal.returns-in_err-write_last_event

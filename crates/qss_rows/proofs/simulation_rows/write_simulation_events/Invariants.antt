@@ -1,5 +1,4 @@
-use Rattle.std.proofs.Common.{◌≡◌, ◌++◌}
-use Rattle.qss_rows.specs.declared.simulation_rows.RunEnd.{RunEnd}
+use Rattle.qss_rows.proofs.Common.{◌++◌, ◌≡◌, RunEnd}
 use Rattle.qss_rows.proofs.WrittenLines.{IsUnderWay}
 use Rattle.qss_rows.proofs.simulation_rows.write_simulation_events.Given as goal
 

@@ -1,9 +1,7 @@
-use Rattle.std.proofs.Common.{◌≡◌, ℕ, List, ◌++◌, take, drop, refl, sym, ◌∙◌, ap, subst, append_assoc, rules}
-use Rattle.std.specs.Prelude.{Err, None}
-use Rattle.std.specs.Result.{result_err}
-use Rattle.std.proofs.KnownBytes.{Appends-trans}
+use Rattle.qss_rows.proofs.Common
+use Common.{ℕ, ◌++◌, ◌∙◌, ◌≡◌, ap, append_assoc, Appends-trans, drop, Err, IsWriting, List, None}
+use Common.{refl, result_err, rules, subst, sym, take}
 use Rattle.std.proofs.lemmas.List.{take-append-drop, take_rest}
-use Rattle.qss_rows.specs.Writes.{IsWriting}
 use Rattle.qss_rows.proofs.WrittenLines.{writes_later, part_stops}
 use Rattle.qss_rows.proofs.simulation_rows.write_simulation_lines.Goals as goal
 

@@ -1,5 +1,4 @@
-use Rattle.std.proofs.Common.{◌≡◌, List, ℕ, ◌++◌}
-use Rattle.std.specs.Io.KnownBytes.{Appends}
+use Rattle.qss_rows.proofs.Common.{ℕ, ◌++◌, ◌≡◌, Appends, List}
 use Rattle.qss_rows.proofs.simulation_rows.write_simulation_lines.Given as goal
 
 -- what is written and what is left are all

@@ -1,11 +1,6 @@
-use Rattle.std.proofs.Common.{◌≡◌, ℕ, List, [], ◌++◌, append-nil, refl, sym, subst, rules}
-use Rattle.std.specs.Prelude.{None, Some, Err}
-use Rattle.std.specs.Result.{result_err}
-use Rattle.std.specs.Io.KnownBytes.{Appends}
-use Rattle.qss_rows.specs.RowTexts.{header}
-use Rattle.qss_rows.specs.declared.simulation_rows.WriteStop.TheVariants.{Memory}
-use Rattle.qss_rows.specs.Simulations.{text_in}
-use Rattle.qss_rows.specs.Writes.{IsWriting}
+use Rattle.qss_rows.proofs.Common
+use Common.{[], ℕ, ◌++◌, ◌≡◌, append-nil, Appends, Err, header, IsWriting, List, Memory, None, refl}
+use Common.{result_err, rules, Some, subst, sym, text_in}
 use Rattle.qss_rows.proofs.WrittenLines.{stops_early, writes_later, stops_later}
 use Rattle.qss_rows.proofs.simulation_rows.write_simulation_run.Goals as goal
 

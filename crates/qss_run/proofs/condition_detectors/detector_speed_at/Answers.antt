@@ -1,23 +1,14 @@
 -- A form of one state, and not of time.
-use Rattle.std.proofs.Common.{◌≡◌, ◌+◌, ◌^◌, ◌<◌, ◌≤◌, List, [], ◌∷◌, length, get_or, ℤ, pos, ◌+ℤ◌}
-use Rattle.std.proofs.Common.{◌*ℤ◌, refl, sym, ◌∙◌, ap, ap₂, subst, arith}
-use Rattle.std.proofs.lemmas.Int.{ints, to_z-of_z}
-use Rattle.std.specs.Int.RustNames.{unsigned_abs, FitsSigned}
+use Rattle.qss_run.proofs.Common
+use Common.{[], ℤ, ◌*ℤ◌, ◌+ℤ◌, ◌+◌, ◌<◌, ◌^◌, ◌∙◌, ◌∷◌, ◌≡◌, ◌≤◌, ap, arith, Entry, FitsSigned}
+use Common.{Form, get_or, int_at, ints, IsBounded, IsWithin, length, List, Machine, pos}
+use Common.{product_bound, refl, speed_of, subst, sym, to_z, to_z-of_z, unsigned_abs, w128, w64}
+use Common.{weighted_sum-entries}
+use Rattle.std.proofs.Common.{ap₂}
 use Rattle.std.specs.Prelude.{sum_by}
-use Rattle.mu_num.specs.Sizes.{IsWithin}
-use Rattle.qss_machine.specs.declared.machine_parts.Entry.{Entry}
-use Rattle.qss_machine.specs.declared.machine_parts.Form.{Form}
-use Rattle.qss_machine.specs.declared.compiled_machine.Machine.{Machine}
-use Rattle.qss_machine.specs.MachineLimits.{IsBounded}
-use Rattle.qss_machine.specs.Machines.{speed_of}
-use Rattle.mu_num.specs.IndexedSums.{int_at}
 use Rattle.qss_machine.specs.Slopes.{weighted_sum}
-use Rattle.qss_machine.proofs.Loops.{product_bound}
-use Rattle.qss_machine.proofs.SumLaws.{weighted_sum-entries}
-use Rattle.qss_run.proofs.condition_detectors.detector_speed_at.Goals as goal
 use Rattle.qss_run.proofs.condition_detectors.detector_speed_at.Goals.{After-multiply_form_coefficient}
-use mir.Syntax.{w64, w128}
-use mir.Val.{to_z}
+use Rattle.qss_run.proofs.condition_detectors.detector_speed_at.Goals as goal
 
 -- a list of one element
 only : (entries : List Entry) (none : Entry) → 1 ≤ length entries → length entries < 2 → entries ≡ get_or entries 0 none ∷ []

@@ -1,7 +1,5 @@
 -- The place is added if the truth values differ.
-use Rattle.std.proofs.Common.{◌==◌, sym, ◌∙◌, arith}
-use Rattle.mu_num.specs.ListedPlaces.{flag_at, is_listed}
-use Rattle.qss_run.specs.DueLists.{differ}
+use Rattle.qss_run.proofs.Common.{◌==◌, ◌∙◌, arith, differ, flag_at, is_listed, sym}
 use Rattle.qss_run.proofs.Apart.{comes_in, stays_out}
 use Rattle.qss_run.proofs.condition_detectors.mark_changed_detector.Goals as goal
 

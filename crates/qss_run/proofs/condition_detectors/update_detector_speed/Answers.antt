@@ -1,16 +1,9 @@
 -- The detector is at its value at the tick.
-use Rattle.std.proofs.Common.{◌≡◌, ◌≢◌, ◌∙◌, sym, ap, subst, arith}
-use Rattle.std.proofs.lemmas.Int.{ints, to_z-of_z}
-use Rattle.std.proofs.lemmas.List.{get_or-set_same}
-use Rattle.std.specs.Int.RustNames.{FitsSigned}
-use Rattle.std.specs.Prelude.{None}
-use Rattle.qss_cross.specs.Crossing.{DetectorView, value_at}
-use Rattle.qss_sched.specs.Ranks.{due_at}
-use Rattle.qss_run.specs.SpeedUpdates.{GoesOn}
+use Rattle.qss_run.proofs.Common
+use Common.{◌∙◌, ◌≡◌, ◌≢◌, ap, arith, DetectorView, due_at, FitsSigned, get_or-set_same, GoesOn}
+use Common.{ints, None, of_z, subst, sym, to_z-of_z, value_at, w128}
 use Rattle.qss_run.proofs.Speeds.{goes_on_turned}
 use Rattle.qss_run.proofs.condition_detectors.update_detector_speed.Goals as goal
-use mir.Syntax.{w128}
-use mir.Val.{of_z}
 
 pub returns-clause-goes_on : goal.returns-clause-goes_on
 returns-clause-goes_on c =

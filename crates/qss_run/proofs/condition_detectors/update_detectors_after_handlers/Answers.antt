@@ -1,24 +1,11 @@
 -- All conditions are settled, or go on at their speeds.
-use Rattle.std.proofs.Common.{◌≡◌, ℕ, ◌+◌, List, length, ℤ, sym, ◌∙◌, ap, subst, arith}
-use Rattle.std.specs.Prelude.{Bool, All}
-use Rattle.mu_num.specs.Sizes.{IsWithin}
-use Rattle.mu_num.specs.ListedPlaces.{flag_at, is_listed, AreRisingBelow}
-use Rattle.qss_machine.specs.Machines.{state_count, speed_of}
-use Rattle.qss_machine.specs.Handlers.{conditions}
-use Rattle.qss_cross.specs.Crossing.{IsSmall, DetectorView}
-use Rattle.qss_sched.specs.Ranks.{due_at}
-use Rattle.qss_hand.specs.Values.{Values}
-use Rattle.qss_run.specs.declared.run_conditions.Conditions.{Conditions}
-use Rattle.qss_run.specs.declared.run_start.Store.{Store}
-use Rattle.qss_events.specs.HandlerRows.{reinitialized_of}
+use Rattle.qss_run.proofs.Common
+use Common.{ℕ, ℤ, ◌+◌, ◌∙◌, ◌≡◌, All, ap, AreAlikeBut, AreLinesAt, AreRisingBelow, AreSlopesBefore}
+use Common.{arith, Bool, condition_at, Conditions, conditions, detector_at, detector_states_of}
+use Common.{DetectorView, due_at, flag_at, is_listed, IsDetectorAt, IsSmall, IsWithin, length, List}
+use Common.{one_reads, reinitialized_of, speed_of, state_count, states_at, Store, subst, sym}
+use Common.{touched_after, truths_are, Values}
 use Rattle.qss_states.specs.Variables.{AreSlopesOf}
-use Rattle.qss_run.specs.DueLists.{AreAlikeBut}
-use Rattle.qss_run.specs.ConditionPlaces.{detector_at, IsDetectorAt}
-use Rattle.qss_run.specs.DetectorUpdates.{detector_states_of, touched_after, one_reads}
-use Rattle.qss_events.specs.Schedules.{condition_at}
-use Rattle.qss_run.specs.SpeedUpdates.{AreSlopesBefore}
-use Rattle.qss_states.specs.StateLines.{states_at, AreLinesAt}
-use Rattle.qss_events.proofs.Flags.{truths_are}
 use Rattle.qss_run.proofs.Apart.{alike_then}
 use Rattle.qss_run.proofs.OwnConditions.{settled_fits, still_fits, rest_watched, same_settled}
 use Rattle.qss_run.proofs.QuietTick.{value_small, condition_bounded}

@@ -1,20 +1,11 @@
 -- The handlers do the same as where all states have arrived.
-use Rattle.std.proofs.Common.{◌≡◌, ℕ, List, [], Bool, false, length, ℤ, sym, ◌∙◌, ap, subst, inl}
-use Rattle.std.proofs.Common.{inr}
-use Rattle.std.proofs.lemmas.Bool.{cases_Bool}
-use Rattle.std.specs.Prelude.{None}
-use Rattle.qss_machine.specs.declared.machine_parts.Row.{Row}
-use Rattle.qss_machine.specs.declared.compiled_machine.Machine.{Machine}
-use Rattle.qss_machine.specs.Handlers.{HandlerState, run_clauses}
-use Rattle.mu_num.specs.IndexedSums.{int_at}
-use Rattle.qss_hand.specs.Values.{Values}
-use Rattle.qss_hand.specs.Works.{AreValuesOf, handling_of, values_after}
-use Rattle.qss_run.specs.HandlerResults.{flags_of, handling_of_fired, is_reinitialized}
-use Rattle.qss_run.specs.HandlerReads.{fired_reads}
-use Rattle.qss_states.specs.StateLines.{states_at}
+use Rattle.qss_run.proofs.Common
+use Common.{[], ℕ, ℤ, ◌∙◌, ◌≡◌, ap, AreValuesOf, Bool, cases_Bool, false, fired_reads, flags_of}
+use Common.{HandlerState, handling_of, handling_of_fired, inl, inr, int_at, is_reinitialized}
+use Common.{length, length-states_at, List, Machine, may_arrive, None, Row, run_clauses, states_at}
+use Common.{subst, sym, Values, values_after}
 use Rattle.qss_run.proofs.Agreeing.{Agree, fired_agree}
 use Rattle.qss_run.proofs.Arrived.{arrived_small}
-use Rattle.qss_states.proofs.DueLevels.{length-states_at, may_arrive}
 use Rattle.qss_run.proofs.Reported.{logged}
 use Rattle.qss_run.proofs.condition_handlers.handle_fired_conditions.Goals as goal
 

@@ -1,6 +1,6 @@
 -- Where no state was reinitialized, all is as it was. Else those that are due at the tick, once all
 -- are in the event queue, are the moved states.
-use Rattle.std.proofs.Common.{arith, rules, sym, ◌∙◌}
+use Rattle.qss_run.proofs.Common.{◌∙◌, arith, rules, sym}
 use Rattle.qss_run.proofs.Reinitialized.{AreGiven, joined, joined_without, joins_nothing}
 use Rattle.qss_run.proofs.condition_handlers.join_handler_reinitialized.Goals as goal
 

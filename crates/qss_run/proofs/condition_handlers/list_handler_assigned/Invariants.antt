@@ -1,6 +1,4 @@
-use Rattle.std.proofs.Common.{◌≡◌, ◌≤◌, take}
-use Rattle.std.specs.Prelude.{vec_len, vec_capacity}
-use Rattle.qss_events.specs.HandlerRows.{assigned_of}
+use Rattle.qss_run.proofs.Common.{◌≡◌, ◌≤◌, assigned_of, take, vec_capacity, vec_len}
 use Rattle.qss_run.proofs.condition_handlers.list_handler_assigned.Given as goal
 
 -- the variables so far

@@ -1,5 +1,5 @@
 -- There are as many numbers as before.
-use Rattle.std.proofs.Common.{◌∙◌}
+use Rattle.qss_run.proofs.Common.{◌∙◌}
 use Rattle.qss_run.proofs.condition_handlers.move_fired_handler_states.Goals as goal
 
 pub move_states_handlers_read-requires : goal.move_states_handlers_read-requires

@@ -1,6 +1,4 @@
-use Rattle.std.proofs.Common.{take}
-use Rattle.qss_run.specs.HandlerReads.{fired_reads, AreArrived}
-use Rattle.qss_states.specs.StateLines.{states_at}
+use Rattle.qss_run.proofs.Common.{AreArrived, fired_reads, states_at, take}
 use Rattle.qss_run.proofs.condition_handlers.move_fired_handler_states.Given as goal
 
 -- the states of the branches so far

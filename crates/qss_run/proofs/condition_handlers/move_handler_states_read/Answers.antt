@@ -1,16 +1,11 @@
 -- One more entry.
-use Rattle.std.proofs.Common.{◌≡◌, ◌<◌, ◌==◌, ℕ, List, pos, length, get_or, set, to_z, of_z, sym}
-use Rattle.std.proofs.Common.{◌∙◌, ap, subst, arith}
-use Rattle.std.specs.Int.RustNames.{FitsSigned}
-use Rattle.qss_machine.specs.declared.machine_parts.Entry.{Entry}
-use Rattle.qss_run.specs.HandlerReads.{AreArrived}
-use Rattle.qss_states.specs.StateLines.{states_at}
+use Rattle.qss_run.proofs.Common
+use Common.{ℕ, ◌<◌, ◌==◌, ◌∙◌, ◌≡◌, ap, AreArrived, arith, Entry, FitsSigned, get_or, length}
+use Common.{length-states_at, List, of_z, pos, set, states_at, subst, sym, to_z, w128}
 use Rattle.qss_run.proofs.Arrived.{arrived_more, arrived_along, arrived_past}
-use Rattle.qss_states.proofs.DueLevels.{length-states_at}
-use Rattle.qss_run.proofs.condition_handlers.move_handler_states_read.Goals as goal
 use Rattle.qss_run.proofs.condition_handlers.move_handler_states_read.Goals.{then-j-lines}
 use Rattle.qss_run.proofs.condition_handlers.move_handler_states_read.Goals.{else-j-lines}
-use mir.Syntax.{w128}
+use Rattle.qss_run.proofs.condition_handlers.move_handler_states_read.Goals as goal
 
 pub loop-entry-preserved : goal.loop-entry-preserved
 loop-entry-preserved c =

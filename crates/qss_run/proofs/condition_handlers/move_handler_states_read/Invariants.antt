@@ -1,7 +1,4 @@
-use Rattle.std.proofs.Common.{take}
-use Rattle.qss_machine.specs.Readers.{has_entry}
-use Rattle.qss_run.specs.HandlerReads.{AreArrived}
-use Rattle.qss_states.specs.StateLines.{states_at}
+use Rattle.qss_run.proofs.Common.{AreArrived, has_entry, states_at, take}
 use Rattle.qss_run.proofs.condition_handlers.move_handler_states_read.Given as goal
 
 -- the states of the entries so far

@@ -1,6 +1,5 @@
 -- The numbers are the states of the values.
-use Rattle.std.proofs.Common.{length, ◌∙◌, ap}
-use Rattle.qss_hand.specs.Values.{Values}
+use Rattle.qss_run.proofs.Common.{◌∙◌, ap, length, Values}
 use Rattle.qss_run.proofs.condition_handlers.move_handler_work_states.Goals as goal
 
 pub move_fired_handler_states-requires-clause-may_arrive : goal.move_fired_handler_states-requires-clause-may_arrive

@@ -1,5 +1,5 @@
 -- There are as many numbers as before.
-use Rattle.std.proofs.Common.{◌∙◌}
+use Rattle.qss_run.proofs.Common.{◌∙◌}
 use Rattle.qss_run.proofs.condition_handlers.move_states_handlers_read.Goals as goal
 
 pub move_handler_states_read-requires : goal.move_handler_states_read-requires

@@ -1,7 +1,4 @@
-use Rattle.std.proofs.Common.{take}
-use Rattle.std.specs.List.{list_any}
-use Rattle.qss_run.specs.HandlerReads.{action_reads, AreArrived}
-use Rattle.qss_states.specs.StateLines.{states_at}
+use Rattle.qss_run.proofs.Common.{action_reads, AreArrived, list_any, states_at, take}
 use Rattle.qss_run.proofs.condition_handlers.move_states_handlers_read.Given as goal
 
 -- the states of the statements so far

@@ -1,24 +1,17 @@
 -- The first due branch of each clause fires; an overflow ends them.
-use Rattle.std.proofs.Common.{◌≡◌, ◌+◌, ◌<◌, ◌≤◌, ℕ, List, Bool, length, get_or, drop, refl, sym}
-use Rattle.std.proofs.Common.{◌∙◌, ap, subst, arith, rules}
-use Rattle.std.specs.Prelude.{Err, None, Some}
-use Rattle.qss_machine.specs.declared.machine_parts.Action.{Action}
-use Rattle.qss_machine.specs.declared.compiled_machine.Machine.{Machine}
-use Rattle.qss_machine.specs.Firing.{first_place}
-use Rattle.qss_machine.specs.Handlers.{HandlerState, run_branch, run_clauses}
-use Rattle.qss_hand.specs.Values.{Values}
-use Rattle.qss_hand.specs.Works.{AreValuesOf, handling_of, values_after, overflow_of, branch_at}
-use Rattle.qss_hand.specs.Works.{row_room}
+use Rattle.qss_run.proofs.Common
+use Common.{ℕ, ◌+◌, ◌<◌, ◌∙◌, ◌≡◌, ◌≤◌, Action, ap, AreValuesOf, arith, Bool, branch_at}
+use Common.{BranchPlace, clauses_few, clauses_stay, drop, Err, first_place, flags_of, get_or}
+use Common.{HandlerState, handling_of, length, List, Machine, None, overflow_of, refl, row_room}
+use Common.{rules, run_branch, run_clauses, Some, subst, sym, Values, values_after}
 use Rattle.qss_hand.proofs.AfterStatements.{whole, from_start, all_done}
-use Rattle.qss_run.specs.declared.run_conditions.BranchPlace.{BranchPlace}
-use Rattle.qss_run.specs.HandlerResults.{flags_of}
 use Rattle.qss_run.proofs.Branches.{place_at}
-use Rattle.qss_hand.proofs.Turns.{clauses_stay, clauses_few, rows_branch}
+use Rattle.qss_hand.proofs.Turns.{rows_branch}
 use Rattle.qss_run.proofs.Firings.{clauses_from, fires_here, passed_on, fires_no_more, no_flag}
 use Rattle.qss_run.proofs.Firings.{room_for, is_of}
-use Rattle.qss_run.proofs.condition_handlers.run_fired_handlers.Goals as goal
 use Rattle.qss_run.proofs.condition_handlers.run_fired_handlers.Goals.{then-at-next+in_ok-fire}
 use Rattle.qss_run.proofs.condition_handlers.run_fired_handlers.Goals.{else-at-next}
+use Rattle.qss_run.proofs.condition_handlers.run_fired_handlers.Goals as goal
 
 pub fire-requires-clause-room : goal.fire-requires-clause-room
 fire-requires-clause-room c =

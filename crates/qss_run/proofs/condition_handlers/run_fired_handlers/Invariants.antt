@@ -1,8 +1,6 @@
-use Rattle.std.proofs.Common.{◌≡◌, ℕ, ◌+◌, ◌<◌, ◌≤◌, length, get_or, drop}
-use Rattle.qss_machine.specs.Firing.{first_place}
-use Rattle.qss_machine.specs.Handlers.{run_clauses}
-use Rattle.qss_hand.specs.Works.{AreValuesOf, handling_of, row_room}
-use Rattle.qss_run.specs.HandlerResults.{flags_of}
+use Rattle.qss_run.proofs.Common
+use Common.{ℕ, ◌+◌, ◌<◌, ◌≡◌, ◌≤◌, AreValuesOf, drop, first_place, flags_of, get_or, handling_of}
+use Common.{length, row_room, run_clauses}
 use Rattle.qss_run.proofs.Firings.{clauses_from}
 use Rattle.qss_run.proofs.condition_handlers.run_fired_handlers.Given as goal
 

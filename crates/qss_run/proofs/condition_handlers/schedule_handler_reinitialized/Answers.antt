@@ -1,10 +1,9 @@
 -- Each row of a state puts that state into the event queue.
-use Rattle.std.proofs.Common.{◌+◌, ◌<◌, length, get_or, take, pos, sym, ◌∙◌, subst, arith}
-use Rattle.qss_machine.specs.declared.machine_parts.Row.{Row}
-use Rattle.qss_machine.specs.declared.machine_parts.RowKind.TheVariants as kind
+use Rattle.qss_run.proofs.Common.{◌+◌, ◌<◌, ◌∙◌, arith, get_or, length, pos, Row, subst, sym, take}
 use Rattle.qss_run.proofs.Reinitialized.{AreGiven, reinitialized_at, given_same, given_more}
 use Rattle.qss_run.proofs.condition_handlers.schedule_handler_reinitialized.Goals.{then-is_handler_reinitialization}
 use Rattle.qss_run.proofs.condition_handlers.schedule_handler_reinitialized.Goals.{else-is_handler_reinitialization}
+use Rattle.qss_machine.specs.declared.machine_parts.RowKind.TheVariants as kind
 use Rattle.qss_run.proofs.condition_handlers.schedule_handler_reinitialized.Goals as goal
 
 no_row : Row

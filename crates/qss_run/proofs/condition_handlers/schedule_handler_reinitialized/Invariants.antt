@@ -1,7 +1,4 @@
-use Rattle.std.proofs.Common.{◌≡◌, ℕ, true, false, take, length}
-use Rattle.std.specs.Prelude.{Some}
-use Rattle.qss_sched.specs.Ranks.{due_at}
-use Rattle.qss_run.specs.HandlerResults.{is_reinitialized}
+use Rattle.qss_run.proofs.Common.{ℕ, ◌≡◌, due_at, false, is_reinitialized, length, Some, take, true}
 use Rattle.qss_run.proofs.condition_handlers.schedule_handler_reinitialized.Given as goal
 
 -- the states so far

@@ -1,8 +1,6 @@
 -- The conditions apart are those of the set.
-use Rattle.std.proofs.Common.{Bool, sym, ◌∙◌, ap, arith}
-use Rattle.std.specs.Prelude.{if◌then◌else◌}
-use Rattle.mu_num.specs.ListedPlaces.{flag_at, is_listed}
-use Rattle.qss_sched.specs.PlaceSets.{PlaceList}
+use Rattle.qss_run.proofs.Common
+use Common.{◌∙◌, ap, arith, Bool, flag_at, if◌then◌else◌, is_listed, PlaceList, sym}
 use Rattle.qss_run.proofs.condition_truths.copy_settled_truths.Goals as goal
 
 pub make_truths_agree-requires : goal.make_truths_agree-requires

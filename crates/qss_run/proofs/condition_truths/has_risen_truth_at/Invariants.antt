@@ -1,5 +1,4 @@
-use Rattle.std.proofs.Common.{◌≡◌, ℕ, ◌<◌, false, get_or}
-use Rattle.qss_events.specs.Schedules.{became_true}
+use Rattle.qss_run.proofs.Common.{ℕ, ◌<◌, ◌≡◌, became_true, false, get_or}
 use Rattle.qss_run.proofs.condition_truths.has_risen_truth_at.Given as goal
 
 -- none of the conditions so far became true

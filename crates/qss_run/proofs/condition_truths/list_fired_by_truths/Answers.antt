@@ -1,5 +1,5 @@
 -- There is room for all that change.
-use Rattle.std.proofs.Common.{arith}
+use Rattle.qss_run.proofs.Common.{arith}
 use Rattle.mu_num.proofs.RisingNumbers.{few_numbers}
 use Rattle.qss_run.proofs.condition_truths.list_fired_by_truths.Goals as goal
 

@@ -1,9 +1,6 @@
-use Rattle.std.proofs.Common.{◌≡◌, ◌≤◌, take}
-use Rattle.std.specs.List.{filter}
-use Rattle.std.specs.Prelude.{not, ◌&&◌, vec_len, vec_capacity}
-use Rattle.mu_num.specs.ListedPlaces.{flag_at}
-use Rattle.qss_cross.specs.Crossing.{holds_at}
-use Rattle.qss_run.specs.ConditionPlaces.{detector_at}
+use Rattle.qss_run.proofs.Common
+use Common.{◌&&◌, ◌≡◌, ◌≤◌, detector_at, filter, flag_at, holds_at, not, take, vec_capacity}
+use Common.{vec_len}
 use Rattle.qss_run.proofs.condition_truths.list_fired_by_truths.Given as goal
 
 -- those so far

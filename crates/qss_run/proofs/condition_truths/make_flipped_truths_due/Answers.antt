@@ -1,10 +1,7 @@
 -- The condition at one more place is scheduled, if it became true.
-use Rattle.std.proofs.Common.{◌≡◌, ◌+◌, ◌<◌, ℕ, Bool, List, length, get_or, take, set, sym, ◌∙◌}
-use Rattle.std.proofs.Common.{subst, arith, inl, inr}
-use Rattle.std.proofs.lemmas.Bool.{cases_Bool}
-use Rattle.std.specs.Prelude.{Option, Some, if◌then◌else◌}
-use Rattle.qss_events.specs.Schedules.{became_true}
-use Rattle.qss_run.specs.DueLists.{AreRisenDue}
+use Rattle.qss_run.proofs.Common
+use Common.{ℕ, ◌+◌, ◌<◌, ◌∙◌, ◌≡◌, AreRisenDue, arith, became_true, Bool, cases_Bool, get_or}
+use Common.{if◌then◌else◌, inl, inr, length, List, Option, set, Some, subst, sym, take}
 use Rattle.qss_run.proofs.Called.{AreCalled, none_called, called_more, called_same, called_all}
 use Rattle.qss_run.proofs.condition_truths.make_flipped_truths_due.Goals as goal
 

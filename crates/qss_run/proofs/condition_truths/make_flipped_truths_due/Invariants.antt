@@ -1,4 +1,4 @@
-use Rattle.std.proofs.Common.{take}
+use Rattle.qss_run.proofs.Common.{take}
 use Rattle.qss_run.proofs.Called.{AreCalled}
 use Rattle.qss_run.proofs.condition_truths.make_flipped_truths_due.Given as goal
 

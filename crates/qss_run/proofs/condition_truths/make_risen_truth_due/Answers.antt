@@ -1,6 +1,5 @@
 -- The place has its due tick where the condition became true.
-use Rattle.std.proofs.Common.{Bool, set, sym, ◌∙◌, ap}
-use Rattle.std.specs.Prelude.{Some, if◌then◌else◌}
+use Rattle.qss_run.proofs.Common.{◌∙◌, ap, Bool, if◌then◌else◌, set, Some, sym}
 use Rattle.qss_run.proofs.condition_truths.make_risen_truth_due.Goals as goal
 
 pub returns-then-risen : goal.returns-then-risen

@@ -1,7 +1,6 @@
 -- The flags at these places are written, and the others were the same.
-use Rattle.std.proofs.Common.{◌≡◌, ◌<◌, ℕ, Bool, false, List, length, get_or, refl, arith}
-use Rattle.std.proofs.lemmas.Bool.{both_ways}
-use Rattle.mu_num.specs.ListedPlaces.{flag_at}
+use Rattle.qss_run.proofs.Common
+use Common.{ℕ, ◌<◌, ◌≡◌, arith, Bool, both_ways, false, flag_at, get_or, length, List, refl}
 use Rattle.mu_num.proofs.Writes.{written_more, written_all}
 use Rattle.qss_run.proofs.Apart.{all_alike}
 use Rattle.qss_run.proofs.condition_truths.make_truths_agree.Goals as goal

@@ -1,6 +1,4 @@
-use Rattle.std.proofs.Common.{◌≡◌, false, take}
-use Rattle.mu_num.specs.ListedPlaces.{flag_at}
-use Rattle.mu_num.specs.Writes.{IsWritten}
+use Rattle.qss_run.proofs.Common.{◌≡◌, false, flag_at, IsWritten, take}
 use Rattle.qss_run.proofs.condition_truths.make_truths_agree.Given as goal
 
 -- the flags so far

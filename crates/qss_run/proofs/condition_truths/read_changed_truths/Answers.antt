@@ -1,7 +1,5 @@
 -- At first all are as after the last handlers.
-use Rattle.std.proofs.Common.{false, length, refl, ap}
-use Rattle.std.proofs.lemmas.Bool.{both_ways}
-use Rattle.mu_num.specs.ListedPlaces.{flag_at}
+use Rattle.qss_run.proofs.Common.{ap, both_ways, false, flag_at, length, refl}
 use Rattle.qss_run.proofs.condition_truths.read_changed_truths.Goals as goal
 
 pub loop-condition-init : goal.loop-condition-init

@@ -1,7 +1,4 @@
-use Rattle.std.proofs.Common.{◌≡◌, false, take}
-use Rattle.qss_cross.specs.Crossing.{holds_at}
-use Rattle.qss_run.specs.ConditionPlaces.{detector_at}
-use Rattle.mu_num.specs.Writes.{IsWritten}
+use Rattle.qss_run.proofs.Common.{◌≡◌, detector_at, false, holds_at, IsWritten, take}
 use Rattle.qss_run.proofs.condition_truths.read_changed_truths.Given as goal
 
 -- the truths so far

@@ -1,12 +1,9 @@
 -- One more row.
-use Rattle.std.proofs.Common.{ℤ, ◌∙◌, ap, arith, to_z, of_z}
-use Rattle.std.proofs.lemmas.Int.{ints, to_z-of_z}
-use Rattle.std.specs.Int.RustNames.{FitsSigned}
-use Rattle.qss_machine.specs.declared.machine_parts.Row.{Row}
-use Rattle.mu_num.specs.IndexedSums.{int_at}
-use Rattle.qss_events.proofs.EndRows.{state_row, row_more}
+use Rattle.qss_run.proofs.Common
+use Common.{ℤ, ◌∙◌, ap, arith, FitsSigned, int_at, ints, of_z, Row, state_row, to_z, to_z-of_z}
+use Common.{w128, w64}
+use Rattle.qss_events.proofs.EndRows.{row_more}
 use Rattle.qss_run.proofs.event_steps.add_state_rows.Goals as goal
-use mir.Syntax.{w64, w128}
 
 pub loop-j-preserved : goal.loop-j-preserved
 loop-j-preserved c =

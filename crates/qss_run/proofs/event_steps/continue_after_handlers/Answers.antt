@@ -1,36 +1,17 @@
 -- What goes on after the handlers of a tick.
-use Rattle.std.proofs.Common.{◌≡◌, ℕ, ◌+◌, ◌<◌, List, length, ℤ, pos, refl, sym, ◌∙◌, ap, subst}
-use Rattle.std.proofs.Common.{arith}
-use Rattle.std.proofs.lemmas.List.{with_items_is}
-use Rattle.std.specs.Prelude.{All}
-use Rattle.std.specs.Vec.{with_items}
-use Rattle.mu_num.specs.Sizes.{IsWithin}
-use Rattle.std.specs.List.{list_any}
-use Rattle.mu_num.specs.ListedPlaces.{flag_at, AreRisingBelow}
-use Rattle.qss_machine.specs.Handlers.{conditions, truths, firing_flags}
-use Rattle.qss_machine.specs.Machines.{state_count, slope_at}
-use Rattle.mu_num.specs.IndexedSums.{int_at, tabulate}
-use Rattle.qss_sched.specs.Ranks.{due_at}
-use Rattle.qss_hand.specs.Values.{Values}
-use Rattle.qss_run.specs.declared.run_conditions.Conditions.{Conditions}
-use Rattle.qss_run.specs.declared.run_start.Store.{Store}
-use Rattle.qss_states.specs.Variables.{AreAssignedFrom, AreWithin}
+use Rattle.qss_run.proofs.Common
+use Common.{ℕ, ℤ, ◌+◌, ◌<◌, ◌∙◌, ◌≡◌, All, ap, AreAssignedFrom, AreDetectorsUpTo, AreLinesAt}
+use Common.{AreRisingBelow, AreWithin, arith, Conditions, conditions, conditions_few, detector_at}
+use Common.{detector_states_of, due_at, firing_flags, FitsMachine, flag_at, int_at, IsDetectorAt}
+use Common.{IsRestartedFrom, IsStoreAt, IsWithin, length, line_at, List, list_any, pos, refl}
+use Common.{reinitialized_of, replaced_lines_from, same_length, slope_at, slopes_small, snapshot_of}
+use Common.{state_count, states_at, states_with, Store, subst, sym, tabulate, truths, Values}
+use Common.{with_items, with_items_is}
 use Rattle.qss_states.specs.EventContexts.{AreLevelsFor, HeldBefore}
-use Rattle.qss_run.specs.HandlerResults.{AreDetectorsUpTo}
-use Rattle.qss_run.specs.DetectorUpdates.{detector_states_of}
-use Rattle.qss_states.specs.StateLines.{states_with, line_at, IsRestartedFrom, states_at}
-use Rattle.qss_states.specs.StateLines.{AreLinesAt}
-use Rattle.qss_events.specs.HandlerRows.{reinitialized_of}
-use Rattle.qss_run.specs.ConditionPlaces.{detector_at, IsDetectorAt}
-use Rattle.qss_states.specs.LineReplacements.{replaced_lines_from}
-use Rattle.qss_run.specs.Stores.{snapshot_of, FitsMachine, IsStoreAt}
 use Rattle.qss_run.proofs.AfterHandlers.{length-states_with, same_states, same_slopes, same_worlds}
 use Rattle.qss_run.proofs.AfterHandlers.{lead_to, watched_up_to}
 use Rattle.qss_run.proofs.Reinitialized.{among_reinitialized}
-use Rattle.qss_states.proofs.GoingOn.{slopes_small}
-use Rattle.qss_hand.proofs.Turns.{conditions_few}
 use Rattle.qss_run.proofs.Visits.{stands_again}
-use Rattle.mu_num.proofs.InPlace.{same_length}
 use Rattle.qss_run.proofs.event_steps.continue_after_handlers.Goals as goal
 
 pub update_slopes_after_handlers-requires : goal.update_slopes_after_handlers-requires

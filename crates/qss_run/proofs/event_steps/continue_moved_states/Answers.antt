@@ -1,21 +1,12 @@
 -- Slopes and values are small, and detectors were valid before.
-use Rattle.std.proofs.Common.{◌≡◌, ◌+◌, false, List, ℤ, refl, sym, ◌∙◌, subst, arith}
-use Rattle.qss_machine.specs.Machines.{state_count, slope_at}
-use Rattle.mu_num.specs.IndexedSums.{int_at}
-use Rattle.qss_quant.specs.IntegratorLines.{state_at}
-use Rattle.qss_cross.specs.Crossing.{IsSmall}
-use Rattle.qss_run.specs.declared.run_conditions.Conditions.{Conditions}
-use Rattle.qss_run.specs.ConditionPlaces.{detector_at, IsDetectorAt}
-use Rattle.qss_events.specs.Schedules.{condition_at}
-use Rattle.qss_run.specs.SpeedUpdates.{AreSlopesBefore}
-use Rattle.mu_num.specs.ListedPlaces.{is_listed}
-use Rattle.qss_states.specs.Advancing.{reached}
-use Rattle.qss_states.specs.StateLines.{line_at, states_at, IsRestartedFrom}
+use Rattle.qss_run.proofs.Common
+use Common.{ℤ, ◌+◌, ◌∙◌, ◌≡◌, AreSlopesBefore, arith, condition_at, Conditions, detector_at, false}
+use Common.{int_at, is_listed, IsDetectorAt, IsRestartedFrom, IsSmall, line_at, List, reached, refl}
+use Common.{slope_at, slopes_small, state_at, state_count, states_at, subst, sym}
 use Rattle.qss_run.proofs.OwnConditions.{still_fits}
 use Rattle.qss_run.proofs.QuietTick.{value_small, condition_bounded}
 use Rattle.qss_run.proofs.QuietVisits.{slopes_stay}
 use Rattle.qss_states.proofs.Gathering.{not_reached}
-use Rattle.qss_states.proofs.GoingOn.{slopes_small}
 use Rattle.qss_run.proofs.event_steps.continue_moved_states.Goals as goal
 
 pub update_slopes_of-requires-clause-ready : goal.update_slopes_of-requires-clause-ready

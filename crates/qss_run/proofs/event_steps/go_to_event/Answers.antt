@@ -1,12 +1,7 @@
 -- The event-free ticks, and then the event step.
-use Rattle.std.proofs.Common.{ℕ, ◌+◌, ◌≤◌, sym, ◌∙◌, ap, subst}
-use Rattle.std.specs.Prelude.{Option}
-use Rattle.qss_hand.specs.Works.{overflow_of}
-use Rattle.qss_machine.specs.Ticks.{snapshot_unless, IsStep}
-use Rattle.qss_machine.specs.Runs.{tick_rows, last_snapshot}
-use Rattle.qss_events.specs.AllowedLevels.{IsAllowedLevel}
-use Rattle.qss_run.specs.Stores.{snapshot_of}
-use Rattle.qss_run.specs.TouchCounts.{touches_at}
+use Rattle.qss_run.proofs.Common
+use Common.{ℕ, ◌+◌, ◌∙◌, ◌≤◌, ap, IsAllowedLevel, IsStep, last_snapshot, Option, overflow_of}
+use Common.{snapshot_of, snapshot_unless, subst, sym, tick_rows, touches_at}
 use Rattle.qss_run.proofs.event_steps.go_to_event.Goals as goal
 
 pub returns-clause-visited : goal.returns-clause-visited

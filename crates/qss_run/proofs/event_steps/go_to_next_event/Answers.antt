@@ -1,11 +1,8 @@
 -- Ticks without rows are event-free; the first tick with rows is the next event.
-use Rattle.std.proofs.Common.{◌≡◌, ◌+◌, ◌≤◌, ◌++◌, ◌∷◌, [], refl, sym, ◌∙◌, subst, arith}
-use Rattle.qss_machine.specs.Ticks.{IsStep, snapshot_unless}
-use Rattle.qss_machine.specs.Runs.{last_snapshot}
-use Rattle.qss_events.specs.AllowedLevels.{IsAllowedLevel}
-use Rattle.qss_run.specs.Stores.{snapshot_of, IsStoreAt}
-use Rattle.qss_events.specs.EventFreeRuns.{AreEventFree, IsVisit}
-use Rattle.qss_run.specs.TouchCounts.{touches_at}
+use Rattle.qss_run.proofs.Common
+use Common.{[], ◌++◌, ◌+◌, ◌∙◌, ◌∷◌, ◌≡◌, ◌≤◌, AreEventFree, arith, IsAllowedLevel, IsStep}
+use Common.{IsStoreAt, IsVisit, last_snapshot, refl, snapshot_of, snapshot_unless, subst, sym}
+use Common.{touches_at}
 use Rattle.qss_events.proofs.Goings.{visit_on, rows_on, silent_visit}
 use Rattle.qss_events.proofs.SomeRows.{some_rows, no_rows}
 use Rattle.qss_run.proofs.Spans.{touches_on, touches_end}

@@ -1,10 +1,6 @@
-use Rattle.std.proofs.Common.{◌+◌, ◌-◌, ◌≤◌, List}
-use Rattle.std.specs.Prelude.{None}
-use Rattle.qss_machine.specs.EventCounts.{touches_after}
-use Rattle.qss_machine.specs.Ticks.{Snapshot}
-use Rattle.qss_events.specs.AllowedLevels.{IsAllowedLevel}
-use Rattle.qss_run.specs.Stores.{snapshot_of, IsStoreAt}
-use Rattle.qss_events.specs.EventFreeRuns.{AreEventFree}
+use Rattle.qss_run.proofs.Common
+use Common.{◌+◌, ◌-◌, ◌≤◌, AreEventFree, IsAllowedLevel, IsStoreAt, List, None, Snapshot}
+use Common.{snapshot_of, touches_after}
 use Rattle.qss_run.proofs.event_steps.go_to_next_event.Given as goal
 
 -- the store represents the tick, and the ticks up to it had no rows and affected a state for each

@@ -1,8 +1,5 @@
 -- The states by number are the list.
-use Rattle.std.proofs.Common.{length, pos, arith}
-use Rattle.std.proofs.lemmas.List.FromFn.{fill_by_all}
-use Rattle.qss_quant.specs.IntegratorLines.{state_at}
-use Rattle.qss_states.specs.StateLines.{line_at}
+use Rattle.qss_run.proofs.Common.{arith, fill_by_all, length, line_at, pos, state_at}
 use Rattle.qss_run.proofs.event_steps.move_states_along_lines.Goals as goal
 
 pub returns : goal.returns

@@ -1,7 +1,4 @@
-use Rattle.std.proofs.Common.{◌≡◌, ℕ, ◌<◌, length}
-use Rattle.mu_num.specs.IndexedSums.{int_at}
-use Rattle.qss_quant.specs.IntegratorLines.{state_at}
-use Rattle.qss_states.specs.StateLines.{line_at}
+use Rattle.qss_run.proofs.Common.{ℕ, ◌<◌, ◌≡◌, int_at, length, line_at, state_at}
 use Rattle.qss_run.proofs.event_steps.move_states_along_lines.Given as goal
 
 -- the states so far

@@ -1,12 +1,7 @@
 -- The states are written in place.
-use Rattle.std.proofs.Common.{◌≡◌, List, length, ℤ, sym, ◌∙◌, ap, arith}
-use Rattle.std.proofs.lemmas.List.{with_items_is}
-use Rattle.std.proofs.lemmas.List.FromFn.{length-map-range_with_len}
-use Rattle.std.specs.Prelude.{vec_capacity}
-use Rattle.std.specs.Vec.{with_items}
-use Rattle.qss_quant.specs.IntegratorLines.{state_at}
-use Rattle.qss_hand.specs.Values.{Values}
-use Rattle.qss_states.specs.StateLines.{line_at, states_at}
+use Rattle.qss_run.proofs.Common
+use Common.{ℤ, ◌∙◌, ◌≡◌, ap, arith, length, length-map-range_with_len, line_at, List, state_at}
+use Common.{states_at, sym, Values, vec_capacity, with_items, with_items_is}
 use Rattle.qss_run.proofs.event_steps.move_work_states.Goals as goal
 
 pub move_states_along_lines-requires : goal.move_states_along_lines-requires

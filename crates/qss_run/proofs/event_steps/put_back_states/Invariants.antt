@@ -1,6 +1,4 @@
-use Rattle.std.proofs.Common.{◌≡◌, take}
-use Rattle.std.specs.Prelude.{Some, None}
-use Rattle.mu_num.specs.Writes.{IsWritten}
+use Rattle.qss_run.proofs.Common.{◌≡◌, IsWritten, None, Some, take}
 use Rattle.qss_run.proofs.event_steps.put_back_states.Given as goal
 
 -- the states put back so far

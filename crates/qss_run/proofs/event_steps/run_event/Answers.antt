@@ -1,13 +1,9 @@
 -- What is to be evaluated at the next tick was removed from the event queue.
-use Rattle.std.proofs.Common.{◌≡◌, ◌+◌, length, sym, ◌∙◌, ap, arith}
-use Rattle.mu_num.specs.ListedPlaces.{flag_at, is_listed}
-use Rattle.qss_machine.specs.Machines.{state_count}
-use Rattle.qss_machine.specs.Handlers.{conditions}
-use Rattle.qss_run.specs.declared.run_start.Store.{Store}
+use Rattle.qss_run.proofs.Common
+use Common.{◌+◌, ◌∙◌, ◌≡◌, ap, arith, became_true, conditions, conditions_few, flag_at, is_listed}
+use Common.{length, state_count, Store, sym}
 use Rattle.qss_run.proofs.Jumps.{dues_later}
 use Rattle.qss_run.proofs.Takes.{none_left_before, none_called_before, is_taken, none_to_call}
-use Rattle.qss_hand.proofs.Turns.{conditions_few}
-use Rattle.qss_events.specs.Schedules.{became_true}
 use Rattle.qss_run.proofs.event_steps.run_event.Goals as goal
 
 pub overflow_cast-conditions : goal.overflow_cast-conditions

@@ -1,40 +1,17 @@
 -- A tick at which nothing but states is due.
-use Rattle.std.proofs.Common.{◌≡◌, ℕ, ◌+◌, ◌≤◌, List, Bool, true, [], length, count_by, ℤ, pos, sym}
-use Rattle.std.proofs.Common.{◌∙◌, ap, subst, arith, rules}
-use Rattle.std.proofs.lemmas.List.{with_items_is}
-use Rattle.std.proofs.lemmas.List.FromFn.{length-map-range_with_len}
-use Rattle.std.specs.List.{range_with_len}
-use Rattle.std.specs.Option.{option_or}
-use Rattle.std.specs.Prelude.{Option, None, Ok, Err, All, position, is_some}
-use Rattle.std.specs.Vec.{with_items}
-use Rattle.mu_num.specs.Sizes.{IsWithin}
-use Rattle.qss_machine.specs.EventCounts.{has_changed}
-use Rattle.mu_num.specs.IndexedSums.{int_at, tabulate, first_exceeding}
-use Rattle.qss_machine.specs.Machines.{state_count, level_unit, slope_at, quantum_of}
-use Rattle.qss_machine.specs.Handlers.{HandlerState, conditions, truths}
-use Rattle.qss_machine.specs.Ticks.{Snapshot, moved_states, handlers_at, is_within_quantum}
-use Rattle.qss_machine.specs.Ticks.{exceeds_row_limits, AreNextLevels}
-use Rattle.qss_machine.specs.Runs.{level_rows}
-use Rattle.qss_quant.specs.IntegratorLines.{state_at, IsLineWithinQuantum}
-use Rattle.qss_sched.specs.Ranks.{due_at}
-use Rattle.qss_hand.specs.Values.{Values}
-use Rattle.qss_hand.specs.Works.{overflow_of}
-use Rattle.qss_states.specs.RowSums.{AreSumsBefore}
-use Rattle.qss_states.specs.declared.row_sum_changes.RowSum.TheVariants.{Slope}
-use Rattle.qss_run.specs.declared.run_conditions.Conditions.{Conditions}
-use Rattle.qss_run.specs.declared.run_start.Store.{Store}
-use Rattle.mu_num.specs.ListedPlaces.{flag_at, is_listed, AreRisingBelow, DiffersOnlyAt}
-use Rattle.qss_states.specs.StateLines.{line_at, IsRestartedFrom, states_at, MayMove}
-use Rattle.qss_run.specs.ConditionPlaces.{detector_at, IsDetectorAt}
-use Rattle.qss_events.specs.AllowedLevels.{IsAllowedLevel}
-use Rattle.qss_events.specs.Schedules.{IsDue}
-use Rattle.qss_events.proofs.Overs.{clash}
-use Rattle.qss_states.specs.Advancing.{reached}
-use Rattle.qss_states.specs.KeptWeights.{AreWeights}
-use Rattle.qss_run.specs.Stores.{snapshot_of, FitsMachine}
-use Rattle.qss_states.specs.EventContexts.{HasLeft}
-use Rattle.qss_run.specs.TouchCounts.{touches_at}
-use Rattle.qss_states.proofs.DueLevels.{moved_inside, may_move}
+use Rattle.qss_run.proofs.Common
+use Common.{[], ℕ, ℤ, ◌+◌, ◌∙◌, ◌≡◌, ◌≤◌, All, ap, AreNextLevels, AreRisingBelow, AreSumsBefore}
+use Common.{AreWeights, arith, Bool, clash, Conditions, conditions, count_by, detector_at}
+use Common.{DiffersOnlyAt, due_at, Err, exceeds_row_limits, first_exceeding, FitsMachine, flag_at}
+use Common.{handlers_at, HandlerState, has_changed, HasLeft, int_at, is_listed, is_some}
+use Common.{is_within_quantum, IsAllowedLevel, IsDetectorAt, IsDue, IsLineWithinQuantum}
+use Common.{IsRestartedFrom, IsWithin, length, length-map-range_with_len, level_rows, level_unit}
+use Common.{line_at, List, may_move, moved_states, None, Ok, Option, option_or, overflow_of, pos}
+use Common.{position, quantum_of, range_with_len, reached, rules, same_length, Slope, slope_at}
+use Common.{Snapshot, snapshot_of, state_at, state_count, states_at, Store, subst, sym, tabulate}
+use Common.{touches_at, true, truths, Values, with_items, with_items_is}
+use Rattle.qss_states.specs.StateLines.{MayMove}
+use Rattle.qss_states.proofs.DueLevels.{moved_inside}
 use Rattle.qss_run.proofs.OwnConditions.{arrived_anew}
 use Rattle.qss_run.proofs.QuietVisits.{steps_or, leads, lines_then, rest_small, rest_near, due_left}
 use Rattle.qss_run.proofs.QuietVisits.{moved_changes, own_slope, levels_before, handled, at_arrival}
@@ -43,7 +20,6 @@ use Rattle.qss_run.proofs.QuietVisits.{rising, rows_then}
 use Rattle.qss_run.proofs.QuietTick.{none_rises_then}
 use Rattle.qss_run.proofs.Touched.{changes, unreached, reached_touched}
 use Rattle.qss_run.proofs.Visits.{stands_again, end_of, both_none, levels_small}
-use Rattle.mu_num.proofs.InPlace.{same_length}
 use Rattle.qss_run.proofs.event_steps.run_event_of_states.Goals as goal
 
 pub requantize_moved-requires-clause-ready : goal.requantize_moved-requires-clause-ready

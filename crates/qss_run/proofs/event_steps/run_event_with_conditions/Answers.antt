@@ -1,52 +1,26 @@
 -- A tick at which conditions change.
-use Rattle.std.proofs.Common.{◌≡◌, ℕ, ◌+◌, ◌≤◌, ◌++◌, List, ℤ, Bool, length, refl, sym, ◌∙◌, ap}
-use Rattle.std.proofs.Common.{subst, arith, rules, true}
-use Rattle.std.proofs.lemmas.List.{with_items_is}
-use Rattle.std.specs.Option.{option_or}
-use Rattle.std.specs.Prelude.{Option, None, Ok, Err, All, position, vec_capacity, is_some}
-use Rattle.std.specs.Vec.{with_items}
-use Rattle.mu_num.specs.Sizes.{IsWithin}
-use Rattle.qss_machine.specs.Handlers.{HandlerState, conditions, truths}
-use Rattle.qss_machine.specs.Machines.{state_count, slope_at, truth}
-use Rattle.mu_num.specs.IndexedSums.{int_at, tabulate, first_exceeding}
-use Rattle.qss_machine.specs.Runs.{level_rows}
-use Rattle.qss_machine.specs.Ticks.{Snapshot, moved_states, handlers_at, exceeds_row_limits}
-use Rattle.qss_machine.specs.Ticks.{AreNextLevels}
-use Rattle.mu_num.specs.ListedPlaces.{flag_at, is_listed, AreRisingBelow, DiffersOnlyAt}
-use Rattle.qss_quant.specs.IntegratorLines.{state_at}
-use Rattle.qss_cross.specs.Crossing.{DetectorView, IsSmall, value_at, holds_at}
-use Rattle.qss_hand.specs.Values.{Values}
-use Rattle.qss_hand.specs.Works.{overflow_of}
-use Rattle.qss_sched.specs.Ranks.{due_at}
-use Rattle.qss_states.specs.RowSums.{AreSumsBefore}
-use Rattle.qss_states.specs.declared.row_sum_changes.RowSum.TheVariants.{Slope}
-use Rattle.qss_run.specs.declared.run_conditions.Conditions.{Conditions}
-use Rattle.qss_run.specs.declared.run_start.Store.{Store}
-use Rattle.qss_states.specs.StateLines.{states_with, line_at, states_at}
-use Rattle.qss_run.specs.HandlerResults.{is_reinitialized, IsHandlerEffect, handling_from}
-use Rattle.qss_states.specs.Variables.{AreAssignedFrom}
-use Rattle.qss_states.specs.EventContexts.{AreMovedTo}
-use Rattle.qss_run.specs.DueLists.{AreAlikeBut}
-use Rattle.qss_run.specs.ConditionPlaces.{detector_at, IsDetectorAt}
-use Rattle.qss_states.specs.LineReplacements.{replaced_lines_from}
-use Rattle.qss_events.specs.AllowedLevels.{IsAllowedLevel}
-use Rattle.qss_events.specs.Schedules.{condition_at}
-use Rattle.qss_events.proofs.Overs.{clash}
-use Rattle.qss_states.specs.KeptWeights.{AreWeights}
-use Rattle.qss_run.specs.Stores.{snapshot_of}
-use Rattle.qss_run.specs.TouchCounts.{touches_at}
+use Rattle.qss_run.proofs.Common
+use Common.{ℕ, ℤ, ◌++◌, ◌+◌, ◌∙◌, ◌≡◌, ◌≤◌, All, ap, AreAlikeBut, AreAssignedFrom, AreMovedTo}
+use Common.{AreNextLevels, AreRisingBelow, AreSumsBefore, AreWeights, arith, Bool, clash}
+use Common.{condition_at, Conditions, conditions, detector_at, DetectorView, DiffersOnlyAt, due_at}
+use Common.{Err, exceeds_row_limits, first_exceeding, flag_at, handlers_at, HandlerState}
+use Common.{handling_from, holds_at, int_at, int_at-states_at, is_listed, is_reinitialized, is_some}
+use Common.{IsAllowedLevel, IsDetectorAt, IsHandlerEffect, IsSmall, IsWithin, length, level_rows}
+use Common.{line_at, List, may_move, moved_states, None, Ok, Option, option_or, overflow_of}
+use Common.{position, refl, replaced_lines_from, rules, same_length, Slope, slope_at, Snapshot}
+use Common.{snapshot_of, state_at, state_count, states_at, states_with, Store, subst, sym, tabulate}
+use Common.{touches_at, true, truth, truths, value_at, Values, vec_capacity, with_items}
+use Common.{with_items_is}
 use Rattle.qss_run.proofs.AfterHandlers.{same_worlds}
 use Rattle.qss_run.proofs.Crossed.{none_early, reinits_known, later_dues, flag_same, rest_as_before}
 use Rattle.qss_run.proofs.Crossed.{watched_then, watched_still, moved_to, near_after, due_after}
 use Rattle.qss_run.proofs.Crossed.{conditions_stay}
-use Rattle.qss_states.proofs.DueLevels.{int_at-states_at, may_move}
 use Rattle.qss_run.proofs.Handled.{rows_handled}
 use Rattle.qss_run.proofs.QuietVisits.{levels_before, lines_then, own_slope, rest_small}
 use Rattle.qss_run.proofs.Reinits.{kept_state}
 use Rattle.qss_run.proofs.Touched.{renewals_from_touched}
 use Rattle.qss_run.proofs.Visits.{arrives, handles_from, both_none, early, late, steps_to, end_of}
 use Rattle.qss_run.proofs.Visits.{levels_small}
-use Rattle.mu_num.proofs.InPlace.{same_length}
 use Rattle.qss_run.proofs.event_steps.run_event_with_conditions.Goals as goal
 
 pub handle_changed_conditions-requires-clause-ready : goal.handle_changed_conditions-requires-clause-ready

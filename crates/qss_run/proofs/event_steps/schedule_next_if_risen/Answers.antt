@@ -1,6 +1,5 @@
 -- Only conditions of the places apart may have become true.
-use Rattle.std.proofs.Common.{length, sym, ◌∙◌, ap, arith}
-use Rattle.mu_num.specs.ListedPlaces.{flag_at, is_listed}
+use Rattle.qss_run.proofs.Common.{◌∙◌, ap, arith, flag_at, is_listed, length, sym}
 use Rattle.qss_run.proofs.event_steps.schedule_next_if_risen.Goals as goal
 
 pub schedule_risen_truth-rising-requires-clause-flipped : goal.schedule_risen_truth-rising-requires-clause-flipped

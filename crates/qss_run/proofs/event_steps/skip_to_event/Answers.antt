@@ -1,19 +1,11 @@
 -- The store is valid just before the next event step.
-use Rattle.std.proofs.Common.{◌≡◌, ℕ, ◌+◌, ◌-◌, ◌<◌, ◌≤◌, Bool, length, refl, ◌∙◌, sym, ap, subst}
-use Rattle.std.proofs.Common.{arith, Vec, Global}
-use Rattle.std.proofs.lemmas.List.{with_items_is}
-use Rattle.std.specs.Prelude.{Some, nat_lt, if◌then◌else◌}
-use Rattle.mu_num.specs.ListedPlaces.{flag_at}
-use Rattle.qss_sched.specs.Ranks.{due_at}
-use Rattle.std.specs.Vec.{with_items}
-use Rattle.qss_run.specs.declared.run_start.Store.{Store}
-use Rattle.qss_events.specs.AllowedLevels.{IsAllowedLevel}
-use Rattle.qss_run.specs.DueLists.{AreAlikeBut}
-use Rattle.qss_sched.specs.PlaceSets.{PlaceList}
-use Rattle.qss_run.specs.Stores.{snapshot_of, IsStoreAt}
-use Rattle.qss_events.specs.EventFreeRuns.{AreEventFree}
+use Rattle.qss_run.proofs.Common
+use Common.{ℕ, ◌+◌, ◌-◌, ◌<◌, ◌∙◌, ◌≡◌, ◌≤◌, ap, AreAlikeBut, AreEventFree, arith, arrived_then}
+use Common.{Bool, due_at, flag_at, Global, if◌then◌else◌, IsAllowedLevel, IsStoreAt, length, nat_lt}
+use Common.{PlaceList, quiet_worlds, refl, snapshot_of, Some, Store, subst, sym, Vec, with_items}
+use Common.{with_items_is}
 use Rattle.qss_run.proofs.Jumps.{next_later, with_arrived, world_then, stands_then, silent_then}
-use Rattle.qss_events.proofs.Silences.{quiet_worlds, arrived_then, arrived_if}
+use Rattle.qss_events.proofs.Silences.{arrived_if}
 use Rattle.qss_run.proofs.event_steps.skip_to_event.Goals as goal
 
 pub overflow_sub-result : goal.overflow_sub-result

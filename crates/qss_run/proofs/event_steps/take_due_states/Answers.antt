@@ -1,6 +1,5 @@
 -- The first places are counted from none on.
-use Rattle.std.proofs.Common.{◌≡◌, ℕ, ◌+◌, ◌∙◌, sym, ap, arith}
-use Rattle.qss_sched.specs.Ranks.{due_at}
+use Rattle.qss_run.proofs.Common.{ℕ, ◌+◌, ◌∙◌, ◌≡◌, ap, arith, due_at, sym}
 use Rattle.qss_run.proofs.event_steps.take_due_states.Goals as goal
 
 counted : (j : ℕ) → 0 + j ≡ j

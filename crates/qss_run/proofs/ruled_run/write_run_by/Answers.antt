@@ -1,4 +1,4 @@
-use Rattle.std.proofs.Common.{◌≡◌, refl, ◌∙◌}
+use Rattle.qss_run.proofs.Common.{◌∙◌, ◌≡◌, refl}
 use Rattle.qss_events.proofs.FromStart.{course_known}
 use Rattle.qss_events.proofs.RuledRuns.{plays, plays_nothing}
 use Rattle.qss_run.proofs.ruled_run.write_run_by.Goals as goal

@@ -1,5 +1,5 @@
 -- One more branch.
-use Rattle.std.proofs.Common.{refl}
+use Rattle.qss_run.proofs.Common.{refl}
 use Rattle.qss_run.proofs.Branches.{place_of, place_more}
 use Rattle.qss_run.proofs.run_conditions.add_condition_branches.Goals as goal
 

@@ -1,5 +1,4 @@
-use Rattle.std.proofs.Common.{◌≡◌, ◌++◌, map}
-use Rattle.std.specs.List.{range_with_len}
+use Rattle.qss_run.proofs.Common.{◌++◌, ◌≡◌, map, range_with_len}
 use Rattle.qss_run.proofs.Branches.{place_of}
 use Rattle.qss_run.proofs.run_conditions.add_condition_branches.Given as goal
 

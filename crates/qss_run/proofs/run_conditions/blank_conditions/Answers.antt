@@ -1,8 +1,6 @@
 -- All lists have one element for each condition.
-use Rattle.std.proofs.Common.{◌≡◌, length, ◌∙◌, ap, arith}
+use Rattle.qss_run.proofs.Common.{◌∙◌, ◌≡◌, ap, arith, conditions, length, PlaceList}
 use Rattle.std.proofs.lemmas.List.{length-replicate}
-use Rattle.qss_machine.specs.Handlers.{conditions}
-use Rattle.qss_sched.specs.PlaceSets.{PlaceList}
 use Rattle.qss_run.proofs.run_conditions.blank_conditions.Goals as goal
 
 pub returns : goal.returns

@@ -1,11 +1,8 @@
 -- The branches of one more clause.
-use Rattle.std.proofs.Common.{◌≡◌, ◌<◌, ◌++◌, List, [], length, map, sym, ◌∙◌, ap, arith, get_or}
-use Rattle.std.proofs.lemmas.List.{get_or_default, take_all}
-use Rattle.std.specs.List.{range_with_len, sum_by}
-use Rattle.qss_machine.specs.declared.machine_parts.ClauseInfo.{ClauseInfo}
-use Rattle.qss_hand.specs.Works.{clause_at}
-use Rattle.qss_hand.proofs.Turns.{clauses_few, length-conditions}
-use Rattle.qss_hand.proofs.Branches.{width_of}
+use Rattle.qss_run.proofs.Common
+use Common.{[], ◌++◌, ◌<◌, ◌∙◌, ◌≡◌, ap, arith, clause_at, ClauseInfo, clauses_few, get_or}
+use Common.{get_or_default, length, length-conditions, List, map, range_with_len, sum_by, sym}
+use Common.{take_all, width_of}
 use Rattle.qss_run.proofs.Branches.{place_of, width_few, count_more, branches_more}
 use Rattle.qss_run.proofs.run_conditions.condition_branch_places.Goals as goal
 

@@ -1,7 +1,5 @@
-use Rattle.std.proofs.Common.{◌≡◌, ℕ, ◌<◌, length, take}
+use Rattle.qss_run.proofs.Common.{ℕ, ◌<◌, ◌≡◌, ClauseInfo, IsBranchOf, length, take}
 use Rattle.std.specs.Prelude.{sum_by}
-use Rattle.qss_machine.specs.declared.machine_parts.ClauseInfo.{ClauseInfo}
-use Rattle.qss_run.specs.ConditionPlaces.{IsBranchOf}
 use Rattle.qss_run.proofs.Branches.{place_at}
 use Rattle.qss_run.proofs.run_conditions.condition_branch_places.Given as goal
 

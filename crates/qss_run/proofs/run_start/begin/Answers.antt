@@ -1,29 +1,14 @@
 -- A store with the initial values represents tick 0.
-use Rattle.std.proofs.Common.{◌≡◌, ◌+◌, ◌++◌, List, Bool, length, ℤ, pos, sym, ◌∙◌, ap, subst}
-use Rattle.std.proofs.Common.{arith}
-use Rattle.std.proofs.lemmas.List.{with_items_is}
-use Rattle.std.specs.List.{list_any}
-use Rattle.std.specs.Prelude.{Some, None, All, position, if◌then◌else◌}
-use Rattle.std.specs.Vec.{with_items}
-use Rattle.mu_num.specs.Sizes.{IsWithin}
-use Rattle.qss_machine.specs.declared.machine_parts.RowKind.TheVariants as kind
-use Rattle.mu_num.specs.IndexedSums.{int_at, tabulate}
-use Rattle.qss_machine.specs.Machines.{state_count, slope_at, start_states, start_discretes}
-use Rattle.mu_num.specs.ListedPlaces.{flag_at}
-use Rattle.qss_machine.specs.Handlers.{truths, firing_flags}
-use Rattle.qss_machine.specs.Ticks.{exceeds_row_limits}
-use Rattle.qss_machine.specs.Runs.{state_rows, discrete_rows}
-use Rattle.qss_sched.specs.Ranks.{due_at}
-use Rattle.qss_hand.specs.Values.{Values}
-use Rattle.qss_run.specs.declared.run_start.Store.{Store}
-use Rattle.qss_states.specs.StateLines.{line_at, IsRestartedFrom, states_at}
-use Rattle.qss_run.specs.ConditionPlaces.{detector_at, IsDetectorAt}
-use Rattle.qss_states.specs.KeptWeights.{AreWeights}
-use Rattle.qss_run.specs.Stores.{FitsMachine}
-use Rattle.qss_events.proofs.Skipped.{settled_twice}
-use Rattle.qss_events.proofs.Starts.{levels_at_start, levels_start, light_at, count_start}
-use Rattle.mu_num.proofs.InPlace.{same_length}
+use Rattle.qss_run.proofs.Common
+use Common.{ℤ, ◌++◌, ◌+◌, ◌∙◌, ◌≡◌, All, ap, AreWeights, arith, Bool, count_start, detector_at}
+use Common.{discrete_rows, due_at, exceeds_row_limits, firing_flags, FitsMachine, flag_at}
+use Common.{if◌then◌else◌, int_at, IsDetectorAt, IsRestartedFrom, IsWithin, length, levels_start}
+use Common.{light_at, line_at, List, list_any, None, pos, position, same_length, settled_twice}
+use Common.{slope_at, Some, start_discretes, start_states, state_count, state_rows, states_at}
+use Common.{Store, subst, sym, tabulate, truths, Values, with_items, with_items_is}
+use Rattle.qss_events.proofs.Starts.{levels_at_start}
 use Rattle.qss_run.proofs.Visits.{stands_again}
+use Rattle.qss_machine.specs.declared.machine_parts.RowKind.TheVariants as kind
 use Rattle.qss_run.proofs.run_start.begin.Goals as goal
 
 pub start-requires-clause-levels : goal.start-requires-clause-levels

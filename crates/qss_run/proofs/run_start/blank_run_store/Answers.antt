@@ -1,16 +1,8 @@
 -- All lists have the machine's lengths.
-use Rattle.std.proofs.Common.{◌≡◌, length, refl, sym, ◌∙◌, ap, subst, arith}
-use Rattle.std.proofs.lemmas.List.{length-map}
-use Rattle.std.specs.Prelude.{All}
-use Rattle.mu_num.specs.Sizes.{IsWithin}
-use Rattle.qss_machine.specs.declared.machine_parts.DiscreteInfo.{DiscreteInfo}
-use Rattle.qss_machine.specs.declared.machine_parts.StateInfo.{StateInfo}
-use Rattle.qss_machine.specs.Machines.{state_count, discrete_count}
-use Rattle.qss_machine.specs.Handlers.{conditions}
-use Rattle.qss_hand.specs.Values.{Values}
-use Rattle.qss_hand.proofs.Turns.{conditions_few}
-use Rattle.qss_events.proofs.Starts.{count_start}
-use Rattle.qss_machine.proofs.StartValues.{states_start, discretes_start}
+use Rattle.qss_run.proofs.Common
+use Common.{◌∙◌, ◌≡◌, All, ap, arith, conditions, conditions_few, count_start, discrete_count}
+use Common.{DiscreteInfo, discretes_start, IsWithin, length, length-map, refl, state_count}
+use Common.{StateInfo, states_start, subst, sym, Values}
 use Rattle.qss_run.proofs.run_start.blank_run_store.Goals as goal
 
 pub overflow_cast-states : goal.overflow_cast-states

@@ -1,26 +1,12 @@
 -- The values of the start are within the limits.
-use Rattle.std.proofs.Common.{◌≡◌, ℕ, ◌+◌, ◌<◌, List, ℤ, length, refl, sym, ◌∙◌, ap, subst, arith}
-use Rattle.std.proofs.lemmas.List.{length-map, with_items_is}
-use Rattle.std.specs.Prelude.{All}
-use Rattle.std.specs.Vec.{with_items}
-use Rattle.mu_num.specs.Sizes.{IsWithin}
-use Rattle.qss_machine.specs.declared.machine_parts.DiscreteInfo.{DiscreteInfo}
-use Rattle.qss_machine.specs.declared.machine_parts.StateInfo.{StateInfo}
-use Rattle.qss_machine.specs.declared.compiled_machine.Machine.{Machine}
-use Rattle.mu_num.specs.IndexedSums.{int_at}
-use Rattle.qss_machine.specs.Machines.{state_count, level_unit, quantum_of, start_states}
-use Rattle.qss_machine.specs.Machines.{start_discretes}
-use Rattle.qss_machine.specs.Handlers.{conditions}
+use Rattle.qss_run.proofs.Common
+use Common.{ℕ, ℤ, ◌+◌, ◌<◌, ◌∙◌, ◌≡◌, All, ap, AreWithin, arith, Conditions, conditions}
+use Common.{count_start, DiscreteInfo, discretes_start, int_at, IsLineWithinQuantum, IsWithin}
+use Common.{length, length-map, level_unit, levels_start, light_at, List, Machine, quantum_of, refl}
+use Common.{same_length, slopes_small, start_discretes, start_states, state_count, StateInfo}
+use Common.{states_start, subst, sym, Values, with_items, with_items_is}
 use Rattle.qss_machine.proofs.Near.{start_near}
-use Rattle.qss_quant.specs.IntegratorLines.{IsLineWithinQuantum}
-use Rattle.qss_hand.specs.Values.{Values}
-use Rattle.qss_run.specs.declared.run_conditions.Conditions.{Conditions}
 use Rattle.qss_run.proofs.OwnConditions.{arrived_anew}
-use Rattle.qss_states.specs.Variables.{AreWithin}
-use Rattle.qss_states.proofs.GoingOn.{slopes_small}
-use Rattle.qss_events.proofs.Starts.{levels_start, light_at, count_start}
-use Rattle.qss_machine.proofs.StartValues.{states_start, discretes_start}
-use Rattle.mu_num.proofs.InPlace.{same_length}
 use Rattle.qss_run.proofs.run_start.start_lines_and_detectors.Goals as goal
 
 -- the values of the start, which are these, are within the limits

@@ -1,15 +1,9 @@
 -- The line is here, and the event queue has its due tick.
-use Rattle.std.proofs.Common.{◌≡◌, ◌∙◌, ℤ, sym, ap, subst, arith, to_z, of_z}
-use Rattle.std.proofs.lemmas.Int.{ints, to_z-of_z}
-use Rattle.std.proofs.lemmas.List.{get_or-set_same}
-use Rattle.std.specs.Int.RustNames.{FitsSigned}
-use Rattle.std.specs.Prelude.{None}
-use Rattle.qss_machine.specs.Machines.{level_unit, quantum_of}
-use Rattle.qss_quant.specs.IntegratorLines.{Line, IsLineWithinQuantum}
-use Rattle.qss_sched.specs.Ranks.{due_at}
-use Rattle.qss_events.specs.Schedules.{IsDue}
+use Rattle.qss_run.proofs.Common
+use Common.{ℤ, ◌∙◌, ◌≡◌, ap, arith, due_at, FitsSigned, get_or-set_same, ints, IsDue}
+use Common.{IsLineWithinQuantum, level_unit, Line, None, of_z, quantum_of, subst, sym, to_z}
+use Common.{to_z-of_z, w128, w64}
 use Rattle.qss_run.proofs.run_start.start_run_line.Goals as goal
-use mir.Syntax.{w64, w128}
 
 pub event_tick_leaving_level-requires-clause-near : goal.event_tick_leaving_level-requires-clause-near
 event_tick_leaving_level-requires-clause-near c =

@@ -1,21 +1,13 @@
 -- One more line goes on.
-use Rattle.std.proofs.Common.{◌≡◌, ◌≢◌, ◌<◌, length, ℤ, pos, ◌∙◌, sym, ap, subst, arith, to_z, of_z}
-use Rattle.std.proofs.lemmas.Int.{ints, to_z-of_z}
-use Rattle.std.proofs.lemmas.List.{length-set}
-use Rattle.std.proofs.lemmas.List.FromFn.{fill_by_all}
-use Rattle.std.specs.Int.RustNames.{FitsSigned}
-use Rattle.mu_num.specs.Sizes.{IsWithin}
-use Rattle.mu_num.specs.IndexedSums.{int_at}
-use Rattle.qss_machine.specs.Machines.{state_count, slope_at}
-use Rattle.qss_quant.specs.IntegratorLines.{Line, state_at}
-use Rattle.qss_sched.specs.Ranks.{due_at}
-use Rattle.qss_states.specs.StateLines.{IsRestartedFrom}
+use Rattle.qss_run.proofs.Common
+use Common.{ℤ, ◌<◌, ◌∙◌, ◌≡◌, ◌≢◌, ap, arith, due_at, fill_by_all, FitsSigned, int_at, ints}
+use Common.{IsRestartedFrom, IsWithin, length, length-set, Line, of_z, pos, slope_at, state_at}
+use Common.{state_count, subst, sym, to_z, to_z-of_z, w128, w64}
 use Rattle.qss_events.proofs.Firsts.{one_more}
 use Rattle.qss_events.proofs.Lines.{line_here}
 use Rattle.qss_events.proofs.LightRows.{row_is_light}
 use Rattle.qss_states.proofs.GoingOn.{is_true, goes_on_more, near_along}
 use Rattle.qss_run.proofs.run_start.start_run_lines.Goals as goal
-use mir.Syntax.{w64, w128}
 
 abbrev line_of : ℤ → ℤ → ℤ → Line
 line_of x slope level = record { tick = 0; x = x; slope = slope; level = level }

@@ -1,8 +1,6 @@
-use Rattle.std.proofs.Common.{◌≡◌, ℕ, ◌<◌, ◌≤◌, length}
-use Rattle.mu_num.specs.IndexedSums.{int_at}
-use Rattle.qss_machine.specs.Machines.{state_count, slope_at}
-use Rattle.qss_sched.specs.Ranks.{due_at}
-use Rattle.qss_states.specs.StateLines.{line_at, IsRestartedFrom}
+use Rattle.qss_run.proofs.Common
+use Common.{ℕ, ◌<◌, ◌≡◌, ◌≤◌, due_at, int_at, IsRestartedFrom, length, line_at, slope_at}
+use Common.{state_count}
 use Rattle.qss_run.proofs.run_start.start_run_lines.Given as goal
 
 -- the lines so far go on, and the others are as they were

@@ -1,9 +1,7 @@
-use Rattle.std.proofs.Common.{◌≡◌, ◌≤◌, ◌^◌, ◌∙◌, refl, rules}
-use Rattle.qss_quant.specs.declared.quantizer.Rule.TheVariants.{Floor}
-use Rattle.qss_events.specs.declared.event_outcome.Outcome.TheVariants.{Events, Done, Over}
-use Rattle.qss_run.specs.RunSummaries.{level_count}
+use Rattle.qss_run.proofs.Common
+use Common.{◌^◌, ◌∙◌, ◌≡◌, ◌≤◌, call_of, Done, done_end, done_left, Events, Floor, level_count}
+use Common.{Over, over_end, over_left, refl, rules}
 use Rattle.qss_run.proofs.Counting.{counts_on, counts_end}
-use Rattle.qss_events.proofs.RunEnds.{call_of, done_left, done_end, over_left, over_end}
 use Rattle.qss_run.proofs.run_summary.count_summary_events.Goals as goal
 
 pub events-preserved : goal.events-preserved

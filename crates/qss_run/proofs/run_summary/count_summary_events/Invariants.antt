@@ -1,6 +1,4 @@
-use Rattle.std.proofs.Common.{◌≡◌, ◌-◌}
-use Rattle.std.specs.Prelude.{Some}
-use Rattle.qss_quant.specs.declared.quantizer.Rule.TheVariants.{Floor}
+use Rattle.qss_run.proofs.Common.{◌-◌, ◌≡◌, Floor, Some}
 use Rattle.qss_run.proofs.Counting.{IsCounting}
 use Rattle.qss_run.proofs.run_summary.count_summary_events.Given as goal
 

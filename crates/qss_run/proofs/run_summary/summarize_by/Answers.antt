@@ -1,4 +1,4 @@
-use Rattle.std.proofs.Common.{◌≡◌, refl, ◌∙◌}
+use Rattle.qss_run.proofs.Common.{◌∙◌, ◌≡◌, refl}
 use Rattle.qss_events.proofs.FromStart.{course_own}
 use Rattle.qss_run.proofs.Counting.{tally_own}
 use Rattle.qss_run.proofs.run_summary.summarize_by.Goals as goal

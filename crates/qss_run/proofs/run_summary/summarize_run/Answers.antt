@@ -1,15 +1,8 @@
-use Rattle.std.proofs.Common.{◌∙◌, ap, sym, subst, ◌<◌, ◌+◌, rules}
-use Rattle.std.proofs.lemmas.Int.{to_z-of_z}
-use Rattle.std.specs.Int.RustNames.{FitsSigned}
-use Rattle.qss_machine.specs.Machines.{state_count, discrete_count}
-use Rattle.qss_machine.specs.declared.compiled_machine.Machine.{Machine}
-use Rattle.qss_events.specs.RunViews.{RunView}
-use Rattle.qss_events.specs.declared.event_outcome.Outcome.{Outcome}
-use Rattle.qss_run.specs.RunSummaries.{IsCountFrom, end_sum}
+use Rattle.qss_run.proofs.Common
+use Common.{◌+◌, ◌<◌, ◌∙◌, ap, discrete_count, end_sum, FitsSigned, IsCountFrom, Machine, of_z}
+use Common.{Outcome, rules, RunView, state_count, subst, sym, to_z, to_z-of_z, w128}
 use Rattle.qss_run.proofs.Counting.{tally_ended, over_own}
 use Rattle.qss_run.proofs.run_summary.summarize_run.Goals as goal
-use mir.Syntax.{w128}
-use mir.Val.{to_z, of_z}
 
 pub count_summary_events-counted-requires : goal.count_summary_events-counted-requires
 count_summary_events-counted-requires g c = record {

@@ -1,10 +1,7 @@
-use Rattle.std.proofs.Common.{◌<◌, ◌^◌, pos, arith, length}
-use Rattle.qss_machine.specs.declared.machine_parts.RowKind.TheVariants as kind
+use Rattle.qss_run.proofs.Common.{◌<◌, ◌^◌, arith, end_level, length, pos, to_z, w128}
 use Rattle.qss_machine.proofs.Loops.{sum_step}
-use Rattle.qss_run.specs.RunSummaries.{end_level}
+use Rattle.qss_machine.specs.declared.machine_parts.RowKind.TheVariants as kind
 use Rattle.qss_run.proofs.run_summary.summary_end_sum.Goals as goal
-use mir.Syntax.{w128}
-use mir.Val.{to_z}
 
 pub loop-row-preserved : goal.loop-row-preserved
 loop-row-preserved c =

@@ -1,5 +1,5 @@
-use Rattle.std.proofs.Common.{◌≡◌, ◌*◌, ◌^◌, ◌≤◌, take, unsigned_abs}
-use Rattle.qss_run.specs.RunSummaries.{end_sum}
+use Rattle.qss_run.proofs.Common.{◌*◌, ◌^◌, ◌≡◌, ◌≤◌, end_sum, take}
+use Rattle.std.proofs.Common.{unsigned_abs}
 use Rattle.qss_run.proofs.run_summary.summary_end_sum.Given as goal
 
 -- the sum so far, which each row changes by at most 2 ^ 63

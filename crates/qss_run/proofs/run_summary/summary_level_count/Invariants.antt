@@ -1,5 +1,4 @@
-use Rattle.std.proofs.Common.{◌≡◌, ◌≤◌, take}
-use Rattle.qss_run.specs.RunSummaries.{level_count}
+use Rattle.qss_run.proofs.Common.{◌≡◌, ◌≤◌, level_count, take}
 use Rattle.qss_run.proofs.run_summary.summary_level_count.Given as goal
 
 -- the number of level rows so far

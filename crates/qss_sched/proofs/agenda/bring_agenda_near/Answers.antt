@@ -1,6 +1,5 @@
 -- What is brought near is due at the same tick as before.
-use Rattle.std.proofs.Common.{◌∙◌, ap, sym}
-use Rattle.qss_sched.specs.Ranks.{due_at}
+use Rattle.qss_sched.proofs.Common.{◌∙◌, ap, due_at, sym}
 use Rattle.qss_sched.proofs.Agendas.{near_at, far_at, given_again}
 use Rattle.qss_sched.proofs.agenda.bring_agenda_near.Goals as goal
 

@@ -1,5 +1,4 @@
-use Rattle.std.proofs.Common.{◌≡◌}
-use Rattle.qss_sched.specs.Agendas.{joined, AreDisjointTicks}
+use Rattle.qss_sched.proofs.Common.{◌≡◌, AreDisjointTicks, joined}
 use Rattle.qss_sched.proofs.agenda.bring_agenda_near.Given as goal
 
 -- far places are moved into the wheel

@@ -1,4 +1,4 @@
-use Rattle.std.proofs.Common.{refl}
+use Rattle.qss_sched.proofs.Common.{refl}
 use Rattle.qss_sched.proofs.Agendas.{near_first, far_first, only_far}
 use Rattle.qss_sched.proofs.agenda.first_in_agenda.Goals as goal
 

@@ -1,5 +1,5 @@
+use Rattle.qss_sched.proofs.Common.{None}
 use Rattle.qss_sched.proofs.Agendas.{set_joined}
-use Rattle.std.proofs.Common.{None}
 use Rattle.qss_sched.proofs.agenda.set_far_in_agenda.Goals as goal
 
 pub returns-clause-given : goal.returns-clause-given

@@ -1,7 +1,7 @@
-use Rattle.std.proofs.Common.{◌≡◌, length, ap, sym, ◌∙◌, arith}
+use Rattle.qss_sched.proofs.Common.{◌∙◌, ◌≡◌, ap, arith, length, sym}
 use Rattle.qss_sched.proofs.Agendas.{length_joined}
-use Rattle.qss_sched.proofs.agenda.set_in_agenda.Goals as goal
 use Rattle.qss_sched.proofs.agenda.set_in_agenda.Goals.{in-Some+else-set_near_in_agenda, in_default}
+use Rattle.qss_sched.proofs.agenda.set_in_agenda.Goals as goal
 
 pub set_far_in_agenda-requires-clause-place : goal.set_far_in_agenda-requires-clause-place
 set_far_in_agenda-requires-clause-place c =

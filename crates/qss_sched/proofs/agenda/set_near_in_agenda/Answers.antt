@@ -1,5 +1,5 @@
 -- Where a place has a near due tick nothing changes far.
-use Rattle.std.proofs.Common.{Some, None, sym, ◌∙◌}
+use Rattle.qss_sched.proofs.Common.{◌∙◌, None, Some, sym}
 use Rattle.qss_sched.proofs.Agendas.{set_joined, near_given, no_far}
 use Rattle.qss_sched.proofs.agenda.set_near_in_agenda.Goals as goal
 

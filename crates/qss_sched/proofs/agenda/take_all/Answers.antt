@@ -1,5 +1,5 @@
 -- Where none is far that is due the near ones are taken.
-use Rattle.std.proofs.Common.{refl}
+use Rattle.qss_sched.proofs.Common.{refl}
 use Rattle.qss_sched.proofs.Agendas.{near_at, far_at}
 use Rattle.qss_sched.proofs.Takes.{apart_still, near_all_taken}
 use Rattle.qss_sched.proofs.agenda.take_all.Goals as goal

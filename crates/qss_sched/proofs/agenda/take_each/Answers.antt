@@ -1,7 +1,6 @@
 -- One more is taken.
-use Rattle.std.proofs.Common.{◌+◌, set, sym, ◌∙◌, subst, arith}
-use Rattle.std.specs.Prelude.{None}
-use Rattle.qss_sched.specs.Agendas.{joined, ArePartTaken}
+use Rattle.qss_sched.proofs.Common
+use Common.{◌+◌, ◌∙◌, ArePartTaken, arith, joined, None, slice_set as set, subst, sym}
 use Rattle.qss_sched.proofs.Takes.{none_before_still, one_taken}
 use Rattle.qss_sched.proofs.agenda.take_each.Goals as goal
 

@@ -1,6 +1,5 @@
-use Rattle.std.proofs.Common.{◌≡◌}
-use Rattle.std.specs.Prelude.{vec_len, vec_capacity}
-use Rattle.qss_sched.specs.Agendas.{joined, AreDisjointTicks, ArePartTaken}
+use Rattle.qss_sched.proofs.Common
+use Common.{◌≡◌, AreDisjointTicks, ArePartTaken, joined, vec_capacity, vec_len}
 use Rattle.qss_sched.proofs.agenda.take_each.Given as goal
 
 -- the places taken so far

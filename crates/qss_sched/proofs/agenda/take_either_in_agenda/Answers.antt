@@ -1,6 +1,5 @@
 -- The lesser of the first near and the first far place is taken.
-use Rattle.std.proofs.Common.{◌≡◌, ◌∙◌, ap}
-use Rattle.std.specs.Option.{unwrap_or}
+use Rattle.qss_sched.proofs.Common.{◌∙◌, ◌≡◌, ap, unwrap_or}
 use Rattle.qss_sched.proofs.Agendas.{near_at, far_at, near_taken, far_taken, neither_taken}
 use Rattle.qss_sched.proofs.agenda.take_either_in_agenda.Goals as goal
 

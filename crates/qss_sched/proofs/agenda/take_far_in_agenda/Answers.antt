@@ -1,6 +1,5 @@
 -- What is due is the same after some of it was brought near.
-use Rattle.std.proofs.Common.{◌∙◌, ap, sym, refl}
-use Rattle.qss_sched.specs.Ranks.{due_at}
+use Rattle.qss_sched.proofs.Common.{◌∙◌, ap, due_at, refl, sym}
 use Rattle.qss_sched.proofs.Agendas.{near_at, far_at}
 use Rattle.qss_sched.proofs.Takes.{apart_still, near_all_taken}
 use Rattle.qss_sched.proofs.agenda.take_far_in_agenda.Goals as goal

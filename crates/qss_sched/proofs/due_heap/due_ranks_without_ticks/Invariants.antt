@@ -1,5 +1,5 @@
 -- The ranks so far.
-use Rattle.std.proofs.Common.{◌≡◌, ◌<◌, ◌+◌, ◌^◌, ℕ, vec_len, get_or}
+use Rattle.qss_sched.proofs.Common.{ℕ, ◌+◌, ◌<◌, ◌^◌, ◌≡◌, get_or, vec_len}
 use Rattle.qss_sched.proofs.due_heap.due_ranks_without_ticks.Given as goal
 
 abbrev pub invariant-loop-place : goal.invariant-loop-place

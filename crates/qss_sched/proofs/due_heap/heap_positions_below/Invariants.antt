@@ -1,5 +1,5 @@
 -- The numbers so far.
-use Rattle.std.proofs.Common.{◌≡◌, ◌<◌, ℕ, vec_len, get_or}
+use Rattle.qss_sched.proofs.Common.{ℕ, ◌<◌, ◌≡◌, get_or, vec_len}
 use Rattle.qss_sched.proofs.due_heap.heap_positions_below.Given as goal
 
 abbrev pub invariant-loop-number : goal.invariant-loop-number

@@ -1,7 +1,5 @@
 -- The rank is not less than the one above the hole.
-use Rattle.std.proofs.Common.{◌-◌, length}
-use Rattle.std.specs.Prelude.{slice_index, slice_set}
-use Rattle.qss_sched.specs.Heaps.{IsAboveOrdered}
+use Rattle.qss_sched.proofs.Common.{◌-◌, IsAboveOrdered, length, slice_index, slice_set}
 use Rattle.qss_sched.proofs.Holes.{IsHole}
 use Rattle.qss_sched.proofs.due_heap.sift_down_heap.Given as goal
 

@@ -1,7 +1,5 @@
 -- The rank is not more than those below the hole.
-use Rattle.std.proofs.Common.{length}
-use Rattle.std.specs.Prelude.{slice_index, slice_set}
-use Rattle.qss_sched.specs.Heaps.{IsBelowOrdered}
+use Rattle.qss_sched.proofs.Common.{IsBelowOrdered, length, slice_index, slice_set}
 use Rattle.qss_sched.proofs.Holes.{IsHole}
 use Rattle.qss_sched.proofs.due_heap.sift_up_heap.Given as goal
 

@@ -1,5 +1,4 @@
-use Rattle.std.proofs.Common.{◌≡◌, ◌≤◌, replicate}
-use Rattle.std.specs.Prelude.{vec_len, vec_capacity}
+use Rattle.qss_sched.proofs.Common.{◌≡◌, ◌≤◌, replicate, vec_capacity, vec_len}
 use Rattle.qss_sched.proofs.equal_lists.repeat_value.Given as goal
 
 -- the elements so far

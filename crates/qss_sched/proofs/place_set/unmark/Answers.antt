@@ -1,6 +1,5 @@
 -- One more mark is taken away.
-use Rattle.std.proofs.Common.{◌≡◌, ◌<◌, false, length, get_or, refl, arith}
-use Rattle.std.proofs.lemmas.Bool.{both_ways}
+use Rattle.qss_sched.proofs.Common.{◌<◌, ◌≡◌, arith, both_ways, false, get_or, length, refl}
 use Rattle.mu_num.proofs.Writes.{written_more, written_all}
 use Rattle.qss_sched.proofs.place_set.unmark.Goals as goal
 

@@ -1,5 +1,5 @@
-use Rattle.std.proofs.Common.{◌≡◌, false, take}
-use Rattle.mu_num.specs.Writes.{IsWritten}
+use Rattle.qss_sched.proofs.Common.{◌≡◌, false, IsWritten}
+use Rattle.std.proofs.Common.{take}
 use Rattle.qss_sched.proofs.place_set.unmark.Given as goal
 
 -- the marks so far

@@ -1,7 +1,6 @@
 -- The place is removed from its slot and added to the other one.
-use Rattle.std.proofs.Common.{Some, None, ap, ◌∙◌}
+use Rattle.qss_sched.proofs.Common.{◌∙◌, ap, None, slice_set, Some}
 use Rattle.std.proofs.lemmas.List.{set-set}
-use Rattle.std.specs.Prelude.{slice_set}
 use Rattle.qss_sched.proofs.wheel.move_in_wheel.Goals as goal
 
 pub put_in_wheel-requires-clause-wheel : goal.put_in_wheel-requires-clause-wheel

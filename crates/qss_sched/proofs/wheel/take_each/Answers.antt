@@ -1,6 +1,5 @@
 -- Where no place is left at the slot of the base all that were due are taken.
-use Rattle.std.proofs.Common.{◌+◌}
-use Rattle.std.specs.Prelude.{vec_len}
+use Rattle.qss_sched.proofs.Common.{◌+◌, vec_len}
 use Rattle.qss_sched.proofs.Takes.{all_taken}
 use Rattle.qss_sched.proofs.Wheels.{none_at_base}
 use Rattle.qss_sched.proofs.wheel.take_each.Goals as goal

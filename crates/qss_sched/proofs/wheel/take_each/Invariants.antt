@@ -1,7 +1,4 @@
-use Rattle.std.proofs.Common.{◌≡◌, ◌≤◌}
-use Rattle.std.specs.Prelude.{vec_len, vec_capacity}
-use Rattle.qss_sched.specs.Wheels.{IsWheel}
-use Rattle.qss_sched.specs.Agendas.{ArePartTaken}
+use Rattle.qss_sched.proofs.Common.{◌≡◌, ◌≤◌, ArePartTaken, IsWheel, vec_capacity, vec_len}
 use Rattle.qss_sched.proofs.wheel.take_each.Given as goal
 
 -- the places taken so far

@@ -1,5 +1,5 @@
 -- What is at the slot of the base is due then.
-use Rattle.std.proofs.Common.{refl}
+use Rattle.qss_sched.proofs.Common.{refl}
 use Rattle.qss_sched.proofs.Wheels.{due_at_base, none_at_base, none_before_place}
 use Rattle.qss_sched.proofs.wheel.take_first_in_wheel.Goals as goal
 

@@ -1,10 +1,7 @@
 -- The lowest bit that is left is the first place that is due at the base.
-use Rattle.std.proofs.Common.{◌+◌, ◌-◌, ◌*◌, ◌%◌, ◌<◌, inl, inr, set, refl, sym, ◌∙◌, ap, subst, arith}
-use Rattle.std.proofs.lemmas.List.{set-get_or}
-use Rattle.std.specs.Prelude.{None, length, slice_set, vec_len}
-use Rattle.qss_sched.specs.Ranks.{IsLeast}
-use Rattle.qss_sched.specs.Wheels.{IsWheel}
-use Rattle.qss_sched.specs.Agendas.{ArePartTaken}
+use Rattle.qss_sched.proofs.Common
+use Common.{◌%◌, ◌*◌, ◌+◌, ◌-◌, ◌<◌, ◌∙◌, ap, ArePartTaken, arith, inl, inr, IsLeast, IsWheel}
+use Common.{length, None, refl, set-get_or, slice_set, slice_set as set, subst, sym, vec_len}
 use Rattle.qss_sched.proofs.Least.{has_place}
 use Rattle.qss_sched.proofs.Takes.{one_taken}
 use Rattle.qss_sched.proofs.Wheels.{due_at_base}

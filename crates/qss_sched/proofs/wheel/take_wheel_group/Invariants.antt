@@ -1,8 +1,6 @@
-use Rattle.std.proofs.Common.{◌≡◌, ℕ, ◌+◌, ◌*◌, ◌%◌, ◌<◌, ◌≤◌, ◌⊎◌, List, Option, Some}
-use Rattle.std.specs.Prelude.{slice_index, slice_set, vec_len, vec_capacity}
-use Rattle.qss_sched.specs.Ranks.{due_at}
-use Rattle.qss_sched.specs.Wheels.{IsWheel}
-use Rattle.qss_sched.specs.Agendas.{ArePartTaken}
+use Rattle.qss_sched.proofs.Common
+use Common.{ℕ, ◌%◌, ◌*◌, ◌+◌, ◌<◌, ◌≡◌, ◌≤◌, ◌⊎◌, ArePartTaken, due_at, IsWheel, List, Option}
+use Common.{slice_index, slice_set, Some, vec_capacity, vec_len}
 use Rattle.qss_sched.proofs.wheel.take_wheel_group.Given as goal
 
 -- the places taken so far

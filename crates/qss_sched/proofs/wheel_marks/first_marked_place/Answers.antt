@@ -1,4 +1,4 @@
-use Rattle.std.proofs.Common.{refl}
+use Rattle.qss_sched.proofs.Common.{refl}
 use Rattle.qss_sched.proofs.Firsts.{place_found}
 use Rattle.qss_sched.proofs.wheel_marks.first_marked_place.Goals as goal
 

@@ -1,9 +1,6 @@
-use Rattle.std.proofs.Common.{ap, ◌∙◌, w64}
-use Rattle.std.proofs.lemmas.List.{get_or-set_same, get_or-set_other}
-use Rattle.std.proofs.lemmas.Nat.Bits.{bit_at_set_same, bit_at_set_other}
-use Rattle.std.proofs.Math.ListN.{length-set}
-use Rattle.std.specs.Prelude.{slice_index}
-use Rattle.std.specs.Int.{bit_at}
+use Rattle.qss_sched.proofs.Common
+use Common.{◌∙◌, ap, bit_at, bit_at_set_other, bit_at_set_same, get_or-set_other, get_or-set_same}
+use Common.{length-set, slice_index, w64}
 use Rattle.qss_sched.proofs.wheel_marks.mark.Goals as goal
 
 pub returns : goal.returns

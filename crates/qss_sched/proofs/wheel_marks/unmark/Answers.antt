@@ -1,9 +1,6 @@
-use Rattle.std.proofs.Common.{ap, ◌∙◌, w64}
-use Rattle.std.proofs.lemmas.List.{get_or-set_same, get_or-set_other}
-use Rattle.std.proofs.lemmas.Nat.Bits.{bit_at_clear_same, bit_at_clear_other}
-use Rattle.std.proofs.Math.ListN.{length-set}
-use Rattle.std.specs.Prelude.{slice_index}
-use Rattle.std.specs.Int.{bit_at}
+use Rattle.qss_sched.proofs.Common
+use Common.{◌∙◌, ap, bit_at, bit_at_clear_other, bit_at_clear_same, get_or-set_other}
+use Common.{get_or-set_same, length-set, slice_index, w64}
 use Rattle.qss_sched.proofs.wheel_marks.unmark.Goals as goal
 
 pub returns-clause-unmarked : goal.returns-clause-unmarked

@@ -1,5 +1,5 @@
 -- So far no word has a bit.
-use Rattle.std.proofs.Common.{◌≡◌, ℕ, vec_len, get_or}
+use Rattle.qss_sched.proofs.Common.{ℕ, ◌≡◌, get_or, vec_len}
 use Rattle.qss_sched.proofs.wheel_marks.zero_mark_words.Given as goal
 
 abbrev pub invariant-loop : goal.invariant-loop

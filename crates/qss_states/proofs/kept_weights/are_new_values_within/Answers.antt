@@ -1,6 +1,5 @@
 -- Places of discrete variables come after those of states.
-use Rattle.std.proofs.Common.{sym, subst, arith}
-use Rattle.qss_states.specs.SafeBounds.{AreUpToAt}
+use Rattle.qss_states.proofs.Common.{AreUpToAt, arith, subst, sym}
 use Rattle.qss_states.proofs.kept_weights.are_new_values_within.Goals as goal
 
 pub are_places_within-requires-clause-from : goal.are_places_within-requires-clause-from

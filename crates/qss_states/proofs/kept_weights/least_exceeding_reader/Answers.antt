@@ -1,10 +1,7 @@
 -- The rows that read one more variable.
-use Rattle.std.proofs.Common.{◌≡◌, ℕ, ◌+◌, ◌<◌, ◌++◌, List, [], length, take, get_or, sym, ap, ◌∙◌}
-use Rattle.std.proofs.Common.{subst, append_assoc, append-nil}
-use Rattle.std.proofs.lemmas.List.{take_all}
-use Rattle.std.specs.Prelude.{All, flat_map}
-use Rattle.qss_states.specs.RowLimits.{IsLeastPast}
-use Rattle.qss_machine.proofs.Among.{lists_more}
+use Rattle.qss_states.proofs.Common
+use Common.{[], ℕ, ◌++◌, ◌+◌, ◌<◌, ◌∙◌, ◌≡◌, All, ap, append-nil, append_assoc, flat_map, get_or}
+use Common.{IsLeastPast, length, List, lists_more, subst, sym, take, take_all}
 use Rattle.qss_states.proofs.kept_weights.least_exceeding_reader.Goals as goal
 
 pub loop-var-init : goal.loop-var-init

@@ -1,6 +1,5 @@
-use Rattle.std.proofs.Common.{ℕ, List, [], ◌++◌, take}
-use Rattle.std.specs.Prelude.{flat_map, slice_index_or}
-use Rattle.qss_states.specs.RowLimits.{IsLeastPast}
+use Rattle.qss_states.proofs.Common
+use Common.{[], ℕ, ◌++◌, flat_map, get_or as slice_index_or, IsLeastPast, List, take}
 use Rattle.qss_states.proofs.kept_weights.least_exceeding_reader.Given as goal
 
 -- the least one so far

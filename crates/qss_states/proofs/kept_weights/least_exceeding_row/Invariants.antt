@@ -1,5 +1,4 @@
-use Rattle.std.proofs.Common.{ℕ, List, ◌++◌, take}
-use Rattle.qss_states.specs.RowLimits.{IsLeastPast}
+use Rattle.qss_states.proofs.Common.{ℕ, ◌++◌, IsLeastPast, List, take}
 use Rattle.qss_states.proofs.kept_weights.least_exceeding_row.Given as goal
 
 -- the least one so far

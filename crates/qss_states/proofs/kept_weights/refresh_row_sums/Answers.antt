@@ -1,20 +1,11 @@
 -- A row that reads no moved state is as light as before.
-use Rattle.std.proofs.Common.{◌≡◌, ℕ, ◌+◌, ◌<◌, List, [], length, ℤ, sym, ap, ◌∙◌, subst, arith}
-use Rattle.std.proofs.lemmas.List.FromFn.{length-map-range_with_len}
-use Rattle.std.specs.Prelude.{All, flat_map}
-use Rattle.qss_machine.specs.Machines.{state_count, discrete_count, row_at, weight_at}
-use Rattle.mu_num.specs.IndexedSums.{int_at}
-use Rattle.qss_machine.specs.Ticks.{exceeds_row_limits}
-use Rattle.qss_machine.specs.Readers.{reading_rows}
-use Rattle.qss_states.specs.RowLimits.{IsLeastPast}
-use Rattle.qss_events.specs.Schedules.{no_row}
-use Rattle.qss_machine.proofs.Among.{among_readers}
+use Rattle.qss_states.proofs.Common
+use Common.{[], ℕ, ℤ, ◌+◌, ◌<◌, ◌∙◌, ◌≡◌, All, among_readers, ap, arith, discrete_count}
+use Common.{exceeds_row_limits, flat_map, int_at, int_at-tabulate, IsLeastPast, length}
+use Common.{length-map-range_with_len, List, no_row, none_passes, reading_rows, row_at}
+use Common.{row_is_light, rows_below, rows_kept_all, rows_many, state_count, subst, sym, unread_at}
+use Common.{unread_overweight, weight_at}
 use Rattle.qss_states.proofs.Least.{least_none, passes_by_weight, least_is}
-use Rattle.mu_num.proofs.Tables.{int_at-tabulate}
-use Rattle.qss_events.proofs.Ranges.{none_passes}
-use Rattle.qss_machine.proofs.KeptReaders.{rows_many, rows_below, rows_kept_all}
-use Rattle.qss_machine.proofs.Unread.{unread_at, unread_overweight}
-use Rattle.qss_events.proofs.LightRows.{row_is_light}
 use Rattle.qss_states.proofs.kept_weights.refresh_row_sums.Goals as goal
 
 pub least_exceeding_reader-requires-clause-variables : goal.least_exceeding_reader-requires-clause-variables

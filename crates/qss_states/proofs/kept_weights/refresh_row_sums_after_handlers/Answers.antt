@@ -1,16 +1,10 @@
 -- A row that reads no moved state and no assigned variable is as light as before.
-use Rattle.std.proofs.Common.{◌≡◌, ℕ, ◌+◌, ◌<◌, List, [], ◌++◌, length, ℤ, sym, ap, ◌∙◌, subst}
-use Rattle.std.proofs.Common.{arith}
-use Rattle.std.proofs.lemmas.List.FromFn.{length-map-range_with_len}
-use Rattle.std.specs.List.{position}
-use Rattle.std.specs.Prelude.{All, flat_map}
-use Rattle.qss_machine.specs.Machines.{state_count, discrete_count, weight_at}
-use Rattle.qss_machine.specs.Ticks.{exceeds_row_limits}
-use Rattle.qss_machine.specs.Readers.{reading_rows}
-use Rattle.qss_states.specs.RowLimits.{IsLeastPast}
+use Rattle.qss_states.proofs.Common
+use Common.{[], ℕ, ℤ, ◌++◌, ◌+◌, ◌<◌, ◌∙◌, ◌≡◌, All, ap, arith, discrete_count, exceeds_row_limits}
+use Common.{flat_map, IsLeastPast, length, length-map-range_with_len, List, position, reading_rows}
+use Common.{rows_below, rows_kept_all, rows_many, state_count, subst, sym, weight_at}
 use Rattle.qss_states.proofs.Least.{least_none, least_is}
 use Rattle.qss_states.proofs.Shifting.{at_before, levels_after}
-use Rattle.qss_machine.proofs.KeptReaders.{rows_many, rows_below, rows_kept_all}
 use Rattle.qss_states.proofs.Weighed.{many_after, weighed_passes, others_light, all_weighed}
 use Rattle.qss_states.proofs.kept_weights.refresh_row_sums_after_handlers.Goals as goal
 

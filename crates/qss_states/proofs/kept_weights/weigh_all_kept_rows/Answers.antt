@@ -1,8 +1,6 @@
 -- One more absolute row sum.
-use Rattle.std.proofs.Common.{◌<◌, ℕ, pos, arith}
-use Rattle.std.proofs.lemmas.List.FromFn.{fill_by_all}
-use Rattle.qss_machine.specs.Machines.{state_count, weight_at}
-use Rattle.qss_events.proofs.LightRows.{row_is_light}
+use Rattle.qss_states.proofs.Common
+use Common.{ℕ, ◌<◌, arith, fill_by_all, pos, row_is_light, state_count, weight_at}
 use Rattle.qss_states.proofs.GoingOn.{is_true}
 use Rattle.qss_states.proofs.kept_weights.weigh_all_kept_rows.Goals as goal
 

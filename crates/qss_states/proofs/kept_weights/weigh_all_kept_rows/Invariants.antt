@@ -1,6 +1,4 @@
-use Rattle.std.proofs.Common.{◌≡◌, ℕ, ◌<◌, length}
-use Rattle.qss_machine.specs.Machines.{state_count, weight_at}
-use Rattle.mu_num.specs.IndexedSums.{int_at}
+use Rattle.qss_states.proofs.Common.{ℕ, ◌<◌, ◌≡◌, int_at, length, state_count, weight_at}
 use Rattle.qss_states.proofs.kept_weights.weigh_all_kept_rows.Given as goal
 
 -- the absolute row sums of the rows so far

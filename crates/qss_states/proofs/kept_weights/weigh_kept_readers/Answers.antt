@@ -1,13 +1,8 @@
 -- The rows that read an assigned variable are marked and then weighed.
-use Rattle.std.proofs.Common.{ℕ, ℤ, ◌+◌, ◌<◌, List, [], length, flat_map, ◌∙◌, subst}
-use Rattle.std.proofs.Common.{arith}
-use Rattle.std.proofs.lemmas.List.{get_or_default}
-use Rattle.std.specs.Prelude.{All}
-use Rattle.qss_machine.specs.Machines.{state_count, discrete_count}
-use Rattle.qss_machine.specs.Readers.{reading_rows}
-use Rattle.qss_states.specs.RowLimits.{IsWeighed}
-use Rattle.qss_machine.proofs.KeptReaders.{rows_many, rows_below, rows_kept_all}
-use Rattle.qss_states.specs.SumMarks.{AreMarked}
+use Rattle.qss_states.proofs.Common
+use Common.{[], ℕ, ℤ, ◌+◌, ◌<◌, ◌∙◌, All, AreMarked, arith, discrete_count, flat_map}
+use Common.{get_or_default, IsWeighed, length, List, reading_rows, rows_below, rows_kept_all}
+use Common.{rows_many, state_count, subst}
 use Rattle.qss_states.proofs.Marked.{all_marked, written_over}
 use Rattle.qss_states.proofs.kept_weights.weigh_kept_readers.Goals as goal
 

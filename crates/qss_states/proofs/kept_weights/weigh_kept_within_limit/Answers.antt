@@ -1,21 +1,11 @@
 -- One more row that exceeds no limit, or the first one that does.
-use Rattle.std.proofs.Common.{◌≡◌, ℕ, ◌<◌, true, false, length, ℤ, pos, sym, ◌∙◌, arith, set}
-use Rattle.std.proofs.Common.{below_more, to_z, of_z}
-use Rattle.std.proofs.lemmas.Int.{to_z-of_z}
-use Rattle.std.proofs.lemmas.List.{length-set, get_or-set_same, get_or-set_other}
-use Rattle.std.proofs.lemmas.List.FromFn.{fill_by_all}
-use Rattle.std.specs.Int.RustNames.{FitsSigned}
-use Rattle.mu_num.specs.Sizes.{exceeds}
-use Rattle.qss_machine.specs.Machines.{state_count, row_at, weight_at}
-use Rattle.mu_num.specs.IndexedSums.{int_at}
-use Rattle.qss_machine.specs.Slopes.{mode_fits}
-use Rattle.qss_machine.specs.Ticks.{exceeds_row_limits}
-use Rattle.qss_events.specs.Schedules.{no_row}
-use Rattle.qss_events.proofs.Firsts.{first_is}
-use Rattle.qss_events.proofs.Ranges.{position-none}
+use Rattle.qss_states.proofs.Common
+use Common.{ℕ, ℤ, ◌<◌, ◌∙◌, ◌≡◌, arith, below_more, exceeds, exceeds_row_limits, false, fill_by_all}
+use Common.{first_is, FitsSigned, get_or-set_other, get_or-set_same, int_at, length, length-set}
+use Common.{mode_fits, no_row, of_z, pos, position-none, row_at, set, state_count, sym, to_z}
+use Common.{to_z-of_z, true, w128, weight_at}
 use Rattle.qss_states.proofs.Weighed.{by_modes, weight_kept}
 use Rattle.qss_states.proofs.kept_weights.weigh_kept_within_limit.Goals as goal
-use mir.Syntax.{w128}
 
 pub returns-then-exceeds_power_of_two : goal.returns-then-exceeds_power_of_two
 returns-then-exceeds_power_of_two c =

@@ -1,7 +1,5 @@
-use Rattle.std.proofs.Common.{◌≡◌, ℕ, ◌<◌, false, length}
-use Rattle.qss_machine.specs.Machines.{state_count, row_at, weight_at}
-use Rattle.mu_num.specs.IndexedSums.{int_at}
-use Rattle.qss_machine.specs.Ticks.{exceeds_row_limits}
+use Rattle.qss_states.proofs.Common
+use Common.{ℕ, ◌<◌, ◌≡◌, exceeds_row_limits, false, int_at, length, row_at, state_count, weight_at}
 use Rattle.qss_states.proofs.kept_weights.weigh_kept_within_limit.Given as goal
 
 -- the rows so far exceed no limit, and have their absolute row sums

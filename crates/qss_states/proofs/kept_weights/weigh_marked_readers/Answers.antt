@@ -1,17 +1,8 @@
 -- The rows that read one more variable are weighed.
-use Rattle.std.proofs.Common.{◌≡◌, ℕ, ℤ, ◌+◌, ◌<◌, true, List, pos, get_or, take, flat_map, sym}
-use Rattle.std.proofs.Common.{◌∙◌, subst, arith}
-use Rattle.std.proofs.lemmas.List.{take_all}
-use Rattle.std.specs.Prelude.{All}
-use Rattle.qss_machine.specs.Machines.{state_count, discrete_count}
-use Rattle.qss_machine.specs.Readers.{reading_rows}
-use Rattle.mu_num.specs.ListedPlaces.{is_listed}
-use Rattle.mu_num.specs.Writes.{IsWritten}
-use Rattle.mu_num.proofs.Writes.{written_on}
-use Rattle.qss_machine.proofs.Among.{lists_more}
-use Rattle.qss_machine.proofs.KeptReaders.{rows_many, rows_kept, rows_below}
-use Rattle.qss_states.specs.RowLimits.{IsWeighed}
-use Rattle.qss_states.specs.SumMarks.{AreReaderSums}
+use Rattle.qss_states.proofs.Common
+use Common.{ℕ, ℤ, ◌+◌, ◌<◌, ◌∙◌, ◌≡◌, All, AreReaderSums, arith, discrete_count, flat_map, get_or}
+use Common.{is_listed, IsWeighed, IsWritten, List, lists_more, pos, reading_rows, rows_below}
+use Common.{rows_kept, rows_many, state_count, subst, sym, take, take_all, true, written_on}
 use Rattle.qss_states.proofs.Marked.{among_one, some_of_them, still_known}
 use Rattle.qss_states.proofs.kept_weights.weigh_marked_readers.Goals as goal
 

@@ -1,6 +1,4 @@
-use Rattle.std.proofs.Common.{take}
-use Rattle.qss_states.specs.RowLimits.{IsWeighed}
-use Rattle.qss_states.specs.SumMarks.{AreReaderSums}
+use Rattle.qss_states.proofs.Common.{AreReaderSums, IsWeighed, take}
 use Rattle.qss_states.proofs.kept_weights.weigh_marked_readers.Given as goal
 
 -- the absolute row sums of the rows that read one of the variables so far

@@ -1,15 +1,9 @@
 -- The absolute row sum of one more row, which is known already or computed.
-use Rattle.std.proofs.Common.{◌<◌, ℕ, pos, length, get_or, sym, ap, subst, arith}
-use Rattle.std.proofs.lemmas.Bool.{iff_false}
-use Rattle.std.proofs.lemmas.Int.{to_z-of_z}
-use Rattle.std.specs.Int.RustNames.{FitsSigned}
-use Rattle.qss_machine.specs.Machines.{state_count}
-use Rattle.qss_states.specs.RowLimits.{IsWeighed}
-use Rattle.mu_num.proofs.Writes.{written_more, among_at}
+use Rattle.qss_states.proofs.Common
+use Common.{ℕ, ◌<◌, among_at, ap, arith, FitsSigned, get_or, iff_false, IsWeighed, length, of_z}
+use Common.{pos, state_count, subst, sym, to_z, to_z-of_z, w128, written_more}
 use Rattle.qss_states.proofs.Marked.{still_known, one_known}
 use Rattle.qss_states.proofs.kept_weights.weigh_marked_rows.Goals as goal
-use mir.Syntax.{w128}
-use mir.Val.{to_z, of_z}
 
 pub loop-row-preserved-then-not-is_sum_marked : goal.loop-row-preserved-then-not-is_sum_marked
 loop-row-preserved-then-not-is_sum_marked c =

@@ -1,6 +1,4 @@
-use Rattle.std.proofs.Common.{take, pos}
-use Rattle.qss_states.specs.RowLimits.{IsWeighed}
-use Rattle.mu_num.specs.Writes.{IsWritten}
+use Rattle.qss_states.proofs.Common.{IsWeighed, IsWritten, pos, take}
 use Rattle.qss_states.proofs.kept_weights.weigh_marked_rows.Given as goal
 
 -- the absolute row sums of the rows so far

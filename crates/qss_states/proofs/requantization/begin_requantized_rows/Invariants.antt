@@ -1,5 +1,4 @@
-use Rattle.std.proofs.Common.{◌≡◌, take}
-use Rattle.std.specs.Prelude.{vec_len, vec_capacity}
+use Rattle.qss_states.proofs.Common.{◌≡◌, take, vec_capacity, vec_len}
 use Rattle.qss_states.proofs.requantization.begin_requantized_rows.Given as goal
 
 -- the rows so far

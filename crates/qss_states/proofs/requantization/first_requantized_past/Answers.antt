@@ -1,7 +1,6 @@
 -- The first that was found stays, and else this one is it where it is above its limit.
-use Rattle.std.proofs.Common.{◌≡◌, ℕ, Bool, refl, sym, ◌∙◌, ap}
-use Rattle.std.specs.Option.{option_or}
-use Rattle.std.specs.Prelude.{Option, Some, None, if◌then◌else◌}
+use Rattle.qss_states.proofs.Common
+use Common.{ℕ, ◌∙◌, ◌≡◌, ap, Bool, if◌then◌else◌, None, Option, option_or, refl, Some, sym}
 use Rattle.qss_states.proofs.requantization.first_requantized_past.Goals as goal
 
 or_none : (o : Option ℕ) → option_or o None ≡ o

@@ -1,16 +1,10 @@
 -- One more state arrives.
-use Rattle.std.proofs.Common.{◌≡◌, ◌+◌, ◌<◌, ℕ, ℤ, false, length, get_or, pos, refl, sym, ◌∙◌, ap}
-use Rattle.std.proofs.Common.{subst, arith}
-use Rattle.std.proofs.lemmas.Int.{to_z-of_z}
+use Rattle.qss_states.proofs.Common
+use Common.{ℕ, ℤ, ◌+◌, ◌<◌, ◌∙◌, ◌≡◌, ap, arith, exceeds, false, FitsSigned, get_or, length}
+use Common.{line_at, pos, refl, state_at, subst, sym, to_z-of_z, w128, written_all, written_more}
 use Rattle.std.proofs.lemmas.Bool.{both_ways}
-use Rattle.std.specs.Int.RustNames.{FitsSigned}
-use Rattle.mu_num.specs.Sizes.{exceeds}
-use Rattle.qss_quant.specs.IntegratorLines.{state_at}
-use Rattle.mu_num.proofs.Writes.{written_more, written_all}
-use Rattle.qss_states.specs.StateLines.{line_at}
 use Rattle.qss_states.proofs.Found.{IsFoundIn, found_more, found_done}
 use Rattle.qss_states.proofs.requantization.move_requantized_states.Goals as goal
-use mir.Syntax.{w128}
 
 pub loop-state-init : goal.loop-state-init
 loop-state-init c = record {

@@ -1,8 +1,4 @@
-use Rattle.std.proofs.Common.{◌≡◌, take, pos}
-use Rattle.mu_num.specs.Sizes.{exceeds}
-use Rattle.qss_quant.specs.IntegratorLines.{state_at}
-use Rattle.qss_states.specs.StateLines.{line_at}
-use Rattle.mu_num.specs.Writes.{IsWritten}
+use Rattle.qss_states.proofs.Common.{◌≡◌, exceeds, IsWritten, line_at, pos, state_at, take}
 use Rattle.qss_states.proofs.Found.{IsFoundIn}
 use Rattle.qss_states.proofs.requantization.move_requantized_states.Given as goal
 

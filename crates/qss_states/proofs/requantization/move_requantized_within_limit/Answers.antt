@@ -1,7 +1,5 @@
 -- The first moved state above its limit is the first of all.
-use Rattle.std.proofs.Common.{◌≡◌, sym, ◌∙◌, arith}
-use Rattle.mu_num.specs.IndexedSums.{first_exceeding}
-use Rattle.qss_states.specs.StateLines.{states_at}
+use Rattle.qss_states.proofs.Common.{◌∙◌, ◌≡◌, arith, first_exceeding, states_at, sym}
 use Rattle.qss_states.proofs.DueLevels.{past_on_arrival, arrived_within}
 use Rattle.qss_states.proofs.requantization.move_requantized_within_limit.Goals as goal
 

@@ -1,19 +1,9 @@
 -- The absolute row sums are those at the levels before.
-use Rattle.std.proofs.Common.{◌≡◌, true, ℕ, List, length, ℤ, pos, sym, ◌∙◌, ap, subst, arith, rules}
-use Rattle.std.specs.List.{position}
-use Rattle.std.specs.Prelude.{None, All, Err, is_some}
-use Rattle.mu_num.specs.Sizes.{IsWithin}
-use Rattle.qss_hand.specs.declared.handler_statements.Over.{Over}
-use Rattle.qss_hand.specs.Values.{Values}
-use Rattle.qss_hand.specs.Works.{overflow_of}
-use Rattle.qss_machine.specs.Machines.{state_count}
-use Rattle.mu_num.specs.IndexedSums.{int_at, first_exceeding}
-use Rattle.qss_machine.specs.Ticks.{exceeds_row_limits}
+use Rattle.qss_states.proofs.Common
+use Common.{ℕ, ℤ, ◌∙◌, ◌≡◌, All, ap, AreMovedTo, AreWeights, arith, clash, DiffersOnlyAt, Err}
+use Common.{exceeds_row_limits, first_exceeding, int_at, is_some, IsWithin, length, List, None}
+use Common.{Over, overflow_of, pos, position, rules, state_count, subst, sym, true, Values}
 use Rattle.qss_states.specs.Variables.{AreAssignedFrom}
-use Rattle.qss_states.specs.EventContexts.{AreMovedTo}
-use Rattle.mu_num.specs.ListedPlaces.{DiffersOnlyAt}
-use Rattle.qss_events.proofs.Overs.{clash}
-use Rattle.qss_states.specs.KeptWeights.{AreWeights}
 use Rattle.qss_states.proofs.DueLevels.{moved_inside}
 use Rattle.qss_states.proofs.FirstOvers.{over_first, over_second}
 use Rattle.qss_states.proofs.requantization.requantize_after_handlers.Goals as goal

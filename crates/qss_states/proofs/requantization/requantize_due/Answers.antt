@@ -1,11 +1,7 @@
 -- A state that exceeded its limit on arrival, or one whose level does.
-use Rattle.std.proofs.Common.{ℕ, ℤ, ◌++◌, List, sym, ◌∙◌, ap, subst}
-use Rattle.std.specs.Prelude.{Option}
-use Rattle.mu_num.specs.IndexedSums.{first_exceeding}
-use Rattle.qss_machine.specs.declared.machine_parts.Row.{Row}
-use Rattle.qss_machine.specs.Runs.{level_rows}
-use Rattle.qss_states.specs.LevelChanges.{AreRequantizedOnArrival}
-use Rattle.qss_states.specs.StateLines.{states_at}
+use Rattle.qss_states.proofs.Common
+use Common.{ℕ, ℤ, ◌++◌, ◌∙◌, ap, AreRequantizedOnArrival, first_exceeding, level_rows, List, Option}
+use Common.{Row, states_at, subst, sym}
 use Rattle.qss_states.proofs.Taken.{on_arrival, small_then, rows_then}
 use Rattle.qss_states.proofs.requantization.requantize_due.Goals as goal
 

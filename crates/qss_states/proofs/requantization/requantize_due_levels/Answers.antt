@@ -1,22 +1,11 @@
 -- One more moved state takes its level.
-use Rattle.std.proofs.Common.{◌≡◌, ◌<◌, ◌+◌, ◌++◌, ℕ, ℤ, false, length, get_or, set, take, pos}
-use Rattle.std.proofs.Common.{refl, sym, ◌∙◌, ap, subst, arith}
-use Rattle.std.proofs.lemmas.Int.{ints, to_z-of_z}
-use Rattle.std.specs.Int.RustNames.{FitsSigned}
-use Rattle.std.specs.Prelude.{Option, List}
-use Rattle.mu_num.specs.Sizes.{IsWithin, exceeds}
-use Rattle.mu_num.specs.IndexedSums.{int_at}
-use Rattle.qss_machine.specs.Machines.{state_count}
-use Rattle.qss_machine.specs.Ticks.{IsNextLevel}
-use Rattle.qss_events.specs.AllowedLevels.{IsAllowedLevel}
-use Rattle.mu_num.proofs.RisingNumbers.{not_before, few_numbers}
-use Rattle.qss_events.proofs.LevelRows.{row_of}
-use Rattle.mu_num.proofs.Writes.{among_at}
-use Rattle.qss_states.specs.LevelChanges.{AreRequantized}
+use Rattle.qss_states.proofs.Common
+use Common.{ℕ, ℤ, ◌++◌, ◌+◌, ◌<◌, ◌∙◌, ◌≡◌, among_at, ap, AreRequantized, arith, exceeds, false}
+use Common.{few_numbers, FitsSigned, get_or, int_at, ints, IsAllowedLevel, IsNextLevel, IsWithin}
+use Common.{length, List, not_before, of_z, Option, pos, refl, row_of, set, state_count, subst, sym}
+use Common.{take, to_z, to_z-of_z, w128, w64}
 use Rattle.qss_states.proofs.Taken.{none_taken, taken_more, taken_all}
 use Rattle.qss_states.proofs.requantization.requantize_due_levels.Goals as goal
-use mir.Syntax.{w64, w128}
-use mir.Val.{to_z, of_z}
 
 pub loop-state-init : goal.loop-state-init
 loop-state-init g c =

@@ -1,6 +1,5 @@
-use Rattle.std.proofs.Common.{◌≡◌, ◌+◌, ◌≤◌, ℤ, List, take}
-use Rattle.std.specs.Prelude.{vec_len, vec_capacity}
-use Rattle.qss_states.specs.LevelChanges.{AreRequantized}
+use Rattle.qss_states.proofs.Common
+use Common.{ℤ, ◌+◌, ◌≡◌, ◌≤◌, AreRequantized, List, take, vec_capacity, vec_len}
 use Rattle.qss_states.proofs.requantization.requantize_due_levels.Given as goal
 
 -- the levels and the rows so far

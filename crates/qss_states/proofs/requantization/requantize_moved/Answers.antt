@@ -1,16 +1,8 @@
 -- The absolute row sums are those at the levels before.
-use Rattle.std.proofs.Common.{◌≡◌, true, List, length, ℤ, sym, ◌∙◌, ap, subst, rules}
-use Rattle.std.specs.List.{position}
-use Rattle.std.specs.Prelude.{None, All, Err, is_some}
-use Rattle.mu_num.specs.Sizes.{IsWithin}
-use Rattle.qss_hand.specs.declared.handler_statements.Over.{Over}
-use Rattle.qss_hand.specs.Values.{Values}
-use Rattle.qss_hand.specs.Works.{overflow_of}
-use Rattle.mu_num.specs.IndexedSums.{first_exceeding}
-use Rattle.qss_machine.specs.Ticks.{exceeds_row_limits}
-use Rattle.mu_num.specs.ListedPlaces.{DiffersOnlyAt}
-use Rattle.qss_states.specs.KeptWeights.{AreWeights}
-use Rattle.qss_events.proofs.Overs.{clash}
+use Rattle.qss_states.proofs.Common
+use Common.{ℤ, ◌∙◌, ◌≡◌, All, ap, AreWeights, clash, DiffersOnlyAt, Err, exceeds_row_limits}
+use Common.{first_exceeding, is_some, IsWithin, length, List, None, Over, overflow_of, position}
+use Common.{rules, subst, sym, true, Values}
 use Rattle.qss_states.proofs.FirstOvers.{over_sooner, over_later}
 use Rattle.qss_states.proofs.requantization.requantize_moved.Goals as goal
 

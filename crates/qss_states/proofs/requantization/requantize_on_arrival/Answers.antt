@@ -1,34 +1,20 @@
 -- One more state arrives and takes its level: the result of the rule, since it left the quantum of
 -- the old one.
-use Rattle.std.proofs.Common.{◌≡◌, ◌<◌, ◌+◌, ◌++◌, ℕ, ℤ, true, false, length, get_or, set, take}
-use Rattle.std.proofs.Common.{pos, refl, sym, ◌∙◌, ap, subst, arith, below_more}
-use Rattle.std.proofs.lemmas.Int.{ints, to_z-of_z}
-use Rattle.std.specs.Int.RustNames.{FitsSigned}
-use Rattle.std.specs.Prelude.{Option, Some, None, List}
-use Rattle.mu_num.specs.Sizes.{IsWithin, IsPositiveWithin, exceeds}
-use Rattle.mu_num.proofs.SizeTests.{passes-within}
-use Rattle.mu_num.specs.IndexedSums.{int_at, first_exceeding}
-use Rattle.qss_machine.specs.Machines.{state_count, level_unit}
-use Rattle.qss_machine.specs.Ticks.{IsNextLevel}
-use Rattle.qss_quant.specs.IntegratorLines.{state_at}
+use Rattle.qss_states.proofs.Common
+use Common.{ℕ, ℤ, ◌++◌, ◌+◌, ◌<◌, ◌∙◌, ◌≡◌, among_at, ap, AreRequantized, AreRisingBelow, arith}
+use Common.{below_more, clash, exceeds, false, few_numbers, first_exceeding, first_of, FitsSigned}
+use Common.{get_or, int_at, ints, IsAllowedLevel, IsNextLevel, IsWithin, length, level_unit}
+use Common.{line_at, List, None, none_of, not_before, of_z, Option, passes-within, pos, refl}
+use Common.{row_of, set, Some, state_at, state_count, states_at, subst, sym, take, to_z, to_z-of_z}
+use Common.{true, w128, w64}
+use Rattle.mu_num.specs.Sizes.{IsPositiveWithin}
 use Rattle.qss_quant.specs.LevelRules.{IsAnswer}
-use Rattle.mu_num.specs.ListedPlaces.{AreRisingBelow}
-use Rattle.qss_events.specs.AllowedLevels.{IsAllowedLevel}
-use Rattle.mu_num.proofs.RisingNumbers.{not_before, few_numbers}
-use Rattle.qss_events.proofs.DueFirsts.{first_of, none_of}
-use Rattle.qss_events.proofs.LevelRows.{row_of}
 use Rattle.qss_events.proofs.NextLevels.{next_by}
-use Rattle.qss_events.proofs.Overs.{clash}
 use Rattle.qss_machine.proofs.Near.{unit_fits}
-use Rattle.mu_num.proofs.Writes.{among_at}
-use Rattle.qss_states.specs.LevelChanges.{AreRequantized}
-use Rattle.qss_states.specs.StateLines.{line_at, states_at}
 use Rattle.qss_states.specs.EventContexts.{HasLeft}
 use Rattle.qss_states.proofs.DueLevels.{int_at-states_at, past_on_arrival}
 use Rattle.qss_states.proofs.Taken.{none_taken, taken_more, taken_all}
 use Rattle.qss_states.proofs.requantization.requantize_on_arrival.Goals as goal
-use mir.Syntax.{w64, w128}
-use mir.Val.{to_z, of_z}
 
 pub loop-state-init : goal.loop-state-init
 loop-state-init g c =

@@ -1,9 +1,6 @@
-use Rattle.std.proofs.Common.{◌≡◌, ◌+◌, ◌<◌, ◌≤◌, ℕ, ℤ, List, get_or, take, false}
-use Rattle.std.specs.Prelude.{vec_len, vec_capacity}
-use Rattle.mu_num.specs.Sizes.{exceeds}
-use Rattle.qss_quant.specs.IntegratorLines.{state_at}
-use Rattle.qss_states.specs.LevelChanges.{AreRequantized}
-use Rattle.qss_states.specs.StateLines.{line_at, states_at}
+use Rattle.qss_states.proofs.Common
+use Common.{ℕ, ℤ, ◌+◌, ◌<◌, ◌≡◌, ◌≤◌, AreRequantized, exceeds, false, get_or, line_at, List}
+use Common.{state_at, states_at, take, vec_capacity, vec_len}
 use Rattle.qss_states.proofs.requantization.requantize_on_arrival.Given as goal
 
 -- the states so far, none of them above its limit, with their levels and rows

@@ -1,15 +1,8 @@
 -- What the moved states do is what all states do.
-use Rattle.std.proofs.Common.{◌≡◌, ◌++◌, List, ℤ, refl, sym, ◌∙◌, ap, subst}
-use Rattle.std.specs.Prelude.{None, All}
-use Rattle.mu_num.specs.Sizes.{IsWithin}
-use Rattle.qss_hand.specs.Works.{overflow_of}
-use Rattle.qss_machine.specs.declared.machine_parts.Row.{Row}
-use Rattle.mu_num.specs.IndexedSums.{first_exceeding}
-use Rattle.qss_machine.specs.Runs.{level_rows}
-use Rattle.mu_num.specs.ListedPlaces.{DiffersOnlyAt}
-use Rattle.qss_events.specs.AllowedLevels.{IsAllowedLevel}
+use Rattle.qss_states.proofs.Common
+use Common.{ℤ, ◌++◌, ◌∙◌, ◌≡◌, All, all_within, ap, DiffersOnlyAt, first_exceeding, IsAllowedLevel}
+use Common.{IsWithin, level_rows, List, None, overflow_of, refl, Row, subst, sym}
 use Rattle.qss_states.proofs.DueLevels.{levels_over, levels_allowed, rows_of_moved, written_off}
-use Rattle.qss_events.proofs.Overs.{all_within}
 use Rattle.qss_states.proofs.requantization.requantize_states.Goals as goal
 
 pub returns : goal.returns

@@ -1,12 +1,9 @@
 -- The level exceeds its limit, or it is taken.
-use Rattle.std.proofs.Common.{◌≡◌, ◌++◌, false, refl, sym, ◌∙◌, ap}
-use Rattle.std.proofs.lemmas.Int.{to_z-of_z}
-use Rattle.mu_num.specs.Sizes.{exceeds}
-use Rattle.mu_num.proofs.SizeTests.{passes-within}
+use Rattle.qss_states.proofs.Common
+use Common.{◌++◌, ◌∙◌, ◌≡◌, ap, exceeds, false, of_z, passes-within, refl, sym, to_z, to_z-of_z}
+use Common.{w128}
 use Rattle.qss_states.specs.LevelChanges.{row_of_level}
 use Rattle.qss_states.proofs.requantization.set_requantized_within_limit.Goals as goal
-use mir.Syntax.{w128}
-use mir.Val.{to_z, of_z}
 
 pub returns-then-exceeds_power_of_two-clause-past : goal.returns-then-exceeds_power_of_two-clause-past
 returns-then-exceeds_power_of_two-clause-past c = sym (sym (rw (to_z-of_z w128 c.args.fresh c.ranges.fresh) at c.exceeds_power_of_two.ensures) ∙ c.if-exceeds_power_of_two.true)

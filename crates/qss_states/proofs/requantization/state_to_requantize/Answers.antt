@@ -1,13 +1,8 @@
 -- The line that is read is the one of the state's number.
-use Rattle.std.proofs.Common.{◌≡◌, ◌≤◌, sym, ◌∙◌, ap, subst}
-use Rattle.std.proofs.lemmas.Int.{to_z-of_z}
-use Rattle.std.proofs.lemmas.List.{get_or_default}
-use Rattle.std.specs.Int.RustNames.{FitsSigned}
-use Rattle.qss_quant.specs.IntegratorLines.{Line, state_at}
-use Rattle.qss_states.specs.StateLines.{line_at}
-use Rattle.qss_events.specs.Schedules.{no_line}
+use Rattle.qss_states.proofs.Common
+use Common.{◌∙◌, ◌≡◌, ◌≤◌, ap, FitsSigned, get_or_default, Line, line_at, no_line, state_at, subst}
+use Common.{sym, to_z-of_z, w128}
 use Rattle.qss_states.proofs.requantization.state_to_requantize.Goals as goal
-use mir.Syntax.{w128}
 
 pub value_at-requires-clause-later : goal.value_at-requires-clause-later
 value_at-requires-clause-later c =

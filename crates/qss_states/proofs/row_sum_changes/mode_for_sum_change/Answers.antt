@@ -1,16 +1,11 @@
 -- A coefficient in the current mode within its limit.
-use Rattle.std.proofs.Common.{◌≡◌, sym, subst, ◌∙◌, arith}
-use Rattle.std.proofs.lemmas.Int.{ints, to_z-of_z}
-use Rattle.std.specs.Int.RustNames.{FitsSigned}
-use Rattle.mu_num.specs.Sizes.{IsWithin}
-use Rattle.qss_machine.specs.Machines.{state_count, row_at}
-use Rattle.qss_machine.specs.Slopes.{mode_coefficient}
+use Rattle.qss_states.proofs.Common
+use Common.{◌∙◌, ◌≡◌, arith, FitsSigned, ints, IsWithin, mode_coefficient, of_z, row_at}
+use Common.{state_count, subst, sym, to_z, to_z-of_z, w128, w64}
 use Rattle.qss_machine.proofs.ModeTests.{fits_at}
 use Rattle.qss_states.proofs.Shifting.{small_coefficient}
-use Rattle.qss_states.proofs.row_sum_changes.mode_for_sum_change.Goals as goal
 use Rattle.qss_states.proofs.row_sum_changes.mode_for_sum_change.Goals.{After-mode_coef_from}
-use mir.Syntax.{w64, w128}
-use mir.Val.{to_z, of_z}
+use Rattle.qss_states.proofs.row_sum_changes.mode_for_sum_change.Goals as goal
 
 pub returns-then-is_empty-clause-bound : goal.returns-then-is_empty-clause-bound
 returns-then-is_empty-clause-bound c =

@@ -1,10 +1,9 @@
 -- A product within its limit, of numbers that both fit in 64 bits.
-use Rattle.std.proofs.Common.{◌≡◌, ◌^◌, ◌≤◌, ℤ, ◌∙◌, ap₂, ◌-ℤ◌, ◌*ℤ◌, arith}
-use Rattle.std.proofs.lemmas.Int.{ints, to_z-of_z}
-use Rattle.std.specs.Int.RustNames.{unsigned_abs, FitsSigned}
+use Rattle.qss_states.proofs.Common
+use Common.{ℤ, ◌*ℤ◌, ◌-ℤ◌, ◌^◌, ◌∙◌, ◌≡◌, ◌≤◌, ap₂, arith, FitsSigned, ints, to_z-of_z}
+use Common.{unsigned_abs, w128, w64}
 use Rattle.qss_machine.proofs.Loops.{fits_below, product_is, product_bound}
 use Rattle.qss_states.proofs.row_sum_changes.slope_sum_change.Goals as goal
-use mir.Syntax.{w64, w128}
 
 -- what is multiplied
 record AreFactors (coefficient change first second : ℤ) : Type 0 where

@@ -1,27 +1,13 @@
 -- One more moved state has its level.
-use Rattle.std.proofs.Common.{◌≡◌, ◌<◌, ℕ, ℤ, pos, List, length, get_or, take, ◌∙◌, sym, ap, subst}
-use Rattle.std.proofs.Common.{arith}
-use Rattle.std.proofs.lemmas.Int.{ints, to_z-of_z}
-use Rattle.std.proofs.lemmas.List.{get_or_default, take_all}
-use Rattle.std.proofs.lemmas.List.FromFn.{fill_by_all, length-map-range_with_len}
-use Rattle.std.proofs.lemmas.List.FromFn.{get_or-map-range_with_len}
-use Rattle.std.specs.Int.RustNames.{FitsSigned}
-use Rattle.mu_num.specs.Sizes.{IsWithin}
-use Rattle.qss_machine.specs.Machines.{state_count}
-use Rattle.mu_num.specs.IndexedSums.{int_at}
-use Rattle.qss_machine.specs.Readers.{reading_rows}
-use Rattle.qss_quant.specs.IntegratorLines.{Line}
-use Rattle.qss_states.specs.StateLines.{line_at}
-use Rattle.qss_states.specs.RowSums.{taken_by, sum_at, AreSumsBefore, IsSumAfterLevelChange}
-use Rattle.mu_num.specs.Writes.{IsWritten}
-use Rattle.qss_events.specs.Schedules.{no_line}
-use Rattle.mu_num.proofs.RisingNumbers.{not_before, few_numbers}
-use Rattle.qss_events.proofs.LightRows.{row_is_light}
+use Rattle.qss_states.proofs.Common
+use Common.{ℕ, ℤ, ◌<◌, ◌∙◌, ◌≡◌, ap, AreSumsBefore, arith, few_numbers, fill_by_all, FitsSigned}
+use Common.{get_or, get_or-map-range_with_len, get_or_default, int_at, ints, IsSumAfterLevelChange}
+use Common.{IsWithin, IsWritten, length, length-map-range_with_len, Line, line_at, List, no_line}
+use Common.{not_before, of_z, pos, reading_rows, row_is_light, state_count, subst, sum_at, sym}
+use Common.{take, take_all, taken_by, to_z, to_z-of_z, w64}
 use Rattle.qss_states.proofs.Shifting.{levels_along, along_more, along_other, along_all}
 use Rattle.qss_states.proofs.Shifting.{length-along, sums_small, sums_follow, sums_near}
 use Rattle.qss_states.proofs.row_sum_changes.update_all_row_sums.Goals as goal
-use mir.Syntax.{w64}
-use mir.Val.{to_z, of_z}
 
 pub loop-state-init : goal.loop-state-init
 loop-state-init c =

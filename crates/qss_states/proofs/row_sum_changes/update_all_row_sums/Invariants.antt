@@ -1,8 +1,7 @@
-use Rattle.std.proofs.Common.{◌≡◌, ◌+◌, ◌*◌, ◌^◌, ◌<◌, ◌≤◌, ℕ, ℤ, List, length, take}
+use Rattle.qss_states.proofs.Common
+use Common.{ℕ, ℤ, ◌*◌, ◌+◌, ◌<◌, ◌^◌, ◌≡◌, ◌≤◌, AreSumsBefore, int_at, length, List, state_count}
+use Common.{sum_at, take}
 use Rattle.std.specs.Prelude.{unsigned_abs}
-use Rattle.qss_machine.specs.Machines.{state_count}
-use Rattle.mu_num.specs.IndexedSums.{int_at}
-use Rattle.qss_states.specs.RowSums.{sum_at, AreSumsBefore}
 use Rattle.qss_states.proofs.Shifting.{levels_along}
 use Rattle.qss_states.proofs.row_sum_changes.update_all_row_sums.Given as goal
 

@@ -1,25 +1,15 @@
 -- One more row.
-use Rattle.std.proofs.Common.{rules, ◌≡◌, ◌^◌, ◌<◌, ◌≤◌, ℕ, ℤ, List, pos, ◌+ℤ◌, ◌-ℤ◌, ◌*ℤ◌, length}
-use Rattle.std.proofs.Common.{get_or, ◌∙◌, sym, ap, subst, arith}
-use Rattle.std.proofs.lemmas.Int.{ints, to_z-of_z}
-use Rattle.std.proofs.lemmas.List.{length-set}
-use Rattle.std.specs.Int.RustNames.{unsigned_abs, FitsSigned}
-use Rattle.mu_num.specs.Sizes.{IsWithin}
-use Rattle.qss_machine.specs.Machines.{state_count, row_coefficient, mode_coefficient_at}
-use Rattle.mu_num.specs.IndexedSums.{int_at}
-use Rattle.qss_machine.specs.Readers.{reading_rows, reading_coefficients}
-use Rattle.qss_states.specs.RowSums.{taken_by, IsSumAfterLevelChange}
-use Rattle.mu_num.specs.Writes.{IsWritten}
-use Rattle.mu_num.proofs.RisingNumbers.{not_before}
-use Rattle.qss_machine.proofs.KeptReaders.{rows_many, rows_kept, coefficients_many}
-use Rattle.qss_machine.proofs.KeptReaders.{coefficients_kept}
-use Rattle.mu_num.proofs.Writes.{written_more, written_all}
+use Rattle.qss_states.proofs.Common
+use Common.{ℕ, ℤ, ◌*ℤ◌, ◌+ℤ◌, ◌-ℤ◌, ◌<◌, ◌^◌, ◌∙◌, ◌≡◌, ◌≤◌, ap, arith, coefficients_kept}
+use Common.{coefficients_many, FitsSigned, get_or, int_at, ints, IsSumAfterLevelChange, IsWithin}
+use Common.{IsWritten, length, length-set, List, mode_coefficient_at, not_before, of_z, pos}
+use Common.{reading_coefficients, reading_rows, row_coefficient, rows_kept, rows_many, rules}
+use Common.{state_count, subst, sym, taken_by, to_z, to_z-of_z, unsigned_abs, w128, w64}
+use Common.{written_all, written_more}
 use Rattle.qss_states.proofs.Shifting.{readers_as_many, reader_numbers, own_coefficient}
 use Rattle.qss_states.proofs.Shifting.{small_coefficient}
-use Rattle.qss_states.proofs.row_sum_changes.update_row_sums.Goals as goal
 use Rattle.qss_states.proofs.row_sum_changes.update_row_sums.Goals.{After-coefficients_of-coefficients}
-use mir.Syntax.{w64, w128}
-use mir.Val.{to_z, of_z}
+use Rattle.qss_states.proofs.row_sum_changes.update_row_sums.Goals as goal
 
 pub rows_of-rows-requires : goal.rows_of-rows-requires
 rows_of-rows-requires c = omega (arith, c.requires.allowed.known, rows_many c.args.at.now.machine.now c.args.uses.now c.requires.uses)

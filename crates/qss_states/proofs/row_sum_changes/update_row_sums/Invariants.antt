@@ -1,8 +1,5 @@
-use Rattle.std.proofs.Common.{◌≡◌, length, take, pos}
-use Rattle.qss_machine.specs.Machines.{state_count}
-use Rattle.mu_num.specs.ListedPlaces.{AreRisingBelow}
-use Rattle.mu_num.specs.Writes.{IsWritten}
-use Rattle.qss_states.specs.RowSums.{IsSumAfterLevelChange}
+use Rattle.qss_states.proofs.Common
+use Common.{◌≡◌, AreRisingBelow, IsSumAfterLevelChange, IsWritten, length, pos, state_count, take}
 use Rattle.qss_states.proofs.row_sum_changes.update_row_sums.Given as goal
 
 -- the sums of the rows so far

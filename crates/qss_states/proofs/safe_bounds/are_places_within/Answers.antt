@@ -1,5 +1,5 @@
 -- The value at one more place is at most the bound, or greater.
-use Rattle.std.proofs.Common.{refl, arith}
+use Rattle.qss_states.proofs.Common.{arith, refl}
 use Rattle.qss_states.proofs.safe_bounds.are_places_within.Goals as goal
 
 pub returns : goal.returns

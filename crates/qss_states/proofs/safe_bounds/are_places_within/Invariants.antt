@@ -1,6 +1,4 @@
-use Rattle.std.proofs.Common.{ℕ, ◌-◌, ◌<◌, get_or}
-use Rattle.mu_num.specs.IndexedSums.{int_at}
-use Rattle.qss_states.specs.SafeBounds.{IsUpTo}
+use Rattle.qss_states.proofs.Common.{ℕ, ◌-◌, ◌<◌, get_or, int_at, IsUpTo}
 use Rattle.qss_states.proofs.safe_bounds.are_places_within.Given as goal
 
 -- the values at the places so far

@@ -1,12 +1,9 @@
 -- The product of two sizes within their limits, which shifting makes no greater.
-use Rattle.std.proofs.Common.{◌≡◌, ℕ, ℤ, ◌+◌, ◌*◌, ◌/◌, ◌^◌, ◌≤◌, ◌∙◌, ap₂, arith}
-use Rattle.std.proofs.lemmas.Int.{ints, to_z-of_z}
-use Rattle.std.proofs.lemmas.Nat.{mul-le, shr_le}
-use Rattle.std.specs.Int.RustNames.{unsigned_abs, FitsSigned}
-use Rattle.mu_num.specs.Sizes.{IsWithin}
+use Rattle.qss_states.proofs.Common
+use Common.{ℕ, ℤ, ◌*◌, ◌+◌, ◌^◌, ◌∙◌, ◌≡◌, ◌≤◌, ap₂, arith, FitsSigned, ints, IsWithin, mul-le}
+use Common.{of_z, shr_le, to_z, to_z-of_z, unsigned_abs, w64}
+use Rattle.std.proofs.Common.{◌/◌}
 use Rattle.qss_states.proofs.safe_bounds.greatest_excess.Goals as goal
-use mir.Syntax.{w64}
-use mir.Val.{to_z, of_z}
 
 -- a coefficient as it is read
 as_read : (coef : ℤ) → IsWithin 44 coef → to_z w64 (of_z w64 coef) ≡ coef

@@ -1,10 +1,7 @@
 -- The excesses so far are no more than all of them.
-use Rattle.std.proofs.Common.{ℕ, ◌+◌, List, pos, ap, ◌∙◌, arith}
-use Rattle.std.proofs.lemmas.List.{take_all}
+use Rattle.qss_states.proofs.Common
+use Common.{ℕ, ◌+◌, ◌∙◌, ap, arith, excess, List, pos, Product, sum_by, take_all}
 use Rattle.std.proofs.lemmas.List.Sums.{sum_by_more, sum_by-take-le}
-use Rattle.std.specs.List.{sum_by}
-use Rattle.qss_machine.specs.declared.machine_parts.Product.{Product}
-use Rattle.qss_states.specs.SafeBounds.{excess}
 use Rattle.qss_states.proofs.safe_bounds.greatest_excess_sum.Goals as goal
 
 -- a product of nothing

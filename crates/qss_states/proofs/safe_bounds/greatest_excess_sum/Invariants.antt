@@ -1,5 +1,5 @@
-use Rattle.std.proofs.Common.{◌≡◌, ◌^◌, ◌≤◌, take, sum_by}
-use Rattle.qss_states.specs.SafeBounds.{excess}
+use Rattle.qss_states.proofs.Common.{◌^◌, ◌≡◌, ◌≤◌, excess, take}
+use Rattle.std.proofs.Common.{sum_by}
 use Rattle.qss_states.proofs.safe_bounds.greatest_excess_sum.Given as goal
 
 -- the sum so far, at most 2 ^ 44

@@ -1,8 +1,6 @@
 -- The first half that all rows allow is found.
-use Rattle.std.proofs.Common.{ℕ, ◌^◌, refl, arith, below_more}
-use Rattle.std.proofs.lemmas.Nat.{shr_le}
-use Rattle.std.specs.Prelude.{All}
-use Rattle.qss_states.specs.SafeBounds.{AllowsBound, half_limit}
+use Rattle.qss_states.proofs.Common
+use Common.{ℕ, ◌^◌, All, AllowsBound, arith, below_more, half_limit, refl, shr_le}
 use Rattle.qss_states.proofs.safe_bounds.greatest_row_bound.Goals as goal
 
 pub is_safe_machine_bound-requires : goal.is_safe_machine_bound-requires

@@ -1,6 +1,4 @@
-use Rattle.std.proofs.Common.{ℕ, ◌<◌}
-use Rattle.std.specs.Prelude.{All}
-use Rattle.qss_states.specs.SafeBounds.{AllowsBound, half_limit}
+use Rattle.qss_states.proofs.Common.{ℕ, ◌<◌, All, AllowsBound, half_limit}
 use Rattle.qss_states.proofs.safe_bounds.greatest_row_bound.Given as goal
 
 -- not all rows allow one of the halves so far

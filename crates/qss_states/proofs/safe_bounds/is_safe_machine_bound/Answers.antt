@@ -1,14 +1,9 @@
 -- One more row allows the bound, or the first one that does not.
-use Rattle.std.proofs.Common.{◌≡◌, ℕ, ◌+◌, ◌<◌, List, length, get_or, refl, sym, ap, subst, arith}
-use Rattle.std.proofs.Common.{inl, inr}
-use Rattle.std.proofs.lemmas.Bool.{cases_lt}
-use Rattle.std.proofs.lemmas.List.{get_or_default}
+use Rattle.qss_states.proofs.Common
+use Common.{ℕ, ◌+◌, ◌<◌, ◌≡◌, AllowsBound, ap, arith, cases_lt, discrete_count, get_or}
+use Common.{get_or_default, inl, inr, IsRow, length, List, Machine, refl, SlopeRow, state_count}
+use Common.{subst, sym}
 use Rattle.qss_machine.proofs.Few.{entries_few}
-use Rattle.qss_machine.specs.declared.machine_parts.SlopeRow.{SlopeRow}
-use Rattle.qss_machine.specs.declared.compiled_machine.Machine.{Machine}
-use Rattle.qss_machine.specs.MachineLimits.{IsRow}
-use Rattle.qss_machine.specs.Machines.{state_count, discrete_count}
-use Rattle.qss_states.specs.SafeBounds.{AllowsBound}
 use Rattle.qss_states.proofs.safe_bounds.is_safe_machine_bound.Goals as goal
 
 -- a row of a machine is within the limits

@@ -1,6 +1,4 @@
-use Rattle.std.proofs.Common.{ℕ, ◌<◌, get_or}
-use Rattle.qss_machine.specs.declared.machine_parts.SlopeRow.{SlopeRow}
-use Rattle.qss_states.specs.SafeBounds.{AllowsBound}
+use Rattle.qss_states.proofs.Common.{ℕ, ◌<◌, AllowsBound, get_or, SlopeRow}
 use Rattle.qss_states.proofs.safe_bounds.is_safe_machine_bound.Given as goal
 
 -- the rows so far allow the bound

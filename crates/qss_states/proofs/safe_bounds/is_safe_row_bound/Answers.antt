@@ -1,11 +1,7 @@
 -- The sizes and the excesses were added up.
-use Rattle.std.proofs.Common.{◌≡◌, ◌+◌, ◌^◌, ◌≤◌, List, ◌∙◌, ap, arith}
-use Rattle.std.proofs.lemmas.Bool.Decides.{nat_tests}
-use Rattle.std.specs.Int.RustNames.{unsigned_abs}
-use Rattle.std.specs.List.{sum_by}
-use Rattle.qss_machine.specs.declared.machine_parts.Entry.{Entry}
-use Rattle.qss_machine.specs.declared.machine_parts.Product.{Product}
-use Rattle.qss_states.specs.SafeBounds.{excess}
+use Rattle.qss_states.proofs.Common
+use Common.{◌+◌, ◌^◌, ◌∙◌, ◌≡◌, ◌≤◌, ap, arith, Entry, excess, List, nat_tests, Product, sum_by}
+use Common.{unsigned_abs}
 use Rattle.qss_states.proofs.safe_bounds.is_safe_row_bound.Goals as goal
 
 pub greatest_excess_sum-requires-clause-size_limit : goal.greatest_excess_sum-requires-clause-size_limit

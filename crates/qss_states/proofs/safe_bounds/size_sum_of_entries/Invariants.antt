@@ -1,4 +1,5 @@
-use Rattle.std.proofs.Common.{◌≡◌, ◌*◌, ◌^◌, ◌≤◌, take, sum_by, unsigned_abs}
+use Rattle.qss_states.proofs.Common.{◌*◌, ◌^◌, ◌≡◌, ◌≤◌, take}
+use Rattle.std.proofs.Common.{sum_by, unsigned_abs}
 use Rattle.qss_states.proofs.safe_bounds.size_sum_of_entries.Given as goal
 
 -- the sum so far, to which each entry adds at most 2 ^ 44

@@ -1,7 +1,5 @@
 -- The bound is the one that is found.
-use Rattle.std.proofs.Common.{◌≡◌, ℕ, subst}
-use Rattle.std.specs.Prelude.{All, Some}
-use Rattle.qss_states.specs.SafeBounds.{IsUpTo, IsSafeBound}
+use Rattle.qss_states.proofs.Common.{ℕ, ◌≡◌, All, IsSafeBound, IsUpTo, Some, subst}
 use Rattle.qss_states.proofs.Allowed.{one_bound, bound_safe}
 use Rattle.qss_states.proofs.safe_bounds.start_row_bound.Goals as goal
 

@@ -1,14 +1,10 @@
 -- The state is listed once, and its line is there.
-use Rattle.std.proofs.Common.{◌≡◌, ◌≢◌, ◌≤◌, ◌∷◌, ◌++◌, [], ℕ, List, get_or, set, sym, ◌∙◌, ap}
-use Rattle.std.proofs.Common.{subst, arith}
-use Rattle.std.proofs.lemmas.List.{get_or_default, set-get_or}
-use Rattle.std.specs.Prelude.{vec_capacity}
-use Rattle.mu_num.specs.Sizes.{IsWithin}
-use Rattle.qss_quant.specs.IntegratorLines.{Line, state_at}
-use Rattle.qss_states.specs.Advancing.{Advancing, HaveAdvanced, advancing_of}
-use Rattle.qss_states.specs.StateLines.{line_at}
+use Rattle.qss_states.proofs.Common
+use Common.{[], ℕ, ◌++◌, ◌∙◌, ◌∷◌, ◌≡◌, ◌≢◌, ◌≤◌, Advancing, advancing_of, ap, arith, get_or}
+use Common.{get_or_default, HaveAdvanced, IsWithin, Line, line_at, List, no_line, set, state_at}
+use Common.{subst, sym, vec_capacity}
+use Rattle.std.proofs.lemmas.List.{set-get_or}
 use Rattle.qss_states.proofs.Gathering.{has_room, gathered_one, gathered_there}
-use Rattle.qss_events.specs.Schedules.{no_line}
 use Rattle.qss_states.proofs.slope_updates.advance_line.Goals as goal
 
 pub move_line-requires-clause-later : goal.move_line-requires-clause-later

@@ -1,6 +1,5 @@
 -- The line was not there.
-use Rattle.std.proofs.Common.{◌∙◌, ap}
-use Rattle.qss_quant.specs.IntegratorLines.{Line}
+use Rattle.qss_states.proofs.Common.{◌∙◌, ap, Line}
 use Rattle.qss_states.proofs.slope_updates.move_line.Goals as goal
 
 pub returns-clause-moved : goal.returns-clause-moved

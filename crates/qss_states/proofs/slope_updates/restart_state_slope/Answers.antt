@@ -1,13 +1,7 @@
 -- The line of one state starts where the state is, and the event queue has its due tick.
-use Rattle.std.proofs.Common.{◌≡◌, ◌+◌, ◌≤◌, not, get_or, set, ◌∙◌, sym, ap, arith}
-use Rattle.std.proofs.lemmas.List.{get_or-set_same}
-use Rattle.mu_num.specs.IndexedSums.{int_at}
-use Rattle.qss_machine.specs.Machines.{state_count}
-use Rattle.qss_quant.specs.IntegratorLines.{Line}
-use Rattle.qss_events.specs.Schedules.{no_line}
-use Rattle.qss_events.proofs.Lines.{line_here}
-use Rattle.qss_states.specs.LineReplacements.{goes_from}
-use Rattle.qss_states.specs.StateLines.{line_at}
+use Rattle.qss_states.proofs.Common
+use Common.{◌+◌, ◌∙◌, ◌≡◌, ◌≤◌, ap, arith, get_or, get_or-set_same, goes_from, int_at, Line}
+use Common.{line_at, line_here, no_line, not, set, state_count, sym}
 use Rattle.qss_states.proofs.Counting.{one_if}
 use Rattle.qss_states.proofs.Courses.{one_set}
 use Rattle.qss_states.proofs.GoingOn.{near_along, has_line, has_place, line_read, level_read}

@@ -1,14 +1,10 @@
 -- One more moved state goes on from where it is.
-use Rattle.std.proofs.Common.{◌<◌, ℕ, List, pos, take, get_or, refl, subst, arith}
-use Rattle.std.proofs.lemmas.List.{take_all}
-use Rattle.mu_num.specs.Sizes.{IsWithin}
-use Rattle.qss_machine.specs.Machines.{state_count}
-use Rattle.mu_num.specs.IndexedSums.{int_at}
-use Rattle.qss_states.specs.SlopeUpdates.{Schedules, AreScheduled}
+use Rattle.qss_states.proofs.Common
+use Common.{ℕ, ◌<◌, among_at, AreScheduled, arith, get_or, int_at, IsWithin, List, pos, refl}
+use Common.{Schedules, state_count, subst, take, take_all}
 use Rattle.qss_states.proofs.Courses.{none_go_on, one_more}
 use Rattle.qss_states.proofs.GoingOn.{still_on}
 use Rattle.qss_states.proofs.Seats.{left_more, still_begun, still_small}
-use Rattle.mu_num.proofs.Writes.{among_at}
 use Rattle.qss_states.proofs.slope_updates.restart_state_slopes.Goals as goal
 
 pub loop-j-init : goal.loop-j-init

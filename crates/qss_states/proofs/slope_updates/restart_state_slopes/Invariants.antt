@@ -1,10 +1,7 @@
-use Rattle.std.proofs.Common.{◌≡◌, ℕ, ℤ, List, length, take, true}
-use Rattle.qss_machine.specs.Machines.{state_count}
-use Rattle.mu_num.specs.IndexedSums.{int_at}
-use Rattle.mu_num.specs.ListedPlaces.{is_listed}
-use Rattle.qss_states.specs.LineReplacements.{goes_from, IsCountedFrom}
-use Rattle.qss_states.specs.SlopeUpdates.{AreScheduled}
-use Rattle.qss_states.specs.StateLines.{line_at}
+use Rattle.qss_states.proofs.Common
+use Common.{ℕ, ℤ, ◌≡◌, AreScheduled, goes_from, int_at, is_listed, length, line_at, List}
+use Common.{state_count, take, true}
+use Rattle.qss_states.specs.LineReplacements.{IsCountedFrom}
 use Rattle.qss_states.proofs.slope_updates.restart_state_slopes.Given as goal
 
 -- the moved states so far

@@ -1,10 +1,6 @@
 -- The line of one state goes on, and the event queue has its due tick.
-use Rattle.std.proofs.Common.{◌≡◌, ℤ, get_or, ◌∙◌, ap}
-use Rattle.std.proofs.lemmas.List.{get_or-set_same}
-use Rattle.mu_num.specs.IndexedSums.{int_at}
-use Rattle.qss_quant.specs.IntegratorLines.{Line, state_at}
-use Rattle.qss_states.specs.StateLines.{line_at}
-use Rattle.qss_events.specs.Schedules.{no_line}
+use Rattle.qss_states.proofs.Common
+use Common.{ℤ, ◌∙◌, ◌≡◌, ap, get_or, get_or-set_same, int_at, Line, line_at, no_line, state_at}
 use Rattle.qss_states.proofs.Courses.{one_set}
 use Rattle.qss_states.proofs.Gathering.{line_with, near_on, goes_on_from}
 use Rattle.qss_states.proofs.GoingOn.{has_line, has_place, line_read, small_level, small_slope}

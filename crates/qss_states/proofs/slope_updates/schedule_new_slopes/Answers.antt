@@ -1,12 +1,8 @@
 -- One more state goes on.
-use Rattle.std.proofs.Common.{◌≡◌, ℕ, ℤ, List, take, get_or, refl, ◌∙◌, sym, subst, arith}
-use Rattle.std.proofs.lemmas.List.{take_all}
-use Rattle.qss_machine.specs.Machines.{level_unit, quantum_of}
-use Rattle.mu_num.specs.IndexedSums.{int_at}
-use Rattle.qss_quant.specs.IntegratorLines.{state_at, IsLineWithinQuantum}
-use Rattle.qss_states.specs.StateLines.{line_at}
-use Rattle.qss_states.specs.SlopeUpdates.{Schedules, IsOneScheduled, AreScheduled}
-use Rattle.mu_num.proofs.Writes.{among_at}
+use Rattle.qss_states.proofs.Common
+use Common.{ℕ, ℤ, ◌∙◌, ◌≡◌, among_at, AreScheduled, arith, get_or, int_at, IsLineWithinQuantum}
+use Common.{IsOneScheduled, level_unit, line_at, List, quantum_of, refl, Schedules, state_at, subst}
+use Common.{sym, take, take_all}
 use Rattle.qss_states.proofs.Courses.{none_go_on, one_more}
 use Rattle.qss_states.proofs.GoingOn.{still_on}
 use Rattle.qss_states.proofs.Gathering.{still_there, same_tick_on}

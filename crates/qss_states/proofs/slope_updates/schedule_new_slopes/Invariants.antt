@@ -1,7 +1,4 @@
-use Rattle.std.proofs.Common.{◌≡◌, ℕ, take}
-use Rattle.qss_quant.specs.IntegratorLines.{state_at}
-use Rattle.qss_states.specs.StateLines.{line_at}
-use Rattle.qss_states.specs.SlopeUpdates.{AreScheduled}
+use Rattle.qss_states.proofs.Common.{ℕ, ◌≡◌, AreScheduled, line_at, state_at, take}
 use Rattle.qss_states.proofs.slope_updates.schedule_new_slopes.Given as goal
 
 -- the states so far, and lines that keep their ticks

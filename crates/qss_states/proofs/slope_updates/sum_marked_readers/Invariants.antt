@@ -1,6 +1,4 @@
-use Rattle.std.proofs.Common.{◌≡◌, length, take}
-use Rattle.qss_machine.specs.Machines.{state_count}
-use Rattle.qss_states.specs.SumMarks.{AreReaderSums, IsSlopeAt}
+use Rattle.qss_states.proofs.Common.{◌≡◌, AreReaderSums, IsSlopeAt, length, state_count, take}
 use Rattle.qss_states.proofs.slope_updates.sum_marked_readers.Given as goal
 
 -- the variables so far

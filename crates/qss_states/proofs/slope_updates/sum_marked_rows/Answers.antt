@@ -1,18 +1,11 @@
 -- The slope of one more row, which is known already or computed.
-use Rattle.std.proofs.Common.{ℕ, ℤ, ◌<◌, pos, get_or, ◌∙◌, ap, arith}
-use Rattle.std.proofs.lemmas.Bool.{iff_false}
-use Rattle.std.proofs.lemmas.Int.{to_z-of_z}
-use Rattle.std.proofs.lemmas.List.{length-set}
-use Rattle.std.specs.Int.RustNames.{FitsSigned}
-use Rattle.qss_machine.specs.Machines.{state_count}
-use Rattle.mu_num.proofs.Writes.{written_more, written_all, among_at}
-use Rattle.qss_events.proofs.LightRows.{row_is_light}
+use Rattle.qss_states.proofs.Common
+use Common.{ℕ, ℤ, ◌<◌, ◌∙◌, among_at, ap, arith, FitsSigned, get_or, iff_false, IsSlopeAt}
+use Common.{length-set, of_z, pos, row_is_light, state_count, to_z, to_z-of_z, w128, written_all}
+use Common.{written_more}
 use Rattle.qss_states.proofs.GoingOn.{is_true}
-use Rattle.qss_states.specs.SumMarks.{IsSlopeAt}
 use Rattle.qss_states.proofs.Marked.{still_known, one_known}
 use Rattle.qss_states.proofs.slope_updates.sum_marked_rows.Goals as goal
-use mir.Syntax.{w128}
-use mir.Val.{to_z, of_z}
 
 pub loop-row-preserved-then-not-is_sum_marked : goal.loop-row-preserved-then-not-is_sum_marked
 loop-row-preserved-then-not-is_sum_marked c =

@@ -1,7 +1,4 @@
-use Rattle.std.proofs.Common.{◌≡◌, length, take, pos}
-use Rattle.qss_machine.specs.Machines.{state_count}
-use Rattle.mu_num.specs.Writes.{IsWritten}
-use Rattle.qss_states.specs.SumMarks.{IsSlopeAt}
+use Rattle.qss_states.proofs.Common.{◌≡◌, IsSlopeAt, IsWritten, length, pos, state_count, take}
 use Rattle.qss_states.proofs.slope_updates.sum_marked_rows.Given as goal
 
 -- the rows so far

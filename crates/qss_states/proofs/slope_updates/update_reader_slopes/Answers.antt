@@ -1,17 +1,10 @@
 -- The states whose rows read one more variable go on.
-use Rattle.std.proofs.Common.{◌<◌, ◌+◌, ℕ, List, take, get_or, ◌∙◌, sym, subst, arith, flat_map}
-use Rattle.std.proofs.lemmas.List.{take_all}
-use Rattle.std.specs.Prelude.{All}
-use Rattle.qss_machine.specs.Machines.{state_count, discrete_count}
-use Rattle.mu_num.specs.IndexedSums.{int_at}
-use Rattle.qss_machine.specs.Readers.{reading_rows}
-use Rattle.qss_sched.specs.Ranks.{due_at}
-use Rattle.qss_states.specs.StateLines.{line_at}
-use Rattle.qss_states.specs.SlopeUpdates.{Schedules, HaveSlopesUpdated}
-use Rattle.qss_machine.proofs.Among.{lists_more}
+use Rattle.qss_states.proofs.Common
+use Common.{ℕ, ◌+◌, ◌<◌, ◌∙◌, All, arith, discrete_count, due_at, flat_map, get_or}
+use Common.{HaveSlopesUpdated, int_at, line_at, List, lists_more, reading_rows, rows_below}
+use Common.{rows_kept, rows_many, Schedules, state_count, subst, sym, take, take_all}
 use Rattle.qss_states.proofs.Courses.{may_reslope_again, resloped_then}
 use Rattle.qss_states.proofs.GoingOn.{still_on}
-use Rattle.qss_machine.proofs.KeptReaders.{rows_many, rows_kept, rows_below}
 use Rattle.qss_states.proofs.slope_updates.update_reader_slopes.Goals as goal
 
 pub rows_of-readers-requires : goal.rows_of-readers-requires

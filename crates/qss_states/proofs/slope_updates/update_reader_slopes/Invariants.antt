@@ -1,8 +1,5 @@
-use Rattle.std.proofs.Common.{◌≡◌, length, take, flat_map}
-use Rattle.qss_machine.specs.Machines.{state_count}
-use Rattle.qss_machine.specs.Readers.{reading_rows}
-use Rattle.qss_states.specs.LineReplacements.{IsCounted}
-use Rattle.qss_states.specs.SlopeUpdates.{HaveSlopesUpdated}
+use Rattle.qss_states.proofs.Common
+use Common.{◌≡◌, flat_map, HaveSlopesUpdated, IsCounted, length, reading_rows, state_count, take}
 use Rattle.qss_states.proofs.slope_updates.update_reader_slopes.Given as goal
 
 -- the variables so far

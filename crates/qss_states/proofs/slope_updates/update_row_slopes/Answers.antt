@@ -1,27 +1,15 @@
 -- One more row, whose state is listed.
-use Rattle.std.proofs.Common.{◌≡◌, ◌^◌, ◌<◌, ◌≤◌, ℕ, ℤ, List, pos, ◌+ℤ◌, ◌-ℤ◌, ◌*ℤ◌, length, get_or}
-use Rattle.std.proofs.Common.{◌∙◌, sym, ap, subst, arith, rules}
-use Rattle.std.proofs.lemmas.Int.{ints, to_z-of_z}
-use Rattle.std.proofs.lemmas.List.{length-set, take_all, take_more}
-use Rattle.std.specs.Int.RustNames.{unsigned_abs, FitsSigned}
-use Rattle.mu_num.specs.Sizes.{IsWithin}
-use Rattle.qss_machine.specs.Machines.{state_count, row_coefficient, mode_coefficient_at}
-use Rattle.mu_num.specs.IndexedSums.{int_at}
-use Rattle.qss_machine.specs.Readers.{reading_rows, reading_coefficients}
-use Rattle.mu_num.specs.Writes.{IsWritten}
-use Rattle.mu_num.proofs.RisingNumbers.{not_before}
-use Rattle.qss_machine.proofs.KeptReaders.{rows_many, rows_kept, coefficients_many}
-use Rattle.qss_machine.proofs.KeptReaders.{coefficients_kept}
-use Rattle.mu_num.proofs.Writes.{written_more, written_all}
-use Rattle.qss_states.specs.declared.row_sum_changes.RowSum.TheVariants.{Slope}
-use Rattle.qss_states.specs.Advancing.{advancing_of}
-use Rattle.qss_states.specs.RowSums.{IsSumAfterLevelChange}
+use Rattle.qss_states.proofs.Common
+use Common.{ℕ, ℤ, ◌*ℤ◌, ◌+ℤ◌, ◌-ℤ◌, ◌<◌, ◌^◌, ◌∙◌, ◌≡◌, ◌≤◌, advancing_of, ap, arith}
+use Common.{coefficients_kept, coefficients_many, FitsSigned, get_or, int_at, ints}
+use Common.{IsSumAfterLevelChange, IsWithin, IsWritten, length, length-set, List}
+use Common.{mode_coefficient_at, not_before, of_z, pos, reading_coefficients, reading_rows}
+use Common.{row_coefficient, rows_kept, rows_many, rules, Slope, state_count, subst, sym, take_all}
+use Common.{take_more, to_z, to_z-of_z, unsigned_abs, w128, w64, written_all, written_more}
 use Rattle.qss_states.proofs.Gathering.{none_gathered, gathered_then, gathered_as}
 use Rattle.qss_states.proofs.Shifting.{readers_as_many, reader_numbers, own_coefficient}
 use Rattle.qss_states.proofs.Shifting.{small_coefficient}
 use Rattle.qss_states.proofs.slope_updates.update_row_slopes.Goals as goal
-use mir.Syntax.{w64, w128}
-use mir.Val.{to_z, of_z}
 
 pub rows_of-rows-requires : goal.rows_of-rows-requires
 rows_of-rows-requires g c = omega (arith, c.requires.ready.known, rows_many c.args.at.now.event.machine.now c.args.at.now.event.uses.now c.requires.ready.new.uses)

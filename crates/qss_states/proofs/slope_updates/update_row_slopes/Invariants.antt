@@ -1,10 +1,6 @@
-use Rattle.std.proofs.Common.{◌≡◌, length, take, pos}
-use Rattle.qss_machine.specs.Machines.{state_count}
-use Rattle.mu_num.specs.ListedPlaces.{AreRisingBelow}
-use Rattle.mu_num.specs.Writes.{IsWritten}
-use Rattle.qss_states.specs.declared.row_sum_changes.RowSum.TheVariants.{Slope}
-use Rattle.qss_states.specs.Advancing.{HaveAdvanced, advancing_of}
-use Rattle.qss_states.specs.RowSums.{IsSumAfterLevelChange}
+use Rattle.qss_states.proofs.Common
+use Common.{◌≡◌, advancing_of, AreRisingBelow, HaveAdvanced, IsSumAfterLevelChange, IsWritten}
+use Common.{length, pos, Slope, state_count, take}
 use Rattle.qss_states.proofs.slope_updates.update_row_slopes.Given as goal
 
 -- the slopes of the rows so far, whose states are listed

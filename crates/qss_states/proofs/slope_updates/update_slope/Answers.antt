@@ -1,23 +1,15 @@
 -- The line of one state goes on, from the tick to which it moves.
-use Rattle.std.proofs.Common.{◌≡◌, ◌∙◌, Bool, not, false, refl, sym, ap, subst, arith}
-use Rattle.std.proofs.lemmas.List.{get_or-set_other}
-use Rattle.qss_machine.specs.Machines.{state_count, level_unit, quantum_of}
-use Rattle.mu_num.specs.IndexedSums.{int_at}
-use Rattle.qss_quant.specs.IntegratorLines.{Line, state_at, IsLineWithinQuantum}
-use Rattle.qss_events.specs.Schedules.{no_line}
-use Rattle.qss_events.proofs.Lines.{line_here}
-use Rattle.qss_sched.specs.Ranks.{due_at}
+use Rattle.qss_states.proofs.Common
+use Common.{◌∙◌, ◌≡◌, ap, arith, Bool, due_at, false, get_or-set_other, has_level_and_slope, int_at}
+use Common.{IsLineWithinQuantum, IsRestartedFrom, level_unit, Line, line_at, line_here, no_line}
+use Common.{not, of_z, quantum_of, refl, state_at, state_count, subst, sym, w128, w64}
 use Rattle.qss_states.specs.Advancing.{MaySchedule}
-use Rattle.qss_states.specs.LineReplacements.{has_level_and_slope}
-use Rattle.qss_states.specs.StateLines.{line_at, IsRestartedFrom}
 use Rattle.qss_states.proofs.Counting.{one_if}
 use Rattle.qss_states.proofs.GoingOn.{line_read, moved_read}
 use Rattle.qss_states.proofs.Renewed.{goes_otherwise, goes_so, one_renewed}
-use Rattle.qss_states.proofs.slope_updates.update_slope.Goals as goal
 use Rattle.qss_states.proofs.slope_updates.update_slope.Goals.{else-line-slope-via-then-line-slope+else-line-level}
 use Rattle.qss_states.proofs.slope_updates.update_slope.Goals.{else-line-slope-via-else-line-slope}
-use mir.Syntax.{w64, w128}
-use mir.Val.{of_z}
+use Rattle.qss_states.proofs.slope_updates.update_slope.Goals as goal
 
 pub schedule_new_slope-requires-clause-ready : goal.schedule_new_slope-requires-clause-ready
 schedule_new_slope-requires-clause-ready g c =

@@ -1,11 +1,7 @@
 -- One more state goes on.
-use Rattle.std.proofs.Common.{◌<◌, ◌∷◌, [], ℕ, List, take, get_or, sym, subst, arith}
-use Rattle.std.proofs.lemmas.List.{take_more}
-use Rattle.qss_machine.specs.Machines.{state_count}
-use Rattle.mu_num.specs.IndexedSums.{int_at}
-use Rattle.qss_sched.specs.Ranks.{due_at}
-use Rattle.qss_states.specs.StateLines.{line_at}
-use Rattle.qss_states.specs.SlopeUpdates.{Schedules, HaveSlopesUpdated}
+use Rattle.qss_states.proofs.Common
+use Common.{[], ℕ, ◌<◌, ◌∷◌, arith, due_at, get_or, HaveSlopesUpdated, int_at, line_at, List}
+use Common.{Schedules, state_count, subst, sym, take, take_more}
 use Rattle.qss_states.proofs.Courses.{may_reslope_again, one_resloped, resloped_then}
 use Rattle.qss_states.proofs.GoingOn.{still_on}
 use Rattle.qss_states.proofs.slope_updates.update_slopes.Goals as goal

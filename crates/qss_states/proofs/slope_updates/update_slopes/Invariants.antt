@@ -1,7 +1,4 @@
-use Rattle.std.proofs.Common.{◌≡◌, length, take}
-use Rattle.qss_machine.specs.Machines.{state_count}
-use Rattle.qss_states.specs.LineReplacements.{IsCounted}
-use Rattle.qss_states.specs.SlopeUpdates.{HaveSlopesUpdated}
+use Rattle.qss_states.proofs.Common.{◌≡◌, HaveSlopesUpdated, IsCounted, length, state_count, take}
 use Rattle.qss_states.proofs.slope_updates.update_slopes.Given as goal
 
 -- the states so far

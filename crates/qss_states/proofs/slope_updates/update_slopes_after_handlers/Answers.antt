@@ -1,21 +1,15 @@
 -- The moved states, those whose rows read a change, and the others.
-use Rattle.std.proofs.Common.{◌≡◌, ◌<◌, ℕ, Bool, true, false, refl, sym, ◌∙◌, ap, subst, arith}
-use Rattle.std.proofs.lemmas.Bool.{and_parts, false_from_ne_true}
-use Rattle.qss_machine.specs.Machines.{state_count, level_unit, quantum_of, slope_at}
-use Rattle.mu_num.specs.IndexedSums.{int_at}
-use Rattle.qss_quant.specs.IntegratorLines.{Line, IsLineWithinQuantum}
-use Rattle.qss_sched.specs.Ranks.{due_at}
-use Rattle.qss_states.specs.StateLines.{states_with, line_at}
-use Rattle.mu_num.specs.ListedPlaces.{is_listed}
-use Rattle.qss_states.specs.LineReplacements.{has_level_and_slope, replaced_lines}
-use Rattle.qss_states.specs.SlopeUpdates.{MayUpdateSlope, Schedules}
+use Rattle.qss_states.proofs.Common
+use Common.{ℕ, ◌<◌, ◌∙◌, ◌≡◌, and_parts, ap, arith, Bool, due_at, false, has_level_and_slope}
+use Common.{index_of, int_at, int_at-tabulate, is_listed, IsLineWithinQuantum, level_unit, Line}
+use Common.{line_at, MayUpdateSlope, quantum_of, refl, replaced_lines, Schedules, slope_at}
+use Common.{state_count, states_with, subst, sym, true}
+use Rattle.std.proofs.lemmas.Bool.{false_from_ne_true}
 use Rattle.qss_states.proofs.Courses.{may_reslope_again}
-use Rattle.mu_num.proofs.Tables.{int_at-tabulate}
 use Rattle.qss_states.proofs.Renewed.{none_left}
 use Rattle.qss_states.proofs.Reseating.{moved_state, left_seated, may_reslope_seated}
 use Rattle.qss_states.proofs.Reseating.{renewals_seated, reseated}
 use Rattle.qss_states.proofs.GoingOn.{slopes_small}
-use Rattle.mu_num.proofs.Writes.{index_of}
 use Rattle.qss_states.proofs.slope_updates.update_slopes_after_handlers.Goals as goal
 
 pub update_slopes_from_handlers-requires-clause-allowed : goal.update_slopes_from_handlers-requires-clause-allowed

@@ -1,20 +1,10 @@
 -- The slopes follow one level, and what reads it is listed.
-use Rattle.std.proofs.Common.{◌≡◌, ◌<◌, ℕ, ℤ, length, pos, ◌∙◌, ap, subst, arith}
-use Rattle.std.proofs.lemmas.Int.{ints, to_z-of_z}
-use Rattle.std.proofs.lemmas.List.{get_or_default}
-use Rattle.std.specs.Int.RustNames.{FitsSigned}
-use Rattle.mu_num.specs.Sizes.{IsWithin}
-use Rattle.mu_num.specs.IndexedSums.{int_at}
-use Rattle.qss_machine.specs.Readers.{reading_rows}
-use Rattle.qss_quant.specs.IntegratorLines.{Line}
-use Rattle.qss_events.specs.Schedules.{no_line}
-use Rattle.mu_num.specs.Writes.{IsWritten}
-use Rattle.qss_states.specs.declared.row_sum_changes.RowSum.TheVariants.{Slope}
-use Rattle.qss_states.specs.RowSums.{IsSumAfterLevelChange}
-use Rattle.qss_states.specs.StateLines.{line_at}
+use Rattle.qss_states.proofs.Common
+use Common.{ℕ, ℤ, ◌<◌, ◌∙◌, ◌≡◌, ap, arith, FitsSigned, get_or_default, int_at, ints}
+use Common.{IsSumAfterLevelChange, IsWithin, IsWritten, length, Line, line_at, no_line, pos}
+use Common.{reading_rows, Slope, subst, to_z-of_z, w64}
 use Rattle.qss_states.proofs.Gathering.{gathered_then}
 use Rattle.qss_states.proofs.slope_updates.update_slopes_for_level.Goals as goal
-use mir.Syntax.{w64}
 
 pub advance_line-requires-clause-allowed : goal.advance_line-requires-clause-allowed
 advance_line-requires-clause-allowed g c = c.requires.can

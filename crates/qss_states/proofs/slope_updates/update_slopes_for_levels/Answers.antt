@@ -1,24 +1,13 @@
 -- One more moved state has its level.
-use Rattle.std.proofs.Common.{◌≡◌, ◌<◌, ◌∷◌, ℕ, ℤ, pos, List, length, get_or, take, ◌∙◌, sym, ap}
-use Rattle.std.proofs.Common.{subst, arith}
-use Rattle.std.proofs.lemmas.List.{take_all}
-use Rattle.std.proofs.lemmas.List.FromFn.{fill_by_all, length-map-range_with_len}
-use Rattle.std.proofs.lemmas.List.FromFn.{get_or-map-range_with_len}
-use Rattle.mu_num.specs.Sizes.{IsWithin}
-use Rattle.qss_machine.specs.Machines.{state_count}
-use Rattle.mu_num.specs.IndexedSums.{int_at}
-use Rattle.qss_machine.specs.Readers.{reading_rows}
-use Rattle.mu_num.specs.Writes.{IsWritten}
-use Rattle.qss_machine.proofs.Among.{lists_more}
-use Rattle.mu_num.proofs.RisingNumbers.{not_before, few_numbers}
-use Rattle.qss_states.specs.declared.row_sum_changes.RowSum.TheVariants.{Slope}
-use Rattle.qss_states.specs.Advancing.{advancing_of, reached}
-use Rattle.qss_states.specs.StateLines.{line_at}
-use Rattle.qss_states.specs.RowSums.{sum_at, AreSumsBefore, IsSumAfterLevelChange}
+use Rattle.qss_states.proofs.Common
+use Common.{ℕ, ℤ, ◌<◌, ◌∙◌, ◌∷◌, ◌≡◌, advancing_of, ap, AreSumsBefore, arith, few_numbers}
+use Common.{fill_by_all, get_or, get_or-map-range_with_len, int_at, IsSumAfterLevelChange, IsWithin}
+use Common.{IsWritten, length, length-map-range_with_len, line_at, List, lists_more, not_before}
+use Common.{pos, reached, reading_rows, row_is_light, Slope, state_count, subst, sum_at, sym, take}
+use Common.{take_all}
 use Rattle.qss_states.proofs.Gathering.{none_gathered, gathered_then, gathered_as}
 use Rattle.qss_states.proofs.Shifting.{levels_along, along_more, along_other, along_all}
 use Rattle.qss_states.proofs.Shifting.{length-along, sums_small, sums_follow, sums_near}
-use Rattle.qss_events.proofs.LightRows.{row_is_light}
 use Rattle.qss_states.proofs.slope_updates.update_slopes_for_levels.Goals as goal
 
 pub loop-state-init : goal.loop-state-init

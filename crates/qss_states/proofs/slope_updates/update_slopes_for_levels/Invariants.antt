@@ -1,10 +1,7 @@
-use Rattle.std.proofs.Common.{◌≡◌, ◌+◌, ◌*◌, ◌^◌, ◌<◌, ◌≤◌, ℕ, ℤ, List, length, take}
+use Rattle.qss_states.proofs.Common
+use Common.{ℕ, ℤ, ◌*◌, ◌+◌, ◌<◌, ◌^◌, ◌≡◌, ◌≤◌, advancing_of, AreSumsBefore, HaveAdvanced, int_at}
+use Common.{length, List, reached, Slope, state_count, sum_at, take}
 use Rattle.std.specs.Prelude.{unsigned_abs}
-use Rattle.qss_machine.specs.Machines.{state_count}
-use Rattle.mu_num.specs.IndexedSums.{int_at}
-use Rattle.qss_states.specs.declared.row_sum_changes.RowSum.TheVariants.{Slope}
-use Rattle.qss_states.specs.Advancing.{HaveAdvanced, advancing_of, reached}
-use Rattle.qss_states.specs.RowSums.{sum_at, AreSumsBefore}
 use Rattle.qss_states.proofs.Shifting.{levels_along}
 use Rattle.qss_states.proofs.slope_updates.update_slopes_for_levels.Given as goal
 

@@ -1,15 +1,10 @@
 -- The slopes of the rows that read an assigned variable, and those of the others.
-use Rattle.std.proofs.Common.{◌≡◌, ℕ, pos, length, ◌∙◌, sym, ap, inl, inr, flat_map}
-use Rattle.std.proofs.lemmas.Bool.{cases_Bool}
-use Rattle.std.proofs.lemmas.List.FromFn.{fill_by_all, length-map-range_with_len}
-use Rattle.qss_machine.specs.Machines.{state_count, slope_at}
-use Rattle.mu_num.specs.IndexedSums.{int_at}
-use Rattle.qss_machine.specs.Readers.{reading_rows}
-use Rattle.mu_num.specs.ListedPlaces.{is_listed}
+use Rattle.qss_states.proofs.Common
+use Common.{ℕ, ◌∙◌, ◌≡◌, among_readers, ap, cases_Bool, fill_by_all, flat_map, inl, inr, int_at}
+use Common.{int_at-tabulate, is_listed, length, length-map-range_with_len, pos, reading_rows}
+use Common.{slope_at, state_count, sym}
 use Rattle.qss_states.proofs.Assigned.{slope_stays}
 use Rattle.qss_states.proofs.Shifting.{at_before, levels_after}
-use Rattle.mu_num.proofs.Tables.{int_at-tabulate}
-use Rattle.qss_machine.proofs.Among.{among_readers}
 use Rattle.qss_states.proofs.slope_updates.update_slopes_from_handlers.Goals as goal
 
 pub update_sums_of_slopes-requires : goal.update_sums_of_slopes-requires

@@ -1,13 +1,8 @@
 -- The slopes of the rows that read one variable, or of those that were marked.
-use Rattle.std.proofs.Common.{◌≡◌, ℕ, ℤ, ◌+◌, ◌<◌, pos, List, [], length, get_or, flat_map}
-use Rattle.std.proofs.Common.{sym, ◌∙◌, subst, arith}
-use Rattle.std.proofs.lemmas.List.{get_or_default}
-use Rattle.std.specs.Prelude.{All}
-use Rattle.qss_machine.specs.Machines.{state_count, discrete_count}
-use Rattle.qss_machine.specs.Readers.{reading_rows}
-use Rattle.mu_num.specs.Writes.{IsWritten}
-use Rattle.qss_machine.proofs.KeptReaders.{rows_many, rows_kept, rows_below, rows_kept_all}
-use Rattle.qss_states.specs.SumMarks.{AreMarked, IsSlopeAt}
+use Rattle.qss_states.proofs.Common
+use Common.{[], ℕ, ℤ, ◌+◌, ◌<◌, ◌∙◌, ◌≡◌, All, AreMarked, arith, discrete_count, flat_map, get_or}
+use Common.{get_or_default, IsSlopeAt, IsWritten, length, List, pos, reading_rows, rows_below}
+use Common.{rows_kept, rows_kept_all, rows_many, state_count, subst, sym}
 use Rattle.qss_states.proofs.Marked.{all_marked, only_one, written_over}
 use Rattle.qss_states.proofs.slope_updates.update_slopes_from_readers.Goals as goal
 

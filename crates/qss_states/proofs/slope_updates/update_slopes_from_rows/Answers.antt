@@ -1,15 +1,9 @@
 -- The slope of one more row.
-use Rattle.std.proofs.Common.{◌≡◌, ℕ, ℤ, ◌<◌, pos, get_or, ◌∙◌, arith}
-use Rattle.std.proofs.lemmas.Int.{to_z-of_z}
-use Rattle.std.proofs.lemmas.List.{length-set}
-use Rattle.std.specs.Int.RustNames.{FitsSigned}
-use Rattle.qss_machine.specs.Machines.{state_count, slope_at}
+use Rattle.qss_states.proofs.Common
+use Common.{ℕ, ℤ, ◌<◌, ◌∙◌, ◌≡◌, arith, FitsSigned, get_or, length-set, of_z, pos, row_is_light}
+use Common.{slope_at, state_count, to_z, to_z-of_z, w128, written_all, written_more}
 use Rattle.qss_states.proofs.GoingOn.{is_true}
-use Rattle.mu_num.proofs.Writes.{written_more, written_all}
-use Rattle.qss_events.proofs.LightRows.{row_is_light}
 use Rattle.qss_states.proofs.slope_updates.update_slopes_from_rows.Goals as goal
-use mir.Syntax.{w128}
-use mir.Val.{to_z, of_z}
 
 pub slope-requires-clause-modes : goal.slope-requires-clause-modes
 slope-requires-clause-modes c =

@@ -1,6 +1,4 @@
-use Rattle.std.proofs.Common.{◌≡◌, length, take, pos}
-use Rattle.qss_machine.specs.Machines.{state_count, slope_at}
-use Rattle.mu_num.specs.Writes.{IsWritten}
+use Rattle.qss_states.proofs.Common.{◌≡◌, IsWritten, length, pos, slope_at, state_count, take}
 use Rattle.qss_states.proofs.slope_updates.update_slopes_from_rows.Given as goal
 
 -- the rows so far

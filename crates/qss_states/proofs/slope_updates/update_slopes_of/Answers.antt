@@ -1,17 +1,10 @@
 -- The states that go on and those that do not.
-use Rattle.std.proofs.Common.{◌≡◌, ◌<◌, ◌≤◌, true, false, ◌||◌, ℕ, ℤ, List, length, count_by, refl}
-use Rattle.std.proofs.Common.{sym, ◌∙◌, ap, subst, arith}
+use Rattle.qss_states.proofs.Common
+use Common.{ℕ, ℤ, ◌<◌, ◌||◌, ◌∙◌, ◌≡◌, ◌≤◌, Advancing, advancing_of, All, ap, AreScheduled, arith}
+use Common.{behind, count_by, false, index_of, int_at, is_listed, IsLineWithinQuantum, length}
+use Common.{level_unit, line_at, List, quantum_of, range_with_len, reached, refl, Schedules}
+use Common.{state_at, state_count, subst, sym, true}
 use Rattle.std.proofs.lemmas.List.Elements.{All-nil}
-use Rattle.std.specs.List.{range_with_len}
-use Rattle.std.specs.Prelude.{All}
-use Rattle.qss_machine.specs.Machines.{state_count, level_unit, quantum_of}
-use Rattle.mu_num.specs.IndexedSums.{int_at}
-use Rattle.qss_quant.specs.IntegratorLines.{state_at, IsLineWithinQuantum}
-use Rattle.qss_states.specs.StateLines.{line_at}
-use Rattle.mu_num.specs.ListedPlaces.{is_listed}
-use Rattle.mu_num.proofs.Writes.{index_of}
-use Rattle.qss_states.specs.Advancing.{Advancing, advancing_of, behind, reached}
-use Rattle.qss_states.specs.SlopeUpdates.{Schedules, AreScheduled}
 use Rattle.qss_states.proofs.DueLevels.{int_at-states_at}
 use Rattle.qss_states.proofs.Gathering.{behind_few, behind_may, all_on}
 use Rattle.qss_states.proofs.GoingOn.{slopes_small}

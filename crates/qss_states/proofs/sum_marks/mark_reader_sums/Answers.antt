@@ -1,12 +1,7 @@
 -- The sums of the rows that read one more variable are marked.
-use Rattle.std.proofs.Common.{◌≡◌, ℕ, ℤ, ◌+◌, ◌<◌, ◌++◌, List, [], length, get_or, take, pos, sym}
-use Rattle.std.proofs.Common.{ap, ◌∙◌, subst}
-use Rattle.std.proofs.lemmas.List.{take_all}
-use Rattle.std.specs.Prelude.{All}
-use Rattle.mu_num.proofs.Writes.{written_on}
-use Rattle.qss_machine.proofs.Among.{lists_more}
-use Rattle.qss_states.specs.SumMarks.{AreMarked, listed_rows}
-use Rattle.qss_states.specs.declared.sum_marks.TheConstants.{SUM_MARK}
+use Rattle.qss_states.proofs.Common
+use Common.{[], ℕ, ℤ, ◌++◌, ◌+◌, ◌<◌, ◌∙◌, ◌≡◌, All, ap, AreMarked, get_or, length, List}
+use Common.{listed_rows, lists_more, pos, subst, SUM_MARK, sym, take, take_all, written_on}
 use Rattle.qss_states.proofs.sum_marks.mark_reader_sums.Goals as goal
 
 pub mark_sums-requires : goal.mark_sums-requires

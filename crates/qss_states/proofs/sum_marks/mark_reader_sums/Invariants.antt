@@ -1,5 +1,4 @@
-use Rattle.std.proofs.Common.{take}
-use Rattle.qss_states.specs.SumMarks.{AreMarked, listed_rows}
+use Rattle.qss_states.proofs.Common.{AreMarked, listed_rows, take}
 use Rattle.qss_states.proofs.sum_marks.mark_reader_sums.Given as goal
 
 -- the rows that are listed for the variables so far

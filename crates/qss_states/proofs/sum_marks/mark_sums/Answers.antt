@@ -1,7 +1,6 @@
 -- One more sum is marked.
-use Rattle.std.proofs.Common.{◌≡◌, ℕ, ◌<◌, length, get_or, pos, refl, arith}
-use Rattle.mu_num.proofs.Writes.{written_more}
-use Rattle.qss_states.specs.declared.sum_marks.TheConstants.{SUM_MARK}
+use Rattle.qss_states.proofs.Common
+use Common.{ℕ, ◌<◌, ◌≡◌, arith, get_or, length, pos, refl, SUM_MARK, written_more}
 use Rattle.qss_states.proofs.sum_marks.mark_sums.Goals as goal
 
 pub loop-row-preserved : goal.loop-row-preserved

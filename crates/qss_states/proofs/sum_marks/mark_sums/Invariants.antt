@@ -1,5 +1,4 @@
-use Rattle.std.proofs.Common.{take}
-use Rattle.qss_states.specs.SumMarks.{AreMarked}
+use Rattle.qss_states.proofs.Common.{AreMarked, take}
 use Rattle.qss_states.proofs.sum_marks.mark_sums.Given as goal
 
 -- the rows so far

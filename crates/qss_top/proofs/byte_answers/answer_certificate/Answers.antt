@@ -1,6 +1,6 @@
-use Rattle.qss_top.specs.declared.file_reading.FileKind.TheVariants as kinds
 use Rattle.qss_top.proofs.AnswerOutcomes.{long_certify, outside_certify}
 use Rattle.qss_top.proofs.SourceSteps.{machine_step, refused_before, refused_not_done}
+use Rattle.qss_top.specs.declared.file_reading.FileKind.TheVariants as kinds
 use Rattle.qss_top.proofs.byte_answers.answer_certificate.Goals as goal
 
 pub returns-in-Ok-clause-answered : goal.returns-in-Ok-clause-answered

@@ -1,7 +1,7 @@
-use Rattle.std.proofs.Common.{refl, inl, inr}
-use Rattle.qss_top.specs.declared.file_reading.FileKind.TheVariants as kinds
+use Rattle.qss_top.proofs.Common.{inl, inr, refl}
 use Rattle.qss_top.proofs.AnswerOutcomes.{long_compare}
 use Rattle.qss_top.proofs.SourceSteps.{machine_step, refused_before}
+use Rattle.qss_top.specs.declared.file_reading.FileKind.TheVariants as kinds
 use Rattle.qss_top.proofs.byte_answers.answer_comparison.Goals as goal
 
 pub returns-in-Ok : goal.returns-in-Ok

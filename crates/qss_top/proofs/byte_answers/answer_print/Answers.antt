@@ -1,6 +1,4 @@
-use Rattle.std.proofs.Common.{refl, inl}
-use Rattle.qss_compile.specs.Compilation.{IsParseRefusal}
-use Rattle.qss_top.specs.MachineAnswers.{too_long}
+use Rattle.qss_top.proofs.Common.{inl, IsParseRefusal, refl, too_long}
 use Rattle.qss_top.proofs.FrameFacts.{rejection_writes}
 use Rattle.qss_top.proofs.Sources.{long_for}
 use Rattle.qss_top.proofs.byte_answers.answer_print.Goals as goal

@@ -1,6 +1,6 @@
-use Rattle.qss_top.specs.declared.file_reading.FileKind.TheVariants as kinds
 use Rattle.qss_top.proofs.AnswerOutcomes.{long_upgrade, outside_upgrade}
 use Rattle.qss_top.proofs.SourceSteps.{machine_step, refused_before}
+use Rattle.qss_top.specs.declared.file_reading.FileKind.TheVariants as kinds
 use Rattle.qss_top.proofs.byte_answers.answer_upgrade.Goals as goal
 
 pub returns-in-Ok : goal.returns-in-Ok

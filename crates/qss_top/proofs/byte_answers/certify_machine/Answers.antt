@@ -1,4 +1,4 @@
-use Rattle.std.proofs.Common.{sym, ◌∙◌}
+use Rattle.qss_top.proofs.Common.{◌∙◌, sym}
 use Rattle.qss_top.proofs.AnswerOutcomes.{bounds_some, done_written, ends_writes}
 use Rattle.qss_top.proofs.byte_answers.certify_machine.Goals as goal
 

@@ -1,4 +1,4 @@
-use Rattle.std.proofs.Common.{sym, ◌∙◌}
+use Rattle.qss_top.proofs.Common.{◌∙◌, sym}
 use Rattle.qss_top.proofs.AnswerOutcomes.{summary_some, ends_writes, done_written}
 use Rattle.qss_top.proofs.byte_answers.check_machine.Goals as goal
 

@@ -1,4 +1,4 @@
-use Rattle.std.proofs.Common.{inr}
+use Rattle.qss_top.proofs.Common.{inr}
 use Rattle.qss_top.proofs.byte_answers.machine_for_text.Goals as goal
 
 pub returns-in-Err-clause-refused : goal.returns-in-Err-clause-refused

@@ -1,5 +1,4 @@
-use Rattle.std.proofs.Common.{◌<◌, length, refl, inl, inr}
-use Rattle.qss_top.specs.FileReadings.{limit_of}
+use Rattle.qss_top.proofs.Common.{◌<◌, inl, inr, length, limit_of, refl}
 use Rattle.qss_top.proofs.byte_answers.test_text.Goals as goal
 
 pub returns-in-Ok-clause-refused : goal.returns-in-Ok-clause-refused

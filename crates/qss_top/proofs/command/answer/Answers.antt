@@ -1,7 +1,5 @@
-use Rattle.std.proofs.Common.{subst, refl, map}
-use Rattle.std.specs.declared.option.Option.{Option}
-use Rattle.qss_cli.specs.Commands.{Command, command_of}
-use Rattle.qss_top.specs.ReadAnswers.{ArgumentsAnswerFromReads}
+use Rattle.qss_top.proofs.Common
+use Common.{ArgumentsAnswerFromReads, Command, command_of, map, Option, refl, subst}
 use Rattle.qss_top.proofs.FrameFacts.{unread}
 use Rattle.qss_top.proofs.ReadFacts.{memory_unread}
 use Rattle.qss_top.specs.declared.command_outcome.Outcome.TheVariants as outcome

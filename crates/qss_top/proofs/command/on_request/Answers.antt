@@ -1,4 +1,4 @@
-use Rattle.std.proofs.Common.{sym}
+use Rattle.qss_top.proofs.Common.{sym}
 use Rattle.qss_top.proofs.FileSteps.{answer_step}
 use Rattle.qss_top.proofs.FrameFacts.{task_goes_on, two_files_write_at_end}
 use Rattle.qss_top.proofs.command.on_request.Goals as goal

@@ -1,5 +1,4 @@
-use Rattle.std.proofs.Common.{inl}
-use Rattle.qss_compile.specs.Compilation.{IsParseRefusal}
+use Rattle.qss_top.proofs.Common.{inl, IsParseRefusal}
 use Rattle.qss_top.proofs.FileSteps.{answer_step, file_step, no_file_step}
 use Rattle.qss_top.proofs.Sources.{long_for}
 use Rattle.qss_top.proofs.command.print_file.Goals as goal

@@ -1,4 +1,4 @@
-use Rattle.std.proofs.Common.{sym, ◌∙◌}
+use Rattle.qss_top.proofs.Common.{◌∙◌, sym}
 use Rattle.qss_top.proofs.FrameFacts.{memory_writes}
 use Rattle.qss_top.proofs.command.print_model.Goals as goal
 

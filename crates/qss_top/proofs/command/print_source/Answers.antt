@@ -1,6 +1,5 @@
-use Rattle.std.proofs.Common.{inl, inr}
+use Rattle.qss_top.proofs.Common.{inl, inr, IsParseRefusal}
 use Rattle.qss_compile.specs.Causes.{without_names}
-use Rattle.qss_compile.specs.Compilation.{IsParseRefusal}
 use Rattle.qss_top.proofs.FrameFacts.{map_answers}
 use Rattle.qss_top.proofs.Sources.{refused_for}
 use Rattle.qss_top.proofs.SourceSteps.{refused_step}

@@ -1,4 +1,4 @@
-use Rattle.std.proofs.Common.{inr}
+use Rattle.qss_top.proofs.Common.{inr}
 use Rattle.qss_top.proofs.FileSteps.{only_answer}
 use Rattle.qss_top.proofs.FrameFacts.{map_answers}
 use Rattle.qss_top.proofs.comparison.compare_machine.Goals as goal

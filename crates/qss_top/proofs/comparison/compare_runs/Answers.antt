@@ -1,7 +1,5 @@
-use Rattle.std.proofs.Common.{refl}
+use Rattle.qss_top.proofs.Common.{no_certificate, origin_in, refl}
 use Rattle.qss_answers.specs.Comparisons.{IsUnusableCertificate}
-use Rattle.qss_top.specs.CommandAnswers.{no_certificate}
-use Rattle.qss_top.specs.Tasks.{origin_in}
 use Rattle.qss_top.proofs.Comparing.{comparison_answers, stop_writes}
 use Rattle.qss_top.proofs.FileSteps.{answer_step, map_step}
 use Rattle.qss_top.proofs.comparison.compare_runs.Goals as goal

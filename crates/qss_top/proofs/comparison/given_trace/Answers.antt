@@ -1,4 +1,4 @@
-use Rattle.std.proofs.Common.{◌≡◌, ◌∙◌, inl, inr, refl, sym}
+use Rattle.qss_top.proofs.Common.{◌∙◌, ◌≡◌, inl, inr, refl, sym}
 use Rattle.qss_answers.proofs.ComparisonEnds.{taken_so}
 use Rattle.qss_top.proofs.comparison.given_trace.Goals as goal
 

@@ -1,5 +1,4 @@
-use Rattle.std.proofs.Common.{refl, inl}
-use Rattle.qss_answers.specs.Comparisons.{traced as given_trace}
+use Rattle.qss_top.proofs.Common.{inl, refl, traced as given_trace}
 use Rattle.qss_top.specs.Tasks.{given_in}
 use Rattle.qss_top.proofs.Comparing.{found_result}
 use Rattle.qss_top.proofs.comparison.obtain_trace.Goals as goal

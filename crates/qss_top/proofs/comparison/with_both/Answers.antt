@@ -1,4 +1,4 @@
-use Rattle.std.proofs.Common.{sym, ◌∙◌, inl, inr}
+use Rattle.qss_top.proofs.Common.{◌∙◌, inl, inr, sym}
 use Rattle.qss_answers.specs.Comparisons.{IsComparisonRefused}
 use Rattle.qss_top.proofs.Comparing.{stop_writes}
 use Rattle.qss_top.proofs.FrameFacts.{map_answers}

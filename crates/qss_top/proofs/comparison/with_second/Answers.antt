@@ -1,6 +1,4 @@
-use Rattle.std.proofs.Common.{[], append-nil, refl}
-use Rattle.qss_top.specs.ComparisonOutcomes.{names_of}
-use Rattle.qss_top.specs.Tasks.{origin_in}
+use Rattle.qss_top.proofs.Common.{[], append-nil, names_of, origin_in, refl}
 use Rattle.qss_top.proofs.Comparing.{no_trace_step, obtained_size, trace_step}
 use Rattle.qss_top.proofs.FileSteps.{answer_step}
 use Rattle.qss_top.proofs.comparison.with_second.Goals as goal

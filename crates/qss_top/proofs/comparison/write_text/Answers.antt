@@ -1,5 +1,4 @@
-use Rattle.std.proofs.Common.{refl}
-use Rattle.qss_top.specs.MachineAnswers.{text_answer}
+use Rattle.qss_top.proofs.Common.{refl, text_answer}
 use Rattle.qss_top.proofs.FrameFacts.{answer_writes, fault_writes}
 use Rattle.qss_top.proofs.comparison.write_text.Goals as goal
 

@@ -1,5 +1,5 @@
-use Rattle.std.proofs.Common.{None, sym, ◌∙◌, [], ◌∷◌, refl, inl, inr}
-use Rattle.mu_io.specs.Readings.{reading, fully_read, in_progress}
+use Rattle.qss_top.proofs.Common
+use Common.{[], ◌∙◌, ◌∷◌, fully_read, in_progress, inl, inr, None, reading, refl, sym}
 use Rattle.qss_top.proofs.FileFacts.{calm_frame, fault_frame, memory_frame, long_is}
 use Rattle.qss_top.proofs.file_reading.read_file.Goals as goal
 

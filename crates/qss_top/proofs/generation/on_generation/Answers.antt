@@ -1,6 +1,5 @@
-use Rattle.std.proofs.Common.{◌≡◌, false, zero}
-use Rattle.qss_machine.specs.declared.compiled_machine.Machine.{Machine}
-use Rattle.qss_top.specs.MachineAnswers.{Answer, summary_answer}
+use Rattle.qss_top.proofs.Common.{◌≡◌, Answer, false, Machine, zero}
+use Rattle.qss_top.specs.MachineAnswers.{summary_answer}
 use Rattle.qss_top.proofs.SourceSteps.{machine_refused, machine_step}
 use Rattle.qss_top.proofs.generation.on_generation.Goals as goal
 

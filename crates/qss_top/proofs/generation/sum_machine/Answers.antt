@@ -1,10 +1,11 @@
-use Rattle.std.proofs.Common.{ℕ, ℤ, ap₂, sym, ◌∙◌, refl, rules}
+use Rattle.qss_top.proofs.Common.{ℕ, ◌∙◌, overflowed, refl, sym}
+use Rattle.std.proofs.Common.{ℤ, ap₂, rules}
 use Rattle.std.proofs.lemmas.Int.{to_z-of_z}
 use Rattle.std.specs.Int.RustNames.{FitsSigned}
-use Rattle.qss_top.specs.MachineAnswers.{overflowed, summary_of}
+use Rattle.qss_top.specs.MachineAnswers.{summary_of}
 use Rattle.qss_top.proofs.FrameFacts.{memory_writes, rejection_writes}
-use Rattle.qss_top.proofs.generation.sum_machine.Goals as goal
 use mir.Syntax.{w128}
+use Rattle.qss_top.proofs.generation.sum_machine.Goals as goal
 
 pub write_text-requires : goal.write_text-requires
 write_text-requires g c e = cc (sym (c.deref.ensures.value ∙ c.in-Ok.ensures) ∙ e)

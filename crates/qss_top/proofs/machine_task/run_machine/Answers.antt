@@ -1,4 +1,4 @@
-use Rattle.std.proofs.Common.{sym}
+use Rattle.qss_top.proofs.Common.{sym}
 use Rattle.qss_cli.specs.Requests.{options_in}
 use Rattle.qss_top.proofs.FrameFacts.{memory_writes}
 use Rattle.qss_top.proofs.RunOutcomes.{run_writes}

@@ -1,9 +1,9 @@
-use Rattle.std.proofs.Common.{◌≡◌, ◌≢◌, ◌∙◌, ℕ, zero, suc, length, refl, ap, sym, arith}
+use Rattle.qss_top.proofs.Common
+use Common.{ℕ, ◌∙◌, ◌≡◌, ◌≢◌, ap, arith, length, Machine, refl, rejected, rejection, suc, sym, zero}
 use Rattle.cert_check.proofs.Clauses.{clauses-few}
-use Rattle.qss_answers.specs.declared.refusal.Refusal.TheVariants as reasons
-use Rattle.qss_machine.specs.declared.compiled_machine.Machine.{Machine}
-use Rattle.qss_top.specs.MachineAnswers.{rejected, rejection, run2_answer}
+use Rattle.qss_top.specs.MachineAnswers.{run2_answer}
 use Rattle.qss_top.proofs.FrameFacts.{rejection_writes}
+use Rattle.qss_answers.specs.declared.refusal.Refusal.TheVariants as reasons
 use Rattle.qss_top.proofs.second_order_run.second_machine.Goals as goal
 
 -- a machine with clauses is rejected

@@ -1,4 +1,4 @@
-use Rattle.qss_compile.specs.Compilation.{IsRefused}
+use Rattle.qss_top.proofs.Common.{IsRefused}
 use Rattle.qss_top.proofs.Sources.{refused_for}
 use Rattle.qss_top.proofs.source.compile_source.Goals as goal
 

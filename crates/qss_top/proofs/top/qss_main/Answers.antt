@@ -1,9 +1,8 @@
-use Rattle.std.proofs.Common.{map, refl, inl, inr}
-use Rattle.qss_cli.specs.Commands.{command_of, writes_as_it_goes}
-use Rattle.qss_top.specs.declared.command_outcome.Outcome.TheVariants as outcome
-use Rattle.qss_top.specs.declared.status.Status.TheVariants as ends
+use Rattle.qss_top.proofs.Common.{command_of, inl, inr, map, refl, writes_as_it_goes}
 use Rattle.qss_top.proofs.Calls.{true_to_reads}
 use Rattle.qss_top.proofs.TopFacts.{leaves_of, outcome_is, status_is}
+use Rattle.qss_top.specs.declared.command_outcome.Outcome.TheVariants as outcome
+use Rattle.qss_top.specs.declared.status.Status.TheVariants as ends
 use Rattle.qss_top.proofs.top.qss_main.Goals as goal
 
 pub returns-clause-reads : goal.returns-clause-reads

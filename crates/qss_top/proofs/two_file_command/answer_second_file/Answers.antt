@@ -1,4 +1,4 @@
-use Rattle.std.proofs.Common.{refl}
+use Rattle.qss_top.proofs.Common.{refl}
 use Rattle.qss_cli.specs.Requests.{side_in}
 use Rattle.qss_top.proofs.CommandSteps.{side_names}
 use Rattle.qss_top.proofs.FileSteps.{answer_step}

@@ -1,9 +1,7 @@
-use Rattle.std.proofs.Common.{[], refl}
-use Rattle.qss_answers.specs.declared.refusal.Refusal.TheVariants as reasons
-use Rattle.qss_top.specs.CertificateOutcomes.{ScopeAnswers}
-use Rattle.qss_top.specs.MachineAnswers.{rejected}
+use Rattle.qss_top.proofs.Common.{[], refl, rejected, ScopeAnswers}
 use Rattle.qss_top.proofs.FileSteps.{answer_step}
 use Rattle.qss_top.proofs.FrameFacts.{rejection_writes}
+use Rattle.qss_answers.specs.declared.refusal.Refusal.TheVariants as reasons
 use Rattle.qss_top.proofs.two_file_command.in_scope.Goals as goal
 
 pub text_file_command-requires : goal.text_file_command-requires

@@ -1,5 +1,4 @@
-use Rattle.std.proofs.Common.{inl, inr, refl}
-use Rattle.qss_compile.specs.Compilation.{IsRefused}
+use Rattle.qss_top.proofs.Common.{inl, inr, IsRefused, refl}
 use Rattle.qss_top.proofs.FileSteps.{answer_step, map_step}
 use Rattle.qss_top.proofs.SourceSteps.{refused_step}
 use Rattle.qss_top.proofs.two_file_command.on_model.Goals as goal

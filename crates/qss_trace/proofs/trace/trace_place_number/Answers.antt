@@ -1,5 +1,4 @@
-use Rattle.std.proofs.Common.{◌+◌, ◌*◌, pos, get_or, FitsSigned, sym, rules, to_z-of_z}
-use Rattle.std.specs.Int.{w128}
+use Rattle.qss_trace.proofs.Common.{◌*◌, ◌+◌, FitsSigned, get_or, pos, rules, sym, to_z-of_z, w128}
 use Rattle.qss_trace.proofs.Placing.{cell-at}
 use Rattle.qss_trace.proofs.trace.trace_place_number.Goals as goal
 

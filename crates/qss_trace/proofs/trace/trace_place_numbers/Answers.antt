@@ -1,4 +1,4 @@
-use Rattle.std.proofs.Common.{◌≡◌, ◌+◌, ◌-◌, ◌*◌, take, drop, sym, ap, ◌∙◌, arith}
+use Rattle.qss_trace.proofs.Common.{◌*◌, ◌+◌, ◌-◌, ◌∙◌, ◌≡◌, ap, arith, drop, sym, take}
 use Rattle.qss_trace.proofs.Placing.{places-at}
 use Rattle.qss_trace.proofs.trace.trace_place_numbers.Goals as goal
 

@@ -1,6 +1,5 @@
-use Rattle.std.proofs.Common.{ℤ, FitsSigned, refl, subst, arith, rules, to_z-of_z, below_more}
-use Rattle.std.specs.Int.{w128}
-use Rattle.qss_trace.specs.LegitimateFacts.{IsMet, left_of}
+use Rattle.qss_trace.proofs.Common
+use Common.{ℤ, arith, below_more, FitsSigned, IsMet, left_of, refl, rules, subst, to_z-of_z, w128}
 use Rattle.qss_trace.proofs.trace_checker.broken_trace_state.Goals as goal
 
 pub loop-j-init : goal.loop-j-init

@@ -1,5 +1,4 @@
-use Rattle.std.proofs.Common.{ℕ, ◌<◌}
-use Rattle.qss_trace.specs.LegitimateFacts.{HoldsAt}
+use Rattle.qss_trace.proofs.Common.{ℕ, ◌<◌, HoldsAt}
 use Rattle.qss_trace.proofs.trace_checker.broken_trace_state.Given as goal
 
 abbrev pub invariant-loop-j : goal.invariant-loop-j

@@ -1,8 +1,5 @@
-use Rattle.std.proofs.Common.{◌≤◌, sym, subst, ◌∙◌, arith}
-use Rattle.qss_machine.specs.Machines.{state_count}
-use Rattle.qss_trace.specs.declared.trace_checker.TraceVerdict.{TraceVerdict}
-use Rattle.qss_trace.specs.declared.trace_checker.TraceVerdict.TheVariants.{Legitimate}
-use Rattle.qss_trace.specs.TraceVerdicts.{IsVerdict}
+use Rattle.qss_trace.proofs.Common
+use Common.{◌∙◌, ◌≤◌, arith, IsVerdict, Legitimate, state_count, subst, sym, TraceVerdict}
 use Rattle.qss_trace.proofs.OneVerdict.{one-verdict}
 use Rattle.qss_trace.proofs.Runs.{run-holds, holds-run}
 use Rattle.qss_trace.proofs.Small.{small-system}

@@ -1,12 +1,7 @@
-use Rattle.std.proofs.Common.{◌≡◌, ◌-◌, ◌<◌, [], List, ℤ, get_or, FitsSigned, sym, ap, subst, ◌∙◌}
-use Rattle.std.proofs.Common.{arith, rules, to_z-of_z}
-use Rattle.std.specs.Int.{w128}
-use Rattle.std.specs.Prelude.{All}
-use Rattle.mu_num.specs.Sizes.{IsWithin}
-use Rattle.qss_machine.specs.Legitimate.{entry_at}
-use Rattle.qss_trace.specs.TraceLimits.{place_count}
-use Rattle.qss_trace.specs.TracePlaces.{places, place_at}
-use Rattle.qss_trace.specs.Trace.{states_of, levels_of}
+use Rattle.qss_trace.proofs.Common
+use Common.{[], ℤ, ◌-◌, ◌<◌, ◌∙◌, ◌≡◌, All, ap, arith, entry_at, FitsSigned, get_or, IsWithin}
+use Common.{levels_of, List, place_at, place_count, places, rules, states_of, subst, sym, to_z-of_z}
+use Common.{w128}
 use Rattle.qss_trace.proofs.Placing.{places-at, all-place}
 use Rattle.qss_trace.proofs.Runs.{levels-count, levels-whole}
 use Rattle.qss_trace.proofs.Turns.{state-small, rise-is}

@@ -1,8 +1,6 @@
-use Rattle.std.proofs.Common.{◌≡◌, List, ℤ, FitsSigned, ap, ◌∙◌, rules, to_z-of_z}
-use Rattle.std.specs.Int.{w128}
-use Rattle.qss_machine.specs.Legitimate.{entry_at}
-use Rattle.qss_trace.specs.TracePlaces.{places}
-use Rattle.qss_trace.specs.Trace.{states_of, levels_of}
+use Rattle.qss_trace.proofs.Common
+use Common.{ℤ, ◌∙◌, ◌≡◌, ap, entry_at, FitsSigned, levels_of, List, places, rules, states_of}
+use Common.{to_z-of_z, w128}
 use Rattle.qss_trace.proofs.Turns.{state-small, level-small}
 use Rattle.qss_trace.proofs.trace_checker.trace_near_sides.Goals as goal
 

@@ -1,9 +1,6 @@
-use Rattle.std.proofs.Common.{◌<◌, ℕ, refl, sym, subst, arith, below_more}
-use Rattle.std.specs.Prelude.{None}
-use Rattle.qss_trace.specs.declared.trace_checker.TraceVerdict.{TraceVerdict}
-use Rattle.qss_trace.specs.Trace.{count_of}
-use Rattle.qss_trace.specs.TraceChecks.{IsFoundAt}
-use Rattle.qss_trace.specs.TraceVerdicts.{IsVerdict}
+use Rattle.qss_trace.proofs.Common
+use Common.{ℕ, ◌<◌, arith, below_more, count_of, IsFoundAt, IsVerdict, None, refl, subst, sym}
+use Common.{TraceVerdict}
 use Rattle.qss_trace.proofs.Found.{first-broken, all-hold}
 use Rattle.qss_trace.proofs.trace_checker.trace_verdict.Goals as goal
 

@@ -1,8 +1,8 @@
-use Rattle.std.proofs.Common.{◌≡◌, ◌*◌, ◌/◌, ◌%◌, ap, ap₂, ◌∙◌, arith}
+use Rattle.qss_trace.proofs.Common.{◌%◌, ◌*◌, ◌/◌, ◌∙◌, ◌≡◌, ap, ap₂, arith}
 use Rattle.qss_trace.proofs.Turns.{partner-divides}
-use Rattle.qss_trace.proofs.trace_comparison.common_trace_place.Goals as goal
 use Rattle.qss_trace.proofs.trace_comparison.common_trace_place.Goals.{then-tick-from-ne0-via-then-tick-from-ne0}
 use Rattle.qss_trace.proofs.trace_comparison.common_trace_place.Goals.{then-tick-from-ne0-via-else-tick-from-ne0+then-place-from}
+use Rattle.qss_trace.proofs.trace_comparison.common_trace_place.Goals as goal
 
 pub returns-then-tick-from-ne0-clause-none : goal.returns-then-tick-from-ne0-clause-none
 returns-then-tick-from-ne0-clause-none c = λ e i2 common.

@@ -1,15 +1,12 @@
-use Rattle.std.proofs.Common.{◌≡◌, ◌+◌, ◌<◌, ℕ, inr, FitsSigned, refl, sym, subst, ◌∙◌, arith}
-use Rattle.std.proofs.Common.{rules, to_z-of_z}
-use Rattle.std.specs.Int.{w128}
-use Rattle.qss_trace.specs.declared.trace_comparison.Search.{Search}
-use Rattle.qss_trace.specs.Trace.{count_of}
-use Rattle.qss_trace.specs.Comparing.{with_tick_of, IsSearched}
+use Rattle.qss_trace.proofs.Common
+use Common.{ℕ, ◌+◌, ◌<◌, ◌∙◌, ◌≡◌, arith, count_of, FitsSigned, inr, IsSearched, refl, rules}
+use Common.{Search, subst, sym, to_z-of_z, w128, with_tick_of}
 use Rattle.qss_trace.proofs.Turns.{count-few}
 use Rattle.qss_trace.proofs.Searching.{search-none, search-few, search-skip, search-more}
 use Rattle.qss_trace.proofs.Searching.{search-found}
-use Rattle.qss_trace.proofs.trace_comparison.compare.Goals as goal
 use Rattle.qss_trace.proofs.trace_comparison.compare.Goals.{in-Some-common_trace_place+in-Some-comparison_value_at}
 use Rattle.qss_trace.proofs.trace_comparison.compare.Goals.{in_default-common_trace_place}
+use Rattle.qss_trace.proofs.trace_comparison.compare.Goals as goal
 
 pub loop-place1-init : goal.loop-place1-init
 loop-place1-init c = search-none c.args.p.now c.args.t1.now c.args.t2.now

@@ -1,4 +1,4 @@
-use Rattle.qss_trace.specs.Comparing.{IsSearched}
+use Rattle.qss_trace.proofs.Common.{IsSearched}
 use Rattle.qss_trace.proofs.trace_comparison.compare.Given as goal
 
 abbrev pub invariant-loop-place1 : goal.invariant-loop-place1

@@ -1,7 +1,6 @@
-use Rattle.std.proofs.Common.{◌≡◌, ℤ, pos, ◌*ℤ◌, FitsSigned, to_z, of_z, refl, ap, ap₂, ◌∙◌, rules}
-use Rattle.std.proofs.Common.{to_z-of_z}
-use Rattle.std.specs.Int.{w128}
-use Rattle.qss_trace.specs.CommonTicks.{both_units, bound_of}
+use Rattle.qss_trace.proofs.Common
+use Common.{ℤ, ◌*ℤ◌, ◌∙◌, ◌≡◌, ap, ap₂, both_units, bound_of, FitsSigned, of_z, pos, refl, rules}
+use Common.{to_z, to_z-of_z, w128}
 use Rattle.qss_trace.proofs.Turns.{if-some-map}
 use Rattle.qss_trace.proofs.trace_comparison.comparison_bound_at.Goals as goal
 

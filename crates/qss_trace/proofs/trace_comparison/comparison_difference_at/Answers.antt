@@ -1,8 +1,6 @@
-use Rattle.std.proofs.Common.{◌≡◌, List, ℤ, FitsSigned, ap, ◌∙◌, arith, rules, to_z-of_z}
-use Rattle.std.specs.Int.{w128}
-use Rattle.qss_machine.specs.Legitimate.{entry_at}
-use Rattle.qss_trace.specs.TracePlaces.{places}
-use Rattle.qss_trace.specs.Trace.{states_of}
+use Rattle.qss_trace.proofs.Common
+use Common.{ℤ, ◌∙◌, ◌≡◌, ap, arith, entry_at, FitsSigned, List, places, rules, states_of, to_z-of_z}
+use Common.{w128}
 use Rattle.qss_trace.proofs.Turns.{state-small}
 use Rattle.qss_trace.proofs.trace_comparison.comparison_difference_at.Goals as goal
 

@@ -1,8 +1,6 @@
-use Rattle.std.proofs.Common.{◌≡◌, ℤ, take, sym, ◌∙◌, arith}
-use Rattle.cert_matrix.specs.Form.{form}
-use Rattle.cert_matrix.specs.Matrix.{table, vector}
+use Rattle.qss_trace.proofs.Common
+use Common.{ℤ, ◌∙◌, ◌≡◌, arith, difference, form, sym, table, take, value_of, vector}
 use Rattle.cert_check.proofs.Gaps.{taken, form-same, form_range-same}
-use Rattle.qss_trace.specs.CommonTicks.{difference, value_of}
 use Rattle.qss_trace.proofs.Turns.{if-some-map, parts-in-range}
 use Rattle.qss_trace.proofs.trace_comparison.comparison_value_at.Goals as goal
 

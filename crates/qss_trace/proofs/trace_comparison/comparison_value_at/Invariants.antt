@@ -1,6 +1,4 @@
-use Rattle.std.proofs.Common.{◌≡◌, ◌<◌, ℕ, length}
-use Rattle.cert_matrix.specs.Matrix.{vector}
-use Rattle.qss_trace.specs.CommonTicks.{difference}
+use Rattle.qss_trace.proofs.Common.{ℕ, ◌<◌, ◌≡◌, difference, length, vector}
 use Rattle.qss_trace.proofs.trace_comparison.comparison_value_at.Given as goal
 
 abbrev pub invariant-loop-j : goal.invariant-loop-j

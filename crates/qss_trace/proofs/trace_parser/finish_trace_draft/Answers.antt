@@ -1,5 +1,4 @@
-use Rattle.std.proofs.Common.{◌+◌, Some, sym, ap, refl, ◌∙◌, arith}
-use Rattle.cert_check.specs.declared.text_err.TextErr.TheVariants.{Missing}
+use Rattle.qss_trace.proofs.Common.{◌+◌, ◌∙◌, ap, arith, Missing, refl, Some, sym}
 use Rattle.qss_trace.proofs.Ended.{few-records}
 use Rattle.qss_trace.proofs.Keeping.{all-lines, kept-places}
 use Rattle.qss_trace.proofs.trace_parser.finish_trace_draft.Goals as goal

@@ -1,5 +1,4 @@
-use Rattle.std.proofs.Common.{◌∙◌}
-use Rattle.csv.specs.Records.{fields_of}
+use Rattle.qss_trace.proofs.Common.{◌∙◌, fields_of}
 use Rattle.cert_check.proofs.Fields.{first-is, first-none, empty-same}
 use Rattle.qss_trace.proofs.trace_parser.has_trace_keyword.Goals as goal
 

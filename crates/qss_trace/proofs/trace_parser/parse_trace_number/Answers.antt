@@ -1,6 +1,4 @@
-use Rattle.std.proofs.Common.{[], FitsSigned, get_or, sym, rules, to_z-of_z}
-use Rattle.std.specs.Int.{w128}
-use Rattle.csv.specs.Records.{fields_of}
+use Rattle.qss_trace.proofs.Common.{[], fields_of, FitsSigned, get_or, rules, sym, to_z-of_z, w128}
 use Rattle.qss_trace.proofs.Judging.{within-is}
 use Rattle.qss_trace.proofs.trace_parser.parse_trace_number.Goals as goal
 

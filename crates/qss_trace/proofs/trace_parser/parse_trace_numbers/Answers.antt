@@ -1,15 +1,9 @@
-use Rattle.std.proofs.Common.{◌≡◌, ◌+◌, ◌-◌, ◌<◌, inr, ◌++◌, ◌∷◌, [], ℕ, ℤ, List, Some, true, false}
-use Rattle.std.proofs.Common.{FitsSigned, ◌∙◌, sym, ap, subst, length, drop, take, get_or, arith}
-use Rattle.std.proofs.Common.{rules, to_z-of_z, to_z, of_z}
-use Rattle.std.specs.Int.{w128}
+use Rattle.qss_trace.proofs.Common
+use Common.{[], ℕ, ℤ, ◌++◌, ◌+◌, ◌-◌, ◌<◌, ◌∙◌, ◌∷◌, ◌≡◌, AddsNumbers, ap, arith, drop, false}
+use Common.{fields_of, FitsSigned, get_or, get_or-drop, inr, is_unfit, length, length-drop, List}
+use Common.{Number, number_within, of_z, option_map, position_from, rules, Some, subst, sym, take}
+use Common.{to_z, to_z-of_z, true, w128}
 use Rattle.std.specs.Prelude.{is_none}
-use Rattle.std.specs.Option.{option_map}
-use Rattle.std.specs.List.{position_from}
-use Rattle.std.proofs.lemmas.List.{length-drop, get_or-drop}
-use Rattle.csv.specs.Records.{fields_of}
-use Rattle.cert_check.specs.declared.text_err.TextErr.TheVariants.{Number}
-use Rattle.qss_trace.specs.ExpectedFields.{is_unfit, number_within}
-use Rattle.qss_trace.specs.TraceData.{AddsNumbers}
 use Rattle.qss_trace.proofs.Numbering.{adds-more, faults-more, fault-here}
 use Rattle.qss_trace.proofs.trace_parser.parse_trace_numbers.Goals as goal
 

@@ -1,8 +1,5 @@
-use Rattle.std.proofs.Common.{◌≡◌, ◌≤◌, ◌+◌, ◌-◌, take, drop}
-use Rattle.std.specs.List.{position_from}
-use Rattle.csv.specs.Records.{fields_of}
-use Rattle.qss_trace.specs.ExpectedFields.{is_unfit}
-use Rattle.qss_trace.specs.TraceData.{AddsNumbers}
+use Rattle.qss_trace.proofs.Common
+use Common.{◌+◌, ◌-◌, ◌≡◌, ◌≤◌, AddsNumbers, drop, fields_of, is_unfit, position_from, take}
 use Rattle.qss_trace.proofs.trace_parser.parse_trace_numbers.Given as goal
 
 abbrev pub invariant-loop-place : goal.invariant-loop-place

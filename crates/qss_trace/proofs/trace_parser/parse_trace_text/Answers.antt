@@ -1,22 +1,16 @@
-use Rattle.std.proofs.Common.{Bor, List, ℕ, ◌≡◌, ◌-◌, ◌++◌, ◌∷◌, [], ◌≤◌, ◌^◌, ◌⊎◌, ◌∙◌, sym, ap}
-use Rattle.std.proofs.Common.{refl, inl, inr, Some, length, get_or, arith}
-use Rattle.std.proofs.lemmas.List.{length-append, get_or-append_right}
-use Rattle.csv.specs.Reading.{Reached, default_config, strip_bom}
-use Rattle.csv.specs.Records.{fields_of}
-use Rattle.csv.specs.declared.parser.State.{State}
-use Rattle.csv.specs.declared.parser.State.TheVariants as st
+use Rattle.qss_trace.proofs.Common
+use Common.{[], ℕ, ◌++◌, ◌-◌, ◌^◌, ◌∙◌, ◌∷◌, ◌≡◌, ◌≤◌, ◌⊎◌, ap, arith, default_config, fields_of}
+use Common.{get_or, get_or-append_right, inl, inr, IsCutInto, IsDraftOf, IsRefusedFor, length}
+use Common.{length-append, List, Memory, Reached, record_fault, refl, Some, State, strip-≤}
+use Common.{strip_bom, sym, TextErr, trace_fault}
+use Rattle.std.proofs.Common.{Bor}
 use Rattle.csv.proofs.ReadFacts.{rows-end, rows-more}
-use Rattle.cert_check.specs.CertificateTexts.{IsCutInto}
-use Rattle.cert_check.proofs.Cut.{rows-few, strip-≤}
-use Rattle.cert_check.specs.declared.text_err.TextErr.{TextErr}
-use Rattle.cert_check.specs.declared.text_err.TextErr.TheVariants.{Memory}
-use Rattle.qss_trace.specs.ExpectedFields.{trace_fault, record_fault}
-use Rattle.qss_trace.specs.TraceDrafts.{IsDraftOf}
-use Rattle.qss_trace.specs.TraceTexts.{IsRefusedFor}
+use Rattle.cert_check.proofs.Cut.{rows-few}
 use Rattle.qss_trace.proofs.Cutting.{records-few, rest-of}
 use Rattle.qss_trace.proofs.Ended.{err-map}
 use Rattle.qss_trace.proofs.Keeping.{fault-is}
 use Rattle.qss_trace.proofs.Taken.{err-as}
+use Rattle.csv.specs.declared.parser.State.TheVariants as st
 use Rattle.qss_trace.proofs.trace_parser.parse_trace_text.Goals as goal
 
 -- the last of the records of few bytes has few fields

@@ -1,8 +1,8 @@
-use Rattle.std.proofs.Common.{◌≡◌, ◌<◌, ℕ, List, Some, true}
-use Rattle.csv.specs.Reading.{Reached, Ready, default_config, is_flexible, source_of, strip_bom}
+use Rattle.qss_trace.proofs.Common
+use Common.{ℕ, ◌<◌, ◌≡◌, default_config, IsDraftOf, List, Reached, Some, strip_bom, true}
+use Rattle.csv.specs.Reading.{Ready, is_flexible, source_of}
 use Rattle.csv.specs.declared.parser.State.TheVariants as st
 use Rattle.csv.specs.declared.reader.Trim.TheVariants as trim
-use Rattle.qss_trace.specs.TraceDrafts.{IsDraftOf}
 use Rattle.qss_trace.proofs.trace_parser.parse_trace_text.Given as goal
 
 abbrev pub invariant-loop-record : goal.invariant-loop-record

@@ -1,7 +1,4 @@
-use Rattle.std.proofs.Common.{◌≢◌}
-use Rattle.qss_trace.specs.declared.trace.Trace.{Trace}
-use Rattle.cert_check.specs.declared.text_err.TextErr.TheVariants.{Memory}
-use Rattle.qss_trace.specs.TraceTexts.{IsTextOf, IsRefusedFor}
+use Rattle.qss_trace.proofs.Common.{◌≢◌, IsRefusedFor, IsTextOf, Memory, Trace}
 use Rattle.qss_trace.proofs.Ended.{err-map}
 use Rattle.qss_trace.proofs.Spelt.{refused-unreadable}
 use Rattle.qss_trace.proofs.trace_parser.read_trace.Goals as goal

@@ -1,8 +1,6 @@
-use Rattle.std.proofs.Common.{◌+◌, ◌∷◌, [], take, drop, refl}
-use Rattle.csv.specs.Records.{fields_of}
+use Rattle.qss_trace.proofs.Common
+use Common.{[], ◌+◌, ◌∷◌, AddsNumbers, AddsPlace, drop, fields_of, refl, take}
 use Rattle.qss_trace.specs.declared.trace_parser.Limit.TheVariants.{Level}
-use Rattle.qss_trace.specs.TraceData.{AddsNumbers}
-use Rattle.qss_trace.specs.Taking.{AddsPlace}
 use Rattle.qss_trace.proofs.Taken.{on-ok-map, place-adds}
 use Rattle.qss_trace.proofs.trace_parser.take_trace_place.Goals as goal
 

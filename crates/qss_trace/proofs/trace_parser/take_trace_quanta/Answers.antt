@@ -1,9 +1,6 @@
-use Rattle.std.proofs.Common.{◌∷◌, [], take, drop}
-use Rattle.csv.specs.Records.{fields_of}
-use Rattle.cert_check.specs.CertificateLines.{line, ParsesAs}
+use Rattle.qss_trace.proofs.Common
+use Common.{[], ◌∷◌, AddsNumbers, AreQuanta, drop, fields_of, line, ParsesAs, take}
 use Rattle.qss_trace.specs.declared.trace_parser.Limit.TheVariants.{Quantum}
-use Rattle.qss_trace.specs.TraceLimits.{AreQuanta}
-use Rattle.qss_trace.specs.TraceData.{AddsNumbers}
 use Rattle.qss_trace.proofs.Taken.{on-ok-map, spells-many, quanta-many}
 use Rattle.qss_trace.proofs.trace_parser.take_trace_quanta.Goals as goal
 

@@ -1,18 +1,16 @@
-use Rattle.std.proofs.Common.{rules, ◌≡◌, ℕ, ◌≤◌, ◌+◌, ◌++◌, ◌⊎◌, ◌∷◌, [], List, ℤ, inr, Some}
-use Rattle.std.proofs.Common.{None, length, sym, ap, subst, ◌∙◌, arith}
-use Rattle.std.proofs.lemmas.List.{length-append}
-use Rattle.std.specs.Prelude.{Result, IsErrAnd, IfErr}
-use Rattle.csv.specs.Records.{fields_of}
-use Rattle.cert_check.specs.declared.text_err.TextErr.{TextErr}
-use Rattle.cert_check.specs.declared.text_err.TextErr.TheVariants.{Memory}
+use Rattle.qss_trace.proofs.Common
+use Common.{[], ℕ, ℤ, ◌++◌, ◌+◌, ◌∙◌, ◌∷◌, ◌≡◌, ◌≤◌, ◌⊎◌, ap, arith, fields_of, IfErr, inr}
+use Common.{IsDraftOf, IsErrAnd, Kept, length, length-append, List, Memory, None, record_fault}
+use Common.{Result, rules, Some, subst, sym, TextErr}
 use Rattle.qss_trace.specs.declared.trace_parser.Draft.{Draft}
-use Rattle.qss_trace.specs.ExpectedFields.{record_fault}
-use Rattle.qss_trace.specs.KeptTraces.{Kept}
-use Rattle.qss_trace.specs.TraceDrafts.{IsDraftOf}
 use Rattle.qss_trace.proofs.Keeping.{kept-form, kept-scale, kept-refine, kept-quanta, kept-place}
 use Rattle.qss_trace.proofs.Taken.{err-as}
+use Rattle.qss_trace.proofs.trace_parser.take_trace_record.Goals.{in-0+in_ok-take_trace_form-in-0}
+use Rattle.qss_trace.proofs.trace_parser.take_trace_record.Goals.{in-1+in_ok-draft-in-1}
+use Rattle.qss_trace.proofs.trace_parser.take_trace_record.Goals.{in-2+in_ok-draft-in-2}
+use Rattle.qss_trace.proofs.trace_parser.take_trace_record.Goals.{in-3+in_ok-take_trace_quanta-in-3}
+use Rattle.qss_trace.proofs.trace_parser.take_trace_record.Goals.{in_default+in_ok-take_trace_place-in_default}
 use Rattle.qss_trace.proofs.trace_parser.take_trace_record.Goals as goal
-use Rattle.qss_trace.proofs.trace_parser.take_trace_record.Goals.{in-0+in_ok-take_trace_form-in-0, in-1+in_ok-draft-in-1, in-2+in_ok-draft-in-2, in-3+in_ok-take_trace_quanta-in-3, in_default+in_ok-take_trace_place-in_default}
 
 -- the fault of the record after j records is that of this record
 wrong : {X : Type 0} (r : Result X TextErr) (e : TextErr) (n k j : ℕ) (fields : List (List ℕ))

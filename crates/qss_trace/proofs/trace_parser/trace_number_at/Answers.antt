@@ -1,7 +1,5 @@
-use Rattle.std.proofs.Common.{sym, ap, ◌∙◌}
-use Rattle.csv.specs.Records.{fields_of}
+use Rattle.qss_trace.proofs.Common.{◌∙◌, ap, fields_of, number_within, sym}
 use Rattle.cert_check.proofs.Fields.{field-is, field-never}
-use Rattle.qss_trace.specs.ExpectedFields.{number_within}
 use Rattle.qss_trace.proofs.trace_parser.trace_number_at.Goals as goal
 
 pub returns-in-Some : goal.returns-in-Some

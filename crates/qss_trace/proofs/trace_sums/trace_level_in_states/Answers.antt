@@ -1,5 +1,4 @@
-use Rattle.std.proofs.Common.{◌^◌, arith}
-use Rattle.qss_machine.proofs.Loops.{product_is, product_bound}
+use Rattle.qss_trace.proofs.Common.{◌^◌, arith, product_bound, product_is}
 use Rattle.qss_trace.proofs.trace_sums.trace_level_in_states.Goals as goal
 
 pub returns-clause-value : goal.returns-clause-value

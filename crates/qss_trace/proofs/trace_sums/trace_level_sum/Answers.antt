@@ -1,7 +1,6 @@
-use Rattle.std.proofs.Common.{◌≡◌, ◌^◌, ℤ, pos, ◌*ℤ◌, get_or, FitsSigned, to_z, ap, ◌∙◌, arith}
-use Rattle.std.proofs.Common.{rules, to_z-of_z}
-use Rattle.std.specs.Int.{w128}
-use Rattle.cert_matrix.specs.Matrix.{table, vector}
+use Rattle.qss_trace.proofs.Common
+use Common.{ℤ, ◌*ℤ◌, ◌^◌, ◌∙◌, ◌≡◌, ap, arith, FitsSigned, get_or, pos, rules, table, to_z}
+use Common.{to_z-of_z, vector, w128}
 use Rattle.qss_trace.proofs.Turns.{total_step}
 use Rattle.qss_trace.proofs.trace_sums.trace_level_sum.Goals as goal
 

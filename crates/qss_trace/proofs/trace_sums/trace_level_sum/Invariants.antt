@@ -1,6 +1,5 @@
-use Rattle.std.proofs.Common.{◌≡◌, ◌*◌, ◌^◌, ◌≤◌, unsigned_abs, ◌*ℤ◌}
-use Rattle.mu_num.specs.IndexedSums.{sum_below}
-use Rattle.cert_matrix.specs.Matrix.{table, vector}
+use Rattle.qss_trace.proofs.Common
+use Common.{◌*ℤ◌, ◌*◌, ◌^◌, ◌≡◌, ◌≤◌, sum_below, table, unsigned_abs, vector}
 use Rattle.qss_trace.proofs.trace_sums.trace_level_sum.Given as goal
 
 -- the sum so far, which each state changes by at most 2 ^ 108

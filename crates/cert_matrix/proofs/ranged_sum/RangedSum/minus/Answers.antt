@@ -1,5 +1,6 @@
-use Rattle.std.proofs.Common.{◌+◌, ◌^◌, ◌≤◌, arith}
-use Rattle.cert_matrix.proofs.InRange.{product_fits, difference_fits, difference_is, difference_within}
+use Rattle.cert_matrix.proofs.Common.{◌+◌, ◌^◌, ◌≤◌, arith}
+use Rattle.cert_matrix.proofs.InRange.{product_fits, difference_fits, difference_is}
+use Rattle.cert_matrix.proofs.InRange.{difference_within}
 use Rattle.cert_matrix.proofs.ranged_sum.RangedSum.minus.Goals as goal
 
 pub overflow_mul-result : goal.overflow_mul-result

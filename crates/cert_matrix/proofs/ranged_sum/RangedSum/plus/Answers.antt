@@ -1,4 +1,4 @@
-use Rattle.std.proofs.Common.{◌+◌, ◌^◌, ◌≤◌, arith}
+use Rattle.cert_matrix.proofs.Common.{◌+◌, ◌^◌, ◌≤◌, arith}
 use Rattle.cert_matrix.proofs.InRange.{product_fits, sum_fits, sum_is, sum_within}
 use Rattle.cert_matrix.proofs.ranged_sum.RangedSum.plus.Goals as goal
 

@@ -1,4 +1,4 @@
-use Rattle.std.proofs.Common.{◌∙◌}
+use Rattle.mu_affine.proofs.Common.{◌∙◌}
 use Rattle.mu_affine.proofs.Fractions.{IsReduced-none}
 use Rattle.mu_affine.proofs.Making.{IsFinished-constant}
 use Rattle.mu_affine.proofs.exact_form.ExactForm.constant.Goals as goal

@@ -1,5 +1,4 @@
-use Rattle.std.proofs.Common.{◌∙◌, ap, ◌++◌, ◌∷◌, []}
-use Rattle.mu_affine.specs.declared.exact_form.ExactEntry.{ExactEntry}
+use Rattle.mu_affine.proofs.Common.{[], ◌++◌, ◌∙◌, ◌∷◌, ap, ExactEntry}
 use Rattle.mu_affine.proofs.Fractions.{IsReduced-none}
 use Rattle.mu_affine.proofs.Making.{IsFinished-name}
 use Rattle.mu_affine.proofs.exact_form.ExactForm.name.Goals as goal

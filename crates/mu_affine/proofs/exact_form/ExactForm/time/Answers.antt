@@ -1,4 +1,4 @@
-use Rattle.std.proofs.Common.{◌∙◌}
+use Rattle.mu_affine.proofs.Common.{◌∙◌}
 use Rattle.mu_affine.proofs.Making.{IsFinished-constant, IsReduced-one}
 use Rattle.mu_affine.proofs.exact_form.ExactForm.time.Goals as goal
 

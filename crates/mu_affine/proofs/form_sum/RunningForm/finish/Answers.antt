@@ -1,6 +1,4 @@
-use Rattle.std.proofs.Common.{refl, ◌∙◌, ap, map}
-use Rattle.mu_affine.specs.declared.exact_form.ExactForm.{ExactForm}
-use Rattle.mu_affine.specs.FormRows.{named, paired}
+use Rattle.mu_affine.proofs.Common.{◌∙◌, ap, ExactForm, map, named, paired, refl}
 use Rattle.mu_affine.proofs.Finishing.{sum_finished}
 use Rattle.mu_affine.proofs.form_sum.RunningForm.finish.Goals as goal
 

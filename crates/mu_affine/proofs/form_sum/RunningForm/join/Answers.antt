@@ -1,5 +1,4 @@
-use Rattle.std.proofs.Common.{sym}
-use Rattle.mu_affine.specs.declared.form_sum.RunningForm.{RunningForm}
+use Rattle.mu_affine.proofs.Common.{RunningForm, sym}
 use Rattle.mu_affine.proofs.Sums.{form_joined, form_failed_names, form_failed_pairs}
 use Rattle.mu_affine.proofs.Sums.{form_failed_time, form_failed_constant}
 use Rattle.mu_affine.proofs.form_sum.RunningForm.join.Goals as goal

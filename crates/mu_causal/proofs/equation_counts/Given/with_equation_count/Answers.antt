@@ -1,5 +1,5 @@
 -- The first two stay the first two.
-use Rattle.std.proofs.Common.{◌∷◌, ◌++◌, [], ap}
+use Rattle.mu_causal.proofs.Common.{[], ◌++◌, ◌∷◌, ap}
 use Rattle.mu_causal.proofs.equation_counts.Given.with_equation_count.Goals as goal
 
 pub returns-in-Often : goal.returns-in-Often

@@ -1,36 +1,22 @@
 -- `then` picks the calls of the new log. Assumes `Logic`.
-use Rattle.std.proofs.Common.{List, [], ◌∷◌, ◌++◌, refl}
-use seplogic.Ra.Ura.{Ura}
-use mir.Syntax.{Fn}
-use mir.Val.{Val, vptr}
-use base.Logic.{SProp, ent}
-use prog.Memory.{Memory}
-use prog.Routine.{Routine}
-use prog.Wp.{Calls, Loops, WpFn, Tables}
-use contract.Monad.{Fun}
-use contract.Running.{tables, tables_of}
-use sound.WpLaws.{WpFn-mono}
-use types.Logic.{Logic}
-use types.Kit.{‵, raw, ◌⊛◌, prop, ◌$◌, ◌∵◌, !, qed, move, keep, drop, split, fsplit, fjoin, feq_l, regoal, suffices, done}
-use types.Part.{agg}
-use types.Run.{enter, returns, no_more}
-use types.ByLocal.{alloc_all, pass_all, free_all, look_at, sets}
+use Rattle.mu_io.proofs.Common
+use Common.{[], ‵, ◌$◌, ◌++◌, ◌∵◌, ◌∷◌, ◌⊛◌, !, agg, alive, alloc_all, Calls, Clauses, closing}
+use Common.{done, Ended, ends_at, ent, enter, entered, fjoin, Fn, free_all, Fun, keep, List, Logic}
+use Common.{look_at, Loops, Meets, Memory, move, no_more, nothing, owns, pass_all, qed, raw, refl}
+use Common.{returns, Routine, says, sets, split, SProp, Stays, suffices, Tables, tables, tables_of}
+use Common.{triple_of, types_at, Ura, Val, walk_Meets, walk_of, WpFn, WpFn-mono}
+use mir.Val.{vptr}
+use types.Kit.{prop, drop, fsplit, feq_l, regoal}
 use denote.Exit.{yes}
-use denote.RattleType.{owns}
 use denote.Builtin.{RefOf}
-use denote.Signature.{plain, types_at, named_lft}
-use denote.Steps.{nothing}
-use denote.Triple.Clauses.{Clauses, Ended, closing}
-use denote.Triple.Entry.{alive}
-use denote.Triple.Spec.{Meets, triple_of}
-use denote.Triple.Table.{entered}
-use denote.Triple.Walked.{says, Stays, stay_dropped, walk_of, ends_at, walk_Meets, Goes-dropped}
+use denote.Signature.{plain, named_lft}
+use denote.Triple.Walked.{stay_dropped, Goes-dropped}
 use Rattle.mu_io.proofs.Walks.{none, none_made}
+use Rattle.mu_io.specs.Calling.{event_of}
+use Rattle.mu_io.specs.contracts.call_log.Log.then.Key.{name as #self}
 use Rattle.mu_io.specs.contracts.call_log.Log as Log
 use Rattle.mu_io.specs.contracts.call_log.Call as Call
-use Rattle.mu_io.specs.Calling.{event_of}
 use Rattle.mu_io.specs.contracts.call_log.Log.then as F
-use Rattle.mu_io.specs.contracts.call_log.Log.then.Key.{name as #self}
 use Rattle.mu_io.proofs.call_log.Log.then.Statement as stated
 use Rattle.mu_io.proofs.call_log.Log.then.Code as code
 

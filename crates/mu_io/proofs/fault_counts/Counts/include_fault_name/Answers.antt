@@ -1,4 +1,4 @@
-use Rattle.std.proofs.Common.{sym, ◌∙◌}
+use Rattle.mu_io.proofs.Common.{◌∙◌, sym}
 use Rattle.mu_io.proofs.Entries.{found_some, count_of-push, is_counted-push, is_counted-push_other}
 use Rattle.mu_io.proofs.fault_counts.Counts.include_fault_name.Goals as goal
 

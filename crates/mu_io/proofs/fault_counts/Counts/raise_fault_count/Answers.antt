@@ -1,4 +1,4 @@
-use Rattle.std.proofs.Math.ListN.{set}
+use Rattle.mu_io.proofs.Common.{set}
 use Rattle.mu_io.proofs.Entries.{Raises, raises, is_found}
 use Rattle.mu_io.proofs.fault_counts.Counts.raise_fault_count.Goals as goal
 

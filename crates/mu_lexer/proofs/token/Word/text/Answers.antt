@@ -1,6 +1,6 @@
 -- The clauses of Word::text.
-use Rattle.std.proofs.Common.{◌≡◌, List, [], ◌∷◌, Contains, arith, refl, sym}
-use Rattle.mu_lexer.specs.declared.token.Word.{Word}
+use Rattle.mu_lexer.proofs.Common.{[], ◌∷◌, ◌≡◌, arith, List, refl, sym, Word}
+use Rattle.std.proofs.Common.{Contains}
 use Rattle.mu_lexer.specs.declared.token.Word.TheVariants as word
 use Rattle.mu_lexer.proofs.token.Word.text.Goals as goal
 

@@ -1,8 +1,7 @@
-use Rattle.std.proofs.Common.{◌∙◌, ap, reverse}
+use Rattle.mu_parser.proofs.Common.{◌∙◌, ap, frames_of, symbol_view}
+use Rattle.std.proofs.Common.{reverse}
 use Rattle.mu_grammar.specs.SumMachine.{begin_sum}
 use Rattle.mu_grammar.specs.ConditionMachine.{left_move}
-use Rattle.mu_grammar.specs.SymbolViews.{symbol_view}
-use Rattle.mu_parser.specs.ExpressionViews.{frames_of}
 use Rattle.mu_parser.proofs.expression.condition.begin_condition_left.Goals as goal
 
 -- src/expression/condition.rt:179:1

@@ -1,6 +1,5 @@
-use Rattle.std.proofs.Common.{◌∙◌, ap}
+use Rattle.mu_parser.proofs.Common.{◌∙◌, ap, frames_of, position_of}
 use Rattle.mu_grammar.specs.SumMachine.{depth_at}
-use Rattle.mu_parser.specs.ExpressionViews.{position_of, frames_of}
 use Rattle.mu_grammar.proofs.Levels.{levels_before, levels_left, levels_right, levels_behind}
 use Rattle.mu_parser.proofs.expression.condition.condition_depth.Goals as goal
 

@@ -1,4 +1,4 @@
-use Rattle.std.proofs.Common.{refl}
+use Rattle.mu_parser.proofs.Common.{refl}
 use Rattle.mu_parser.proofs.expression.condition.move_condition_left.Goals as goal
 
 pub returns-in-Moves : goal.returns-in-Moves

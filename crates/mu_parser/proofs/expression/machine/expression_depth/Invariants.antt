@@ -1,6 +1,6 @@
-use Rattle.std.proofs.Common.{◌≡◌, ◌*◌, ◌≤◌, take}
+use Rattle.mu_parser.proofs.Common.{◌≡◌, frames_of, take}
+use Rattle.std.proofs.Common.{◌*◌, ◌≤◌}
 use Rattle.mu_grammar.specs.SumMachine.{depth}
-use Rattle.mu_parser.specs.ExpressionViews.{frames_of}
 use Rattle.mu_parser.proofs.expression.machine.expression_depth.Given as goal
 
 -- the depth of the frames so far

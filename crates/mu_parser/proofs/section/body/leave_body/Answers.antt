@@ -1,12 +1,13 @@
-use Rattle.std.proofs.Common.{◌≡◌, List, IfOk, refl, sym, subst}
+use Rattle.mu_parser.proofs.Common
+use Common.{◌≡◌, branch_of, effect_of, end_loop, IfOk, List, Range, refl, statement, sym}
+use Common.{symbol_view}
+use Rattle.std.proofs.Common.{subst}
 use Rattle.mu_tree.specs.ModelTree.{ClauseTree, EachClause, EachEquation, EachStatement}
-use Rattle.mu_tree.specs.ModelTree.{EquationTree, Range, StatementTree, clause, clauses_of}
-use Rattle.mu_tree.specs.ModelTree.{equation, equations_of, statement, statements_of}
-use Rattle.mu_grammar.specs.BodyMachine.{end_loop, leave, put_clause, put_equation}
-use Rattle.mu_grammar.specs.BodyMachine.{put_start, put_statement}
+use Rattle.mu_tree.specs.ModelTree.{EquationTree, StatementTree, clause, clauses_of, equation}
+use Rattle.mu_tree.specs.ModelTree.{equations_of, statements_of}
+use Rattle.mu_grammar.specs.BodyMachine.{leave, put_clause, put_equation, put_start, put_statement}
 use Rattle.mu_grammar.specs.States.{Loop, in_branch, in_clauses, in_equations, in_starts}
-use Rattle.mu_grammar.specs.SymbolViews.{symbol_view}
-use Rattle.mu_parser.specs.SectionViews.{branch_of, draft_of, effect_of, loops_of}
+use Rattle.mu_parser.specs.SectionViews.{draft_of, loops_of}
 use Rattle.mu_parser.proofs.Looping.{after_loop, none_open, one_open}
 use Rattle.mu_parser.proofs.section.body.leave_body.Goals as goal
 

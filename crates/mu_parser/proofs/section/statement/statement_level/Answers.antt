@@ -1,7 +1,6 @@
-use Rattle.std.proofs.Common.{◌+◌, ◌∙◌, ap, sym}
+use Rattle.mu_parser.proofs.Common.{◌+◌, ◌∙◌, ap, branch_of, statement, sym}
 use Rattle.mu_grammar.specs.States.{branch_level}
-use Rattle.mu_parser.specs.SectionViews.{branch_of, loop_of}
-use Rattle.mu_tree.specs.ModelTree.{statement}
+use Rattle.mu_parser.specs.SectionViews.{loop_of}
 use Rattle.mu_grammar.proofs.Levels.{levels_stacked}
 use Rattle.mu_parser.proofs.section.statement.statement_level.Goals as goal
 

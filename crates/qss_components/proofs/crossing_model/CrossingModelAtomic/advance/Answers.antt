@@ -1,7 +1,5 @@
 -- The tick is that of the detector.
-use Rattle.std.proofs.Common.{◌≢◌}
-use Rattle.qss_machine.specs.Machines.{compares}
-use Rattle.qss_cross.specs.Crossing.{holds_at}
+use Rattle.qss_components.proofs.Common.{◌≢◌, compares, holds_at}
 use Rattle.qss_components.proofs.Ticks.{first_one}
 use Rattle.qss_components.proofs.crossing_model.CrossingModelAtomic.advance.Goals as goal
 

@@ -1,24 +1,14 @@
 -- The inputs receive the message, and the detector has their value.
-use Rattle.std.proofs.Common.{◌≡◌, ◌+◌, ◌≤◌, ◌^◌, List, map, unsigned_abs, refl, sym, ◌∙◌, ap}
-use Rattle.std.proofs.Common.{subst, arith}
-use Rattle.std.proofs.lemmas.Int.{ints, to_z-of_z}
-use Rattle.std.proofs.lemmas.List.{with_items_is}
-use Rattle.std.specs.Int.RustNames.{FitsSigned}
-use Rattle.std.specs.Prelude.{All, sum_by}
+use Rattle.qss_components.proofs.Common
+use Common.{◌+◌, ◌^◌, ◌∙◌, ◌≡◌, ◌≤◌, All, ap, AreParts, arith, Crossing, DetectorView, Entry}
+use Common.{entry_of, FitsSigned, form_at, Input, input_after_message, input_at, ints, IsInput}
+use Common.{IsMessage, IsWithin, List, Machine, map, refl, speed_by, state_count, StaysIfDiscrete}
+use Common.{subst, sum_by, sym, to_z-of_z, w128, w64, with_items_is}
+use Rattle.std.proofs.Common.{unsigned_abs}
 use Rattle.std.specs.Vec.{with_items}
-use Rattle.mu_num.specs.Sizes.{IsWithin}
-use Rattle.qss_machine.specs.declared.machine_parts.Entry.{Entry}
-use Rattle.qss_machine.specs.declared.compiled_machine.Machine.{Machine}
-use Rattle.qss_machine.specs.Machines.{state_count}
-use Rattle.qss_cross.specs.Crossing.{DetectorView}
-use Rattle.qss_components.specs.declared.crossing_model.Input.{Input}
-use Rattle.qss_components.specs.Messages.{IsMessage}
-use Rattle.qss_components.specs.Crossings.{Crossing, entry_of, input_at, input_after_message}
-use Rattle.qss_components.specs.Crossings.{form_at, speed_by, IsInput, StaysIfDiscrete, AreParts}
 use Rattle.qss_components.proofs.Inputs.{lines_later, given_inputs, given_parts}
 use Rattle.qss_components.proofs.InputsTold.{given_so}
 use Rattle.qss_components.proofs.crossing_model.CrossingModelAtomic.external.Goals as goal
-use mir.Syntax.{w64, w128}
 
 pub update_crossing_inputs-requires-clause-lines : goal.update_crossing_inputs-requires-clause-lines
 update_crossing_inputs-requires-clause-lines c =

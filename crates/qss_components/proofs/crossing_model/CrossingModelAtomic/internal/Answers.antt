@@ -1,9 +1,7 @@
 -- The detector moves to the tick at which its truth changes.
-use Rattle.std.proofs.Common.{◌≡◌, ◌≤◌, refl, ap, subst, arith}
-use Rattle.std.specs.Prelude.{Some}
-use Rattle.qss_cross.specs.Crossing.{DetectorView, holds_at}
-use Rattle.qss_components.specs.declared.atomic.Message.TheVariants.{Truth}
-use Rattle.qss_components.specs.Crossings.{Crossing, IsCrossingNext}
+use Rattle.qss_components.proofs.Common
+use Common.{◌≡◌, ◌≤◌, ap, arith, Crossing, DetectorView, holds_at, IsCrossingNext, refl, Some}
+use Common.{subst, Truth}
 use Rattle.qss_components.proofs.Inputs.{lines_later}
 use Rattle.qss_components.proofs.Ticks.{same_tick, none_next}
 use Rattle.qss_components.proofs.crossing_model.CrossingModelAtomic.internal.Goals as goal

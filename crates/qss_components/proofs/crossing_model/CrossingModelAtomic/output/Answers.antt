@@ -1,9 +1,5 @@
 -- The truth that the crossing turns to is the other one.
-use Rattle.std.proofs.Common.{Bool, refl, ◌∙◌, ap}
-use Rattle.std.specs.Prelude.{Some, not}
-use Rattle.qss_machine.specs.Machines.{compares}
-use Rattle.qss_cross.specs.Crossing.{holds_at}
-use Rattle.qss_components.specs.declared.atomic.Message.TheVariants.{Truth}
+use Rattle.qss_components.proofs.Common.{◌∙◌, ap, Bool, compares, holds_at, not, refl, Some, Truth}
 use Rattle.qss_components.proofs.InputsTold.{other_truth}
 use Rattle.qss_components.proofs.Ticks.{none_next}
 use Rattle.qss_components.proofs.crossing_model.CrossingModelAtomic.output.Goals as goal

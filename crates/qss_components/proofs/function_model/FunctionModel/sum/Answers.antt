@@ -1,14 +1,8 @@
 -- The sum of the function's own inputs in the shared machine.
-use Rattle.std.proofs.Common.{◌<◌, List, sym, ◌∙◌, ap, subst}
-use Rattle.std.proofs.lemmas.Int.{to_z-of_z}
-use Rattle.std.specs.Int.RustNames.{FitsSigned}
-use Rattle.qss_machine.specs.declared.compiled_machine.Machine.{Machine}
-use Rattle.qss_machine.specs.Machines.{state_count}
-use Rattle.qss_components.specs.declared.function_inputs.FunctionInput.{FunctionInput}
-use Rattle.qss_components.specs.FunctionInputs.{AreInputs, input_levels, input_discretes}
-use Rattle.qss_components.specs.Functions.{sum_at}
+use Rattle.qss_components.proofs.Common
+use Common.{◌<◌, ◌∙◌, ap, AreInputs, FitsSigned, FunctionInput, input_discretes, input_levels, List}
+use Common.{Machine, state_count, subst, sum_at, sym, to_z-of_z, w128}
 use Rattle.qss_components.proofs.function_model.FunctionModel.sum.Goals as goal
-use mir.Syntax.{w128}
 
 pub slope_at_inputs-requires-clause-row : goal.slope_at_inputs-requires-clause-row
 slope_at_inputs-requires-clause-row c = subst (λ (m : Machine). c.args.self.now.row < state_count m) (sym c.deref.ensures) c.args.self.now.known

@@ -1,17 +1,10 @@
 -- The function receives the message, and remembers the first change of its sum.
-use Rattle.std.proofs.Common.{◌≡◌, List, refl, sym, ◌∙◌, ap, subst}
-use Rattle.std.proofs.lemmas.Int.{to_z-of_z}
-use Rattle.std.proofs.lemmas.List.{with_items_is}
-use Rattle.std.specs.Int.RustNames.{FitsSigned}
-use Rattle.qss_machine.specs.declared.compiled_machine.Machine.{Machine}
-use Rattle.qss_components.specs.declared.function_inputs.FunctionInput.{FunctionInput}
-use Rattle.qss_components.specs.Messages.{IsMessage}
-use Rattle.qss_components.specs.FunctionInputs.{AreInputs, input_levels, input_discretes}
-use Rattle.qss_components.specs.Functions.{FunctionState, levels_after_message}
-use Rattle.qss_components.specs.Functions.{discretes_after_message}
+use Rattle.qss_components.proofs.Common
+use Common.{◌∙◌, ◌≡◌, ap, AreInputs, discretes_after_message, FitsSigned, FunctionInput}
+use Common.{FunctionState, input_discretes, input_levels, IsMessage, levels_after_message, List}
+use Common.{Machine, refl, subst, sym, to_z-of_z, w128, with_items_is}
 use Rattle.qss_components.proofs.FunctionsTold.{given_so}
 use Rattle.qss_components.proofs.function_model.FunctionModelAtomic.external.Goals as goal
-use mir.Syntax.{w128}
 
 pub receive_input-requires-clause-message : goal.receive_input-requires-clause-message
 receive_input-requires-clause-message c = subst (λ (m : Machine). IsMessage m c.args.msg) (sym c.deref.ensures) c.requires.message

@@ -1,8 +1,6 @@
 -- The sum was sent.
-use Rattle.std.proofs.Common.{refl, sym}
-use Rattle.qss_components.specs.declared.atomic.Message.TheVariants.{Slope}
-use Rattle.qss_components.specs.FunctionInputs.{input_levels, input_discretes}
-use Rattle.qss_components.specs.Functions.{FunctionState, sum_of}
+use Rattle.qss_components.proofs.Common
+use Common.{FunctionState, input_discretes, input_levels, refl, Slope, sum_of, sym}
 use Rattle.qss_components.proofs.Ticks.{same_tick, none_next}
 use Rattle.qss_components.proofs.function_model.FunctionModelAtomic.internal.Goals as goal
 

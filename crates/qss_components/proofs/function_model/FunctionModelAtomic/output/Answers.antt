@@ -1,11 +1,7 @@
 -- The sum is sent where it changed.
-use Rattle.std.proofs.Common.{ℤ, refl, sym, ◌∙◌, ap}
-use Rattle.std.proofs.lemmas.Int.{to_z-of_z}
-use Rattle.std.specs.Int.RustNames.{FitsSigned}
-use Rattle.qss_components.specs.declared.atomic.Message.TheVariants.{Slope}
+use Rattle.qss_components.proofs.Common.{ℤ, ◌∙◌, ap, FitsSigned, refl, Slope, sym, to_z-of_z, w128}
 use Rattle.qss_components.proofs.Ticks.{none_next}
 use Rattle.qss_components.proofs.function_model.FunctionModelAtomic.output.Goals as goal
-use mir.Syntax.{w128}
 
 pub returns-clause-when : goal.returns-clause-when
 returns-clause-when c next is = rw (sym is ∙ c.in_ok-self.was) (λ e. refl, λ e. refl)

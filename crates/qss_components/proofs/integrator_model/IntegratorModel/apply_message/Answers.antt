@@ -1,12 +1,8 @@
 -- A slope and a state of its number are set.
-use Rattle.std.proofs.Common.{◌≡◌, ◌∙◌, subst, arith}
-use Rattle.std.proofs.lemmas.Int.{ints, to_z-of_z}
-use Rattle.std.specs.Int.RustNames.{FitsSigned}
-use Rattle.qss_components.specs.declared.atomic.Message.TheVariants.{Slope, State}
-use Rattle.qss_components.specs.Messages.{IsMessage}
+use Rattle.qss_components.proofs.Common
+use Common.{◌∙◌, ◌≡◌, arith, FitsSigned, ints, IsMessage, Slope, State, subst, to_z-of_z, w128}
 use Rattle.qss_components.proofs.LinesTold.{slope_told, slope_untold, state_told, state_untold}
 use Rattle.qss_components.proofs.integrator_model.IntegratorModel.apply_message.Goals as goal
-use mir.Syntax.{w128}
 
 pub line_with_slope-requires : goal.line_with_slope-requires
 line_with_slope-requires g c =

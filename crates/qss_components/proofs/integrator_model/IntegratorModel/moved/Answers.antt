@@ -1,13 +1,10 @@
 -- The line up to its next transition.
-use Rattle.std.proofs.Common.{sym, ◌∙◌, ap, subst, arith}
-use Rattle.std.proofs.lemmas.Int.{ints}
-use Rattle.std.specs.Int.RustNames.{FitsSigned}
-use Rattle.mu_num.specs.Sizes.{IsWithin}
-use Rattle.qss_quant.specs.IntegratorLines.{Line, IsLine, state_at}
+use Rattle.qss_components.proofs.Common
+use Common.{◌∙◌, ap, arith, FitsSigned, ints, IsLine, IsWithin, Line, state_at, subst, sym, w128}
+use Common.{w64}
 use Rattle.qss_components.proofs.Leaving.{timely_small}
 use Rattle.qss_components.proofs.Lines.{line_at, line_is}
 use Rattle.qss_components.proofs.integrator_model.IntegratorModel.moved.Goals as goal
-use mir.Syntax.{w64, w128}
 
 pub value_at-x-requires-clause-later : goal.value_at-x-requires-clause-later
 value_at-x-requires-clause-later g c = c.requires.not_before

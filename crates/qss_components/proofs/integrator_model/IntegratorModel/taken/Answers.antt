@@ -1,15 +1,10 @@
 -- The line at the tick of its next transition.
-use Rattle.std.proofs.Common.{sym, ◌∙◌, ap, subst, arith, Some}
-use Rattle.std.proofs.lemmas.Int.{ints}
-use Rattle.std.specs.Int.RustNames.{FitsSigned}
-use Rattle.mu_num.specs.Sizes.{IsWithin}
-use Rattle.qss_machine.specs.Machines.{level_unit, quantum_of}
-use Rattle.qss_quant.specs.IntegratorLines.{Line, IsLine, IsLineWithinQuantum, state_at}
-use Rattle.qss_components.specs.Integrators.{IsLineNext}
+use Rattle.qss_components.proofs.Common
+use Common.{◌∙◌, ap, arith, FitsSigned, ints, IsLine, IsLineNext, IsLineWithinQuantum, IsWithin}
+use Common.{level_unit, Line, quantum_of, Some, state_at, subst, sym, w128, w64}
 use Rattle.qss_components.proofs.Leaving.{reached, free_near, near_later}
 use Rattle.qss_components.proofs.Lines.{line_at, line_cast}
 use Rattle.qss_components.proofs.integrator_model.IntegratorModel.taken.Goals as goal
-use mir.Syntax.{w64, w128}
 
 pub value_at-state-requires-clause-later : goal.value_at-state-requires-clause-later
 value_at-state-requires-clause-later g c =

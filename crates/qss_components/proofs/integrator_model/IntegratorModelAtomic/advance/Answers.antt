@@ -1,7 +1,5 @@
 -- The tick is that of the line in the shared machine.
-use Rattle.std.proofs.Common.{◌<◌, sym, subst}
-use Rattle.qss_machine.specs.Machines.{state_count}
-use Rattle.qss_components.specs.Integrators.{IsLineNext}
+use Rattle.qss_components.proofs.Common.{◌<◌, IsLineNext, state_count, subst, sym}
 use Rattle.qss_components.proofs.integrator_model.IntegratorModelAtomic.advance.Goals as goal
 
 pub next_transition_tick-requires : goal.next_transition_tick-requires

@@ -1,7 +1,5 @@
 -- The line moves to the tick of the message, and takes its values.
-use Rattle.std.proofs.Common.{refl, ◌∙◌, ap}
-use Rattle.qss_quant.specs.IntegratorLines.{Line}
-use Rattle.qss_components.specs.Integrators.{line_told}
+use Rattle.qss_components.proofs.Common.{◌∙◌, ap, Line, line_told, refl}
 use Rattle.qss_components.proofs.integrator_model.IntegratorModelAtomic.external.Goals as goal
 
 pub returns : goal.returns

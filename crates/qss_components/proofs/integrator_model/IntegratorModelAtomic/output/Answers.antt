@@ -1,16 +1,9 @@
 -- There is a message where there is a next transition.
-use Rattle.std.proofs.Common.{◌<◌, refl, sym, ◌∙◌, ap, subst}
-use Rattle.std.proofs.lemmas.Int.{to_z-of_z}
-use Rattle.std.specs.Int.RustNames.{FitsSigned}
-use Rattle.std.specs.Prelude.{Some}
-use Rattle.qss_machine.specs.declared.compiled_machine.Machine.{Machine}
-use Rattle.qss_machine.specs.Machines.{state_count, level_unit}
-use Rattle.qss_quant.specs.IntegratorLines.{state_at}
-use Rattle.qss_quant.specs.LevelRules.{IsAnswer}
-use Rattle.qss_components.specs.Integrators.{IsLineNext}
+use Rattle.qss_components.proofs.Common
+use Common.{◌<◌, ◌∙◌, ap, FitsSigned, IsAnswer, IsLineNext, level_unit, Machine, refl, Some}
+use Common.{state_at, state_count, subst, sym, to_z-of_z, w128}
 use Rattle.qss_components.proofs.Ticks.{same_tick, none_next}
 use Rattle.qss_components.proofs.integrator_model.IntegratorModelAtomic.output.Goals as goal
-use mir.Syntax.{w128}
 
 pub level_on_leaving-level-requires-clause-known : goal.level_on_leaving-level-requires-clause-known
 level_on_leaving-level-requires-clause-known g c = subst (λ (m : Machine). c.args.self.now.var < state_count m) (sym c.deref.ensures) c.args.self.now.known

@@ -1,14 +1,8 @@
 -- Under a rule with a name the rows of a call are the first of those that were to come.
-use Rattle.std.proofs.Common.{◌≡◌, ℕ, ◌++◌, sym, ◌∙◌, ap, subst}
-use Rattle.std.specs.Prelude.{Option, Some, None}
-use Rattle.qss_machine.specs.declared.compiled_machine.Machine.{Machine}
-use Rattle.qss_quant.specs.declared.quantizer.Quantizer.{Quantizer}
-use Rattle.qss_quant.specs.LevelRules.{level_by}
-use Rattle.qss_events.specs.AllowedLevels.{IsAllowedLevel}
+use Rattle.qss_devs.proofs.Common
+use Common.{ℕ, ◌++◌, ◌∙◌, ◌≡◌, ap, IsAllowedLevel, level_by, Machine, None, Option, Quantizer}
+use Common.{snapshot_of, Some, Store, subst, sym, view_of}
 use Rattle.qss_events.specs.declared.event_outcome.Outcome.{Outcome}
-use Rattle.qss_devs.specs.declared.coupled_start.Store.{Store}
-use Rattle.qss_devs.specs.CoupledEvents.{snapshot_of}
-use Rattle.qss_devs.specs.CoupledViews.{view_of}
 use Rattle.qss_events.specs.Events.{IsNext, rows_left}
 use Rattle.qss_events.specs.Outcomes.{tick_of, end_of}
 use Rattle.qss_events.proofs.NamedRows.{named_rows}

@@ -1,5 +1,4 @@
-use Rattle.qss_devs.specs.CoupledViews.{view_of}
-use Rattle.qss_quant.specs.declared.quantizer.Rule.TheVariants.{Floor}
+use Rattle.qss_devs.proofs.Common.{Floor, view_of}
 use Rattle.qss_events.proofs.RuledRuns.{row_known}
 use Rattle.qss_devs.proofs.coupled_run.CoupledRunSimulation.add_line.Goals as goal
 

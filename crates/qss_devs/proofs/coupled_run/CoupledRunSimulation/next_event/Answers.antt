@@ -1,9 +1,5 @@
-use Rattle.std.proofs.Common.{◌≡◌, ◌∙◌, ap}
-use Rattle.qss_quant.specs.declared.quantizer.Quantizer.{Quantizer}
-use Rattle.qss_quant.specs.declared.quantizer.Rule.TheVariants.{Floor}
+use Rattle.qss_devs.proofs.Common.{◌∙◌, ◌≡◌, ap, Floor, Quantizer, RunView, view_of}
 use Rattle.qss_events.specs.declared.event_outcome.Outcome.TheVariants.{Events, Done, Over}
-use Rattle.qss_events.specs.RunViews.{RunView}
-use Rattle.qss_devs.specs.CoupledViews.{view_of}
 use Rattle.qss_events.specs.RemainingRows.{row_lines, outcome_of}
 use Rattle.qss_events.proofs.RuledRuns.{known_on, lines_on, ends_on, over_in}
 use Rattle.qss_events.proofs.RunEnds.{call_of, event_unended, event_later, done_left, done_end}

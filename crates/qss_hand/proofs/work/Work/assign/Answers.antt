@@ -1,13 +1,10 @@
 -- One more place is assigned, with one more row.
-use Rattle.std.proofs.Common.{◌≡◌, ◌<◌, ◌++◌, ◌∷◌, [], ℤ, length, set, to_z, of_z, ◌∙◌, ap, arith}
-use Rattle.std.proofs.lemmas.Int.{to_z-of_z}
-use Rattle.std.proofs.lemmas.List.{length-set, with_items_is}
-use Rattle.std.specs.Prelude.{vec_len, vec_capacity}
-use Rattle.std.specs.Vec.{with_items}
-use Rattle.qss_hand.specs.Values.{Values}
+use Rattle.qss_hand.proofs.Common
+use Common.{[], ℤ, ◌++◌, ◌<◌, ◌∙◌, ◌∷◌, ◌≡◌, ap, arith, length, length-set, of_z, set, to_z}
+use Common.{to_z-of_z, Values, vec_capacity, w64, with_items, with_items_is}
+use Rattle.std.specs.Prelude.{vec_len}
 use Rattle.qss_hand.proofs.Assigned.{one_assigned, same_values}
 use Rattle.qss_hand.proofs.work.Work.assign.Goals as goal
-use mir.Syntax.{w64}
 
 pub bounds-d-place : goal.bounds-d-place
 bounds-d-place c = omega (arith, c.requires.place, ap (λ (w : Values). length w.d) c.self.view_is, ap length c.as_mut_slice-d.ensures.value)

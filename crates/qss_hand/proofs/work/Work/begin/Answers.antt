@@ -1,11 +1,7 @@
 -- The discrete values before the tick follow where some were assigned.
-use Rattle.std.proofs.Common.{◌≡◌, ◌<◌, List, ℕ, ℤ, length, refl, sym, ◌∙◌, ap, subst, arith}
-use Rattle.std.proofs.lemmas.List.{with_items_is}
-use Rattle.std.specs.Prelude.{All}
-use Rattle.std.specs.Vec.{with_items}
-use Rattle.mu_num.specs.IndexedSums.{int_at}
-use Rattle.qss_hand.specs.Assigned.{AreSameBut}
-use Rattle.qss_hand.specs.Values.{Values}
+use Rattle.qss_hand.proofs.Common
+use Common.{ℕ, ℤ, ◌<◌, ◌∙◌, ◌≡◌, All, ap, AreSameBut, arith, int_at, length, List, refl, subst, sym}
+use Common.{Values, with_items, with_items_is}
 use Rattle.qss_hand.proofs.Assigned.{same_values}
 use Rattle.qss_hand.proofs.work.Work.begin.Goals as goal
 

@@ -1,14 +1,9 @@
 -- There are no more rows than items, since each clause has a branch.
-use Rattle.std.proofs.Common.{◌≡◌, ℕ, zero, suc, ◌+◌, ◌≤◌, List, [], ◌∷◌, length, ℤ, sym, ◌∙◌, ap, arith}
-use Rattle.std.proofs.lemmas.List.Sums.{sum_by-cons}
-use Rattle.std.specs.Prelude.{sum_by, All, vec_capacity}
-use Rattle.qss_machine.specs.declared.machine_parts.BranchInfo.{BranchInfo}
-use Rattle.qss_machine.specs.declared.machine_parts.ClauseInfo.{ClauseInfo}
-use Rattle.qss_machine.specs.declared.machine_parts.Row.{Row}
+use Rattle.qss_hand.proofs.Common
+use Common.{[], ℕ, ℤ, ◌+◌, ◌∙◌, ◌∷◌, ◌≡◌, ◌≤◌, All, ap, arith, BranchInfo, ClauseInfo, int_at}
+use Common.{IsClause, item_count, length, List, Row, row_room, suc, sum_by, sum_by-cons, sym}
+use Common.{vec_capacity}
 use Rattle.qss_machine.specs.Machines.{start_states, start_discretes}
-use Rattle.mu_num.specs.IndexedSums.{int_at}
-use Rattle.qss_machine.specs.MachineLimits.{IsClause, item_count}
-use Rattle.qss_hand.specs.Works.{row_room}
 use Rattle.qss_hand.proofs.work.Work.new.Goals as goal
 
 one_more : {X : Type 0} (f : X → ℕ) (xs : List X) → sum_by (λ x. 1 + f x) xs ≡ length xs + sum_by f xs

@@ -1,5 +1,5 @@
 -- One more row.
-use Rattle.std.proofs.Common.{arith}
+use Rattle.qss_hand.proofs.Common.{arith}
 use Rattle.qss_hand.proofs.work.Work.note.Goals as goal
 
 pub invariant_of-self : goal.invariant_of-self

@@ -1,12 +1,8 @@
-use Rattle.std.proofs.Common.{◌+◌, ◌*◌, ◌^◌, ◌≤◌, pos, ◌+ℤ◌, ◌*ℤ◌, arith, ◌∙◌, ap}
-use Rattle.std.proofs.lemmas.Int.{ints, to_z-of_z}
-use Rattle.std.specs.Int.RustNames.{unsigned_abs, FitsSigned}
-use Rattle.std.specs.Prelude.{sum_by}
-use Rattle.qss_machine.specs.declared.machine_parts.Entry.{Entry}
-use Rattle.qss_machine.specs.Slopes.{weighted_sum}
+use Rattle.qss_machine.proofs.Common
+use Common.{◌*ℤ◌, ◌*◌, ◌+ℤ◌, ◌+◌, ◌^◌, ◌∙◌, ◌≤◌, ap, arith, Entry, FitsSigned, ints, pos, sum_by}
+use Common.{to_z-of_z, unsigned_abs, w128, w64, weighted_sum}
 use Rattle.qss_machine.specs.Machines.{inputs}
 use Rattle.qss_machine.proofs.compiled_machine.Machine.form_value.Goals as goal
-use mir.Syntax.{w64, w128}
 
 pub add_form_parts-requires : goal.add_form_parts-requires
 add_form_parts-requires c =

@@ -1,11 +1,7 @@
-use Rattle.std.proofs.Common.{◌*◌, ◌/◌, get_or, pos, arith, sym, ap}
-use Rattle.std.proofs.lemmas.Int.{ints, to_z-of_z}
-use Rattle.std.proofs.lemmas.List.{get_or-map}
-use Rattle.std.specs.Int.{int_max}
-use Rattle.std.specs.Int.RustNames.{unsigned_abs, FitsSigned}
-use Rattle.qss_machine.specs.declared.machine_parts.StateInfo.{StateInfo}
+use Rattle.qss_machine.proofs.Common
+use Common.{◌*◌, ◌/◌, ap, arith, FitsSigned, get_or, get_or-map, int_max, ints, pos, StateInfo, sym}
+use Common.{to_z-of_z, unsigned_abs, w64}
 use Rattle.qss_machine.proofs.compiled_machine.Machine.quantum_at.Goals as goal
-use mir.Syntax.{w64}
 
 pub returns : goal.returns
 returns c =

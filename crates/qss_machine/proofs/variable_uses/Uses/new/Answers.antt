@@ -1,7 +1,6 @@
-use Rattle.std.proofs.Common.{◌≡◌, ◌+◌, ℕ, ℤ, List, map, ◌∙◌, ap, arith}
-use Rattle.qss_machine.specs.Machines.{state_count, discrete_count}
-use Rattle.mu_num.specs.IndexedSums.{tabulate}
-use Rattle.qss_machine.specs.Readers.{reading_rows, reading_conditions}
+use Rattle.qss_machine.proofs.Common
+use Common.{ℕ, ℤ, ◌+◌, ◌∙◌, ◌≡◌, ap, arith, discrete_count, List, map, reading_conditions}
+use Common.{reading_rows, state_count, tabulate}
 use Rattle.qss_machine.proofs.Marking.{items_of}
 use Rattle.qss_machine.proofs.Places.{conditions_few}
 use Rattle.qss_machine.proofs.variable_uses.Uses.new.Goals as goal

@@ -1,14 +1,8 @@
 -- Under the nearest rule the rows of a call are the first of those that were to come.
-use Rattle.std.proofs.Common.{◌≡◌, ℕ, ◌++◌, true, sym, ◌∙◌, ap, subst}
-use Rattle.std.specs.Prelude.{Option, None}
-use Rattle.qss_machine.specs.declared.compiled_machine.Machine.{Machine}
-use Rattle.qss_order2.specs.declared.outcome2.Outcome2.{Outcome2}
-use Rattle.qss_order2.specs.declared.order2_start.Store.{Store}
-use Rattle.qss_order2.specs.Calls.{view_of, tick_of, end_of}
-use Rattle.qss_order2.specs.Events.{SecondRunView, IsNext2, rows2_left}
-use Rattle.qss_order2.specs.SlopeRules.{IsRuled2}
-use Rattle.qss_order2.specs.Stores.{snapshot_of, motion_at}
-use Rattle.qss_order2.specs.SecondSteps.{nearest_change}
+use Rattle.qss_order2.proofs.Common
+use Common.{ℕ, ◌++◌, ◌∙◌, ◌≡◌, ap, end_of, IsNext2, IsRuled2, Machine, motion_at, nearest_change}
+use Common.{None, Option, Outcome2, rows2_left, SecondRunView, snapshot_of, Store, subst, sym}
+use Common.{tick_of, true, view_of}
 use Rattle.qss_order2.proofs.Events.{within_then}
 use Rattle.qss_order2.proofs.NamedRows.{named_rows}
 use Rattle.qss_order2.proofs.second_run_state.SecondRunState.next_event.Goals as goal

@@ -1,8 +1,6 @@
 -- One tick of the run.
-use Rattle.std.proofs.Common.{ℕ, ◌+◌, [], ◌∷◌, ◌++◌, List, ℤ, ◌∙◌, ap, arith}
-use Rattle.std.proofs.lemmas.List.{length-append}
-use Rattle.std.specs.Prelude.{Option}
-use Rattle.qss_machine.specs.Ticks.{snapshot_unless}
+use Rattle.qss_own_traces.proofs.Common
+use Common.{[], ℕ, ℤ, ◌++◌, ◌+◌, ◌∙◌, ◌∷◌, ap, arith, length-append, List, Option, snapshot_unless}
 use Rattle.qss_own_traces.specs.FirstPlaces.{snapshot_of}
 use Rattle.qss_own_traces.proofs.FirstRuns.{left_more, left_refused, held_more}
 use Rattle.qss_own_traces.proofs.first_order_trace.FirstCourse.advance_tick.Goals as goal

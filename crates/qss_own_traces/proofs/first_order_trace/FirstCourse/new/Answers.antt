@@ -1,12 +1,7 @@
 -- The run from tick 0 on.
-use Rattle.std.proofs.Common.{◌≡◌, ℕ, ◌-◌, [], ◌++◌, List, length, ℤ, refl, sym, ◌∙◌, ap, ap₂}
-use Rattle.std.proofs.Common.{subst, arith}
-use Rattle.std.specs.Prelude.{All}
-use Rattle.mu_num.specs.Levels.{floor_level}
-use Rattle.mu_num.specs.Sizes.{IsWithin}
-use Rattle.qss_machine.specs.Machines.{state_count}
-use Rattle.qss_machine.specs.Ticks.{Snapshot, start_snapshot}
-use Rattle.qss_machine.specs.Runs.{run_from}
+use Rattle.qss_own_traces.proofs.Common
+use Common.{[], ℕ, ℤ, ◌++◌, ◌-◌, ◌∙◌, ◌≡◌, All, ap, ap₂, arith, floor_level, IsWithin, length, List}
+use Common.{refl, run_from, Snapshot, start_snapshot, state_count, subst, sym}
 use Rattle.qss_own_traces.proofs.FirstRuns.{wider}
 use Rattle.qss_own_traces.proofs.Placing.{holds_one}
 use Rattle.qss_own_traces.proofs.first_order_trace.FirstCourse.new.Goals as goal

@@ -1,10 +1,7 @@
 -- The run to its last tick.
-use Rattle.std.proofs.Common.{List, length, sym, ◌∙◌, ap, subst, arith}
-use Rattle.qss_machine.specs.Machines.{state_count}
-use Rattle.qss_machine.specs.Ticks.{Snapshot, start_snapshot}
-use Rattle.qss_machine.specs.Runs.{Run}
-use Rattle.qss_machine.specs.RunLaws.{states_from, levels_from}
-use Rattle.qss_own_traces.specs.RecordedTraces.{Holds}
+use Rattle.qss_own_traces.proofs.Common
+use Common.{◌∙◌, ap, arith, Holds, length, levels_from, List, Run, Snapshot, start_snapshot}
+use Common.{state_count, states_from, subst, sym}
 use Rattle.qss_own_traces.specs.FirstPlaces.{snapshot_of}
 use Rattle.qss_own_traces.proofs.FirstRuns.{left_none}
 use Rattle.qss_own_traces.proofs.first_order_trace.FirstCourse.run_to_last_tick.Goals as goal

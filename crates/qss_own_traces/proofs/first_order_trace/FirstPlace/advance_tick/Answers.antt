@@ -1,14 +1,9 @@
 -- A tick is a step of the run.
-use Rattle.std.proofs.Common.{◌≡◌, List, length, ℤ, sym, ◌∙◌, ap, ap₂, subst, Vec, Global}
-use Rattle.std.specs.Option.{option_or}
-use Rattle.std.specs.Prelude.{All, position}
-use Rattle.mu_num.specs.Levels.{floor_level}
-use Rattle.mu_num.specs.Sizes.{IsWithin}
-use Rattle.qss_machine.specs.Machines.{start_discretes}
-use Rattle.mu_num.specs.IndexedSums.{first_exceeding}
-use Rattle.qss_machine.specs.Ticks.{exceeds_row_limits, next_levels}
+use Rattle.qss_own_traces.proofs.Common
+use Common.{ℤ, ◌∙◌, ◌≡◌, All, ap, ap₂, exceeds_row_limits, first_exceeding, floor_level, Global}
+use Common.{IsWithin, length, List, next_levels, option_or, plain_world, position, start_discretes}
+use Common.{subst, sym, Vec}
 use Rattle.qss_own_traces.specs.FirstPlaces.{snapshot_of, HasStates}
-use Rattle.qss_own_traces.specs.TraceSnapshots.{plain_world}
 use Rattle.qss_own_traces.proofs.FirstSteps.{moved, releveled, step_far, step_settled}
 use Rattle.qss_own_traces.proofs.first_order_trace.FirstPlace.advance_tick.Goals as goal
 

@@ -1,13 +1,7 @@
 -- All states go on.
-use Rattle.std.proofs.Common.{◌≡◌, List, length, ℤ, sym, ◌∙◌, ap, ap₂, subst}
-use Rattle.std.proofs.lemmas.List.{with_items_is}
-use Rattle.std.specs.Prelude.{All}
-use Rattle.std.specs.Vec.{with_items}
-use Rattle.mu_num.specs.Sizes.{IsWithin}
-use Rattle.qss_machine.specs.Machines.{state_count}
-use Rattle.mu_num.specs.IndexedSums.{first_exceeding}
-use Rattle.qss_machine.specs.Ticks.{moved_states}
-use Rattle.qss_own_traces.specs.TraceSnapshots.{plain_world}
+use Rattle.qss_own_traces.proofs.Common
+use Common.{ℤ, ◌∙◌, ◌≡◌, All, ap, ap₂, first_exceeding, IsWithin, length, List, moved_states}
+use Common.{plain_world, state_count, subst, sym, with_items, with_items_is}
 use Rattle.qss_own_traces.proofs.FirstSteps.{none_small}
 use Rattle.qss_own_traces.proofs.first_order_trace.FirstPlace.move_on.Goals as goal
 

@@ -1,15 +1,9 @@
 -- The states and levels of the start.
-use Rattle.std.proofs.Common.{◌≡◌, length, map, ℤ, sym, ◌∙◌, ap, subst}
-use Rattle.std.proofs.lemmas.List.{with_items_is}
-use Rattle.std.specs.Prelude.{All}
-use Rattle.std.specs.Vec.{with_items}
-use Rattle.mu_num.specs.Rounding.{floor_of}
-use Rattle.mu_num.specs.Sizes.{IsWithin}
-use Rattle.qss_machine.specs.Machines.{level_unit, start_states}
-use Rattle.qss_machine.specs.Ticks.{start_snapshot}
+use Rattle.qss_own_traces.proofs.Common
+use Common.{ℤ, ◌∙◌, ◌≡◌, All, ap, floor_of, IsWithin, length, level_unit, map, start_snapshot}
+use Common.{start_states, states_start, subst, sym, with_items, with_items_is}
 use Rattle.qss_own_traces.proofs.FirstSteps.{ones, start_plain, start_count, level_count}
 use Rattle.qss_own_traces.proofs.FirstSteps.{start_small_levels}
-use Rattle.qss_machine.proofs.StartValues.{states_start}
 use Rattle.qss_own_traces.proofs.first_order_trace.FirstPlace.new.Goals as goal
 
 pub shorten_first_trace_levels-requires-clause-size_limit : goal.shorten_first_trace_levels-requires-clause-size_limit

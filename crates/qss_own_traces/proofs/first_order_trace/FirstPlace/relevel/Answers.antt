@@ -1,13 +1,7 @@
 -- All states take their new levels.
-use Rattle.std.proofs.Common.{◌≡◌, List, length, ℤ, sym, ◌∙◌, ap, ap₂, subst}
-use Rattle.std.proofs.lemmas.List.{with_items_is}
-use Rattle.std.specs.Prelude.{All, None}
-use Rattle.std.specs.Vec.{with_items}
-use Rattle.mu_num.specs.Levels.{floor_level}
-use Rattle.mu_num.specs.Sizes.{IsWithin}
-use Rattle.qss_machine.specs.Machines.{state_count}
-use Rattle.mu_num.specs.IndexedSums.{first_exceeding}
-use Rattle.qss_machine.specs.Ticks.{next_levels}
+use Rattle.qss_own_traces.proofs.Common
+use Common.{ℤ, ◌∙◌, ◌≡◌, All, ap, ap₂, first_exceeding, floor_level, IsWithin, length, List}
+use Common.{next_levels, None, state_count, subst, sym, with_items, with_items_is}
 use Rattle.qss_own_traces.proofs.FirstSteps.{none_small}
 use Rattle.qss_own_traces.proofs.first_order_trace.FirstPlace.relevel.Goals as goal
 

@@ -1,10 +1,7 @@
 -- The absolute row sums are checked after the levels.
-use Rattle.std.proofs.Common.{ℕ, List, ℤ, sym, ◌∙◌, ap, subst}
-use Rattle.std.specs.Option.{option_or}
-use Rattle.std.specs.Prelude.{All, Option, position}
-use Rattle.mu_num.specs.Sizes.{IsWithin}
-use Rattle.qss_machine.specs.Machines.{start_discretes}
-use Rattle.qss_machine.specs.Ticks.{exceeds_row_limits}
+use Rattle.qss_own_traces.proofs.Common
+use Common.{ℕ, ℤ, ◌∙◌, All, ap, exceeds_row_limits, IsWithin, List, Option, option_or, position}
+use Common.{start_discretes, subst, sym}
 use Rattle.qss_own_traces.proofs.first_order_trace.FirstPlace.settle.Goals as goal
 
 pub returns-in-Some-clause-overflow : goal.returns-in-Some-clause-overflow

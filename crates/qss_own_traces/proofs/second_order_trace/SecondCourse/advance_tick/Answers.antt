@@ -1,11 +1,8 @@
 -- One tick of the run.
-use Rattle.std.proofs.Common.{◌≡◌, ℕ, [], ◌∷◌, ◌++◌, List, ℤ, sym, ◌∙◌, ap, arith}
-use Rattle.std.proofs.lemmas.List.{length-append}
-use Rattle.std.specs.Prelude.{Option, None}
-use Rattle.qss_machine.specs.Machines.{state_count}
-use Rattle.qss_order2.specs.SecondSteps.{nearest_change, second_start, second_snapshot_unless}
-use Rattle.qss_own_traces.specs.SecondPlaces.{snapshot_of}
-use Rattle.qss_own_traces.specs.SecondRuns.{first_wide}
+use Rattle.qss_own_traces.proofs.Common
+use Common.{[], ℕ, ℤ, ◌++◌, ◌∙◌, ◌∷◌, ◌≡◌, ap, arith, first_wide, length-append, List}
+use Common.{nearest_change, None, Option, second_snapshot_unless, second_start, snapshot_of}
+use Common.{state_count, sym}
 use Rattle.qss_own_traces.proofs.SecondRuns.{left_more, left_over, left_wide, held_more}
 use Rattle.qss_own_traces.proofs.SecondRuns.{narrow_more}
 use Rattle.qss_own_traces.proofs.Wides.{narrow_levels, narrow_states}

@@ -1,12 +1,8 @@
 -- The run from tick 0 on.
-use Rattle.std.proofs.Common.{◌≡◌, Bool, [], ◌++◌, List, length, ℤ, refl, sym, ◌∙◌, ap, ap₂, subst}
-use Rattle.std.proofs.Common.{Vec, Global}
-use Rattle.std.specs.Prelude.{All, None}
-use Rattle.mu_num.specs.Sizes.{IsWithin}
-use Rattle.qss_machine.specs.Machines.{state_count}
-use Rattle.qss_order2.specs.SecondSteps.{SecondSnapshot, nearest_change, first_exceeding_limit}
-use Rattle.qss_order2.specs.SecondSteps.{second_start}
-use Rattle.qss_own_traces.specs.SecondPlaces.{AreHeld, changed, snapshot_of}
+use Rattle.qss_own_traces.proofs.Common
+use Common.{[], ℤ, ◌++◌, ◌∙◌, ◌≡◌, All, ap, ap₂, AreHeld, Bool, changed, first_exceeding_limit}
+use Common.{Global, IsWithin, length, List, nearest_change, None, refl, second_start}
+use Common.{SecondSnapshot, snapshot_of, state_count, subst, sym, Vec}
 use Rattle.qss_own_traces.proofs.Placing.{holds_one}
 use Rattle.qss_own_traces.proofs.SecondRuns.{all_changed, narrow_one, start_left, start_over}
 use Rattle.qss_own_traces.proofs.SecondRuns.{zeros_held}

@@ -1,10 +1,7 @@
 -- The run to its last tick.
-use Rattle.std.proofs.Common.{length, sym, ◌∙◌, ap, subst, arith}
-use Rattle.qss_machine.specs.Machines.{state_count}
-use Rattle.qss_order2.specs.SecondRuns.{Run2}
-use Rattle.qss_order2.specs.SecondRunLaws.{states_from2, levels_from2}
-use Rattle.qss_own_traces.specs.RecordedTraces.{Holds}
-use Rattle.qss_own_traces.specs.SecondPlaces.{snapshot_of}
+use Rattle.qss_own_traces.proofs.Common
+use Common.{◌∙◌, ap, arith, Holds, length, levels_from2, Run2, snapshot_of, state_count}
+use Common.{states_from2, subst, sym}
 use Rattle.qss_own_traces.proofs.SecondRuns.{left_none}
 use Rattle.qss_own_traces.proofs.second_order_trace.SecondCourse.run_to_last_tick.Goals as goal
 

@@ -1,12 +1,8 @@
 -- A tick is a step of the run.
-use Rattle.std.proofs.Common.{◌≡◌, ℕ, Bool, true, false, List, length, ℤ, sym, ◌∙◌, ap, ap₂, subst}
-use Rattle.std.proofs.Common.{Vec, Global}
-use Rattle.std.specs.List.{list_any, range_with_len}
-use Rattle.mu_num.specs.ListedPlaces.{flag_at}
-use Rattle.qss_machine.specs.Machines.{state_count}
-use Rattle.qss_order2.specs.SecondSteps.{leaves_quantum, is_requantization, is_limit_check}
-use Rattle.qss_order2.specs.SecondSteps.{first_exceeding_limit}
-use Rattle.qss_own_traces.specs.SecondPlaces.{AreHeld, changed, snapshot_of}
+use Rattle.qss_own_traces.proofs.Common
+use Common.{ℕ, ℤ, ◌∙◌, ◌≡◌, ap, ap₂, AreHeld, Bool, changed, false, first_exceeding_limit, flag_at}
+use Common.{Global, is_limit_check, is_requantization, leaves_quantum, length, List, list_any}
+use Common.{range_with_len, snapshot_of, state_count, subst, sym, true, Vec}
 use Rattle.qss_own_traces.proofs.Flags.{same_any}
 use Rattle.qss_own_traces.proofs.SecondSteps.{changed_are, step_looked, step_calm}
 use Rattle.qss_own_traces.proofs.second_order_trace.SecondPlace.advance_tick.Goals as goal

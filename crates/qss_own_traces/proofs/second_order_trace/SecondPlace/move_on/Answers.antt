@@ -1,24 +1,14 @@
 -- States and levels are those of the next tick.
-use Rattle.std.proofs.Common.{◌≡◌, ℕ, Bool, List, length, ℤ, ◌+ℤ◌, sym, ◌∙◌, ap, ap₂, subst, arith}
-use Rattle.std.proofs.lemmas.Int.{ints, to_z-of_z}
-use Rattle.std.proofs.lemmas.List.{with_items_is}
-use Rattle.std.proofs.lemmas.List.FromFn.{length-map-range_with_len}
-use Rattle.std.specs.Int.RustNames.{FitsSigned}
-use Rattle.std.specs.Prelude.{All, if◌then◌else◌}
-use Rattle.mu_num.specs.Rounding.{floor_of}
-use Rattle.mu_num.specs.Sizes.{IsWithin}
-use Rattle.mu_num.specs.ListedPlaces.{flag_at}
-use Rattle.qss_machine.specs.Machines.{state_count, level_unit}
-use Rattle.mu_num.specs.IndexedSums.{int_at, tabulate}
-use Rattle.qss_order2.specs.SecondSteps.{rise_at, leaves_quantum, moved_state, moved_level}
-use Rattle.qss_order2.specs.SecondSteps.{next_states}
-use Rattle.qss_order2.proofs.Tables.{same_table}
+use Rattle.qss_own_traces.proofs.Common
+use Common.{ℕ, ℤ, ◌+ℤ◌, ◌∙◌, ◌≡◌, All, ap, ap₂, AreHeld, arith, Bool, FitsSigned, flag_at, floor_of}
+use Common.{has_left, if◌then◌else◌, int_at, ints, IsWithin, leaves_from, leaves_quantum, length}
+use Common.{length-map-range_with_len, level_unit, List, next_states, rise_at, same_table}
+use Common.{snapshot_of, state_count, subst, sym, tabulate, to_z-of_z, w128, with_items_is}
+use Rattle.qss_order2.specs.SecondSteps.{moved_state, moved_level}
 use Rattle.mu_num.proofs.Tables.{int_at-tabulate}
-use Rattle.qss_own_traces.specs.SecondPlaces.{AreHeld, has_left, leaves_from, snapshot_of}
 use Rattle.qss_own_traces.proofs.SecondSteps.{held_small}
 use Rattle.qss_own_traces.proofs.SecondSums.{unit_is}
 use Rattle.qss_own_traces.proofs.second_order_trace.SecondPlace.move_on.Goals as goal
-use mir.Syntax.{w128}
 
 pub move_states-requires-clause-small_levels : goal.move_states-requires-clause-small_levels
 move_states-requires-clause-small_levels c = subst (All (IsWithin 64)) (sym c.as_slice.ensures.value) c.requires.stands.small_levels

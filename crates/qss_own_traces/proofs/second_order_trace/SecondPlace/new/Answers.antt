@@ -1,15 +1,10 @@
 -- A number for each state.
-use Rattle.std.proofs.Common.{◌≡◌, ℕ, true, length, map, ℤ, pos, replicate, ◌∙◌, ap, arith}
-use Rattle.std.proofs.lemmas.Int.{ints, to_z-of_z}
-use Rattle.std.proofs.lemmas.List.{length-map, length-replicate}
-use Rattle.std.specs.Int.RustNames.{FitsSigned}
-use Rattle.mu_num.specs.Rounding.{floor_of}
-use Rattle.mu_num.specs.Sizes.{IsWithin}
-use Rattle.qss_machine.specs.Machines.{state_count, level_unit}
-use Rattle.qss_order2.proofs.Starts.{fine_count}
+use Rattle.qss_own_traces.proofs.Common
+use Common.{ℕ, ℤ, ◌∙◌, ◌≡◌, ap, arith, fine_count, FitsSigned, floor_of, ints, IsWithin, length}
+use Common.{length-map, level_unit, map, pos, replicate, state_count, to_z-of_z, true, w128}
+use Rattle.std.proofs.lemmas.List.{length-replicate}
 use Rattle.qss_own_traces.proofs.SecondSums.{unit_is}
 use Rattle.qss_own_traces.proofs.second_order_trace.SecondPlace.new.Goals as goal
-use mir.Syntax.{w128}
 
 pub draft_levels_below-requires : goal.draft_levels_below-requires
 draft_levels_below-requires c =

@@ -1,16 +1,11 @@
 -- Limits are checked in their order.
-use Rattle.std.proofs.Common.{◌≡◌, Bool, true, List, ℤ, sym, ◌∙◌, ap, subst, arith}
-use Rattle.std.proofs.lemmas.List.{with_items_is}
-use Rattle.std.specs.Prelude.{All, None, Some}
-use Rattle.std.specs.Vec.{with_items}
-use Rattle.mu_num.specs.Sizes.{IsWithin}
-use Rattle.mu_num.specs.ListedPlaces.{flag_at}
-use Rattle.qss_machine.specs.Machines.{state_count}
+use Rattle.qss_own_traces.proofs.Common
+use Common.{ℤ, ◌∙◌, ◌≡◌, All, ap, AreHeld, arith, Bool, changed, flag_at, IsWithin, List, None}
+use Common.{Some, state_count, subst, sym, true, with_items, with_items_is}
 use Rattle.qss_order2.proofs.Bounds.{rise_by_weight}
 use Rattle.qss_machine.proofs.Near.{option_or-None}
 use Rattle.qss_order2.specs.SecondRunLimits.{past_levels}
 use Rattle.qss_order2.proofs.Settlings.{of_changes, past_first, past_then, near_are, held_after}
-use Rattle.qss_own_traces.specs.SecondPlaces.{AreHeld, changed}
 use Rattle.qss_own_traces.proofs.FirstRuns.{wider}
 use Rattle.qss_own_traces.proofs.FirstSteps.{none_small}
 use Rattle.qss_own_traces.proofs.second_order_trace.SecondPlace.settle.Goals as goal

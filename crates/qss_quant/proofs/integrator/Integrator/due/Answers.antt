@@ -1,12 +1,12 @@
 -- The gap between a state and its level moves as the state does.
-use Rattle.std.proofs.Common.{◌≡◌, ℕ, ◌+◌, ◌-◌, pos, ℤ, ◌+ℤ◌, ◌-ℤ◌, ◌*ℤ◌, ◌≤ℤ◌, unsigned_abs, sym, subst, arith, Option}
-use Rattle.std.proofs.lemmas.Int.{ints, to_z-of_z}
-use Rattle.std.specs.Int.RustNames.{FitsSigned}
-use Rattle.mu_num.specs.Ticks.{FirstAfter, later_tick}
-use Rattle.mu_num.proofs.FirstTicks.{first_after-same, first_after-later}
-use Rattle.qss_quant.specs.IntegratorLines.{Line, state_at, IsAway}
+use Rattle.qss_quant.proofs.Common
+use Common.{ℕ, ℤ, ◌*ℤ◌, ◌+ℤ◌, ◌-ℤ◌, ◌≡◌, ◌≤ℤ◌, arith, first_after-same, FirstAfter, FitsSigned}
+use Common.{ints, IsAway, Option, pos, subst, sym, to_z-of_z, unsigned_abs, w128, w64}
+use Rattle.std.proofs.Common.{◌+◌, ◌-◌}
+use Rattle.mu_num.specs.Ticks.{later_tick}
+use Rattle.mu_num.proofs.FirstTicks.{first_after-later}
+use Rattle.qss_quant.specs.IntegratorLines.{Line, state_at}
 use Rattle.qss_quant.proofs.integrator.Integrator.due.Goals as goal
-use mir.Syntax.{w64, w128}
 
 moved_gap : (x s level : ℤ) → (x +ℤ s) -ℤ level ≡ (x -ℤ level) +ℤ s
 moved_gap x s level = omega (arith, ints)

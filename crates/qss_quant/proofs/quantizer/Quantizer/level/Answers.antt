@@ -1,10 +1,9 @@
 -- The state is within the quantum exactly where the code's test says so.
-use Rattle.std.proofs.Common.{◌≡◌, pos, ◌-ℤ◌, ◌*ℤ◌, ◌<ℤ◌, ℤ, unsigned_abs, IsTrue, false, rules, arith}
-use Rattle.std.proofs.lemmas.Int.{ints, to_z-of_z}
-use Rattle.std.specs.Int.RustNames.{FitsSigned}
-use Rattle.qss_quant.specs.IntegratorLines.{IsAway}
+use Rattle.qss_quant.proofs.Common
+use Common.{ℤ, ◌*ℤ◌, ◌-ℤ◌, ◌<ℤ◌, ◌≡◌, arith, FitsSigned, ints, IsAway, pos, rules, to_z-of_z}
+use Common.{unsigned_abs, w128}
+use Rattle.std.proofs.Common.{IsTrue, false}
 use Rattle.qss_quant.proofs.quantizer.Quantizer.level.Goals as goal
-use mir.Syntax.{w128}
 
 not_true : {A : Type 0} → IsTrue false → A
 not_true h = absurd (search (rules, h))

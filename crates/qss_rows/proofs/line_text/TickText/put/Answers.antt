@@ -1,5 +1,5 @@
-use Rattle.std.proofs.Common.{ℕ, List, ◌-◌, ◌++◌, drop, sym, ap, ◌∙◌, arith}
-use Rattle.std.proofs.lemmas.List.{drop-drop, drop-append-le}
+use Rattle.qss_rows.proofs.Common.{ℕ, ◌++◌, ◌-◌, ◌∙◌, ap, arith, drop, drop-drop, List, sym}
+use Rattle.std.proofs.lemmas.List.{drop-append-le}
 use Rattle.qss_rows.proofs.LineRecords.{put_before}
 use Rattle.qss_rows.proofs.line_text.TickText.put.Goals as goal
 

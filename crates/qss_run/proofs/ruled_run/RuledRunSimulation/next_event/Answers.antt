@@ -1,7 +1,7 @@
-use Rattle.std.proofs.Common.{◌≡◌, ◌∙◌, ap, refl}
-use Rattle.qss_events.specs.declared.event_outcome.Outcome.TheVariants.{Events, Done, Over}
+use Rattle.qss_run.proofs.Common
+use Common.{◌∙◌, ◌≡◌, ap, call_of, Done, done_end, done_left, Events, Over, over_end, over_left}
+use Common.{refl}
 use Rattle.qss_events.specs.RemainingRows.{row_lines, outcome_of}
-use Rattle.qss_events.proofs.RunEnds.{call_of, done_left, done_end, over_left, over_end}
 use Rattle.qss_events.proofs.RuledRuns.{known_on, ends_on, over_in}
 use Rattle.qss_run.proofs.ruled_run.RuledRunSimulation.next_event.Goals as goal
 

@@ -1,6 +1,5 @@
 -- The branch at the place has the condition at the place.
-use Rattle.std.proofs.Common.{sym, ◌∙◌, subst, arith}
-use Rattle.qss_run.specs.ConditionPlaces.{AreBranches}
+use Rattle.qss_run.proofs.Common.{◌∙◌, AreBranches, arith, subst, sym}
 use Rattle.qss_run.proofs.run_conditions.Conditions.condition.Goals as goal
 
 pub returns-clause-value : goal.returns-clause-value

@@ -1,34 +1,16 @@
 -- The branches of the conditions that hold on arrival, and did not both before, are those that are due.
-use Rattle.std.proofs.Common.{◌≡◌, ◌<◌, ◌||◌, true, ℕ, List, length, ℤ, pos, sym, ap, ◌∙◌, subst}
-use Rattle.std.proofs.Common.{arith, rules}
-use Rattle.std.proofs.lemmas.List.{with_items_is}
-use Rattle.std.specs.Prelude.{None, All, Result, Err, is_some}
-use Rattle.std.specs.Vec.{with_items}
-use Rattle.mu_num.specs.Sizes.{IsWithin}
-use Rattle.qss_machine.specs.declared.machine_parts.Row.{Row}
-use Rattle.mu_num.specs.ListedPlaces.{flag_at, is_listed, AreRisingBelow}
-use Rattle.qss_machine.specs.Handlers.{HandlerState, conditions}
-use Rattle.qss_machine.specs.Machines.{state_count}
-use Rattle.mu_num.specs.IndexedSums.{first_exceeding}
-use Rattle.qss_quant.specs.IntegratorLines.{state_at}
-use Rattle.qss_cross.specs.Crossing.{holds_at}
-use Rattle.qss_hand.specs.Values.{Values}
+use Rattle.qss_run.proofs.Common
+use Common.{ℕ, ℤ, ◌<◌, ◌||◌, ◌∙◌, ◌≡◌, All, all_within, ap, AreBranches, AreRisingBelow, arith}
+use Common.{assigned_of, clash, Conditions, conditions, detector_at, Err, first_exceeding, flag_at}
+use Common.{HandlerState, handling_from, handling_of_fired, holds_at, is_listed, is_reinitialized}
+use Common.{is_some, IsHandlerEffect, IsWithin, IsWritten, length, line_at, List, None, overflow_of}
+use Common.{PlaceList, pos, Result, Row, rules, same_length, state_at, state_count, states_at}
+use Common.{subst, sym, true, Values, with_items, with_items_is}
 use Rattle.qss_hand.specs.declared.handler_statements.Over.{Over}
-use Rattle.qss_hand.specs.Works.{overflow_of}
-use Rattle.qss_run.specs.declared.run_conditions.Conditions.{Conditions}
-use Rattle.qss_run.specs.HandlerResults.{handling_of_fired, is_reinitialized, IsHandlerEffect}
-use Rattle.qss_run.specs.HandlerResults.{handling_from}
-use Rattle.qss_events.specs.HandlerRows.{assigned_of}
-use Rattle.qss_run.specs.ConditionPlaces.{AreBranches, detector_at}
-use Rattle.qss_states.specs.StateLines.{line_at, states_at}
-use Rattle.qss_sched.specs.PlaceSets.{PlaceList}
-use Rattle.mu_num.specs.Writes.{IsWritten}
-use Rattle.qss_events.proofs.Overs.{all_within, clash}
 use Rattle.qss_run.proofs.Arrivals.{may_be_read, fired_numbers, read_on_arrival, read_handling}
 use Rattle.qss_run.proofs.Arrivals.{rows_fired, known_states, is_handled}
 use Rattle.qss_run.proofs.Handled.{over_early}
 use Rattle.qss_run.proofs.OwnConditions.{arrived_anew}
-use Rattle.mu_num.proofs.InPlace.{same_length}
 use Rattle.qss_run.proofs.run_conditions.Conditions.handle_changed_conditions.Goals as goal
 
 -- After an error, nothing has to be shown for the case without an overflow.

@@ -1,10 +1,8 @@
 -- One more condition is settled.
-use Rattle.std.proofs.Common.{◌≤◌, ◌∷◌, [], ℕ, List, length, refl, sym, ◌∙◌, subst, arith}
-use Rattle.qss_machine.specs.Handlers.{conditions}
-use Rattle.qss_run.specs.DetectorUpdates.{AreSettled, detector_states_of}
-use Rattle.qss_events.proofs.Flags.{truths_are}
+use Rattle.qss_run.proofs.Common
+use Common.{[], ℕ, ◌∙◌, ◌∷◌, ◌≤◌, AreSettled, arith, conditions, conditions_few, detector_states_of}
+use Common.{length, List, refl, subst, sym, truths_are}
 use Rattle.qss_run.proofs.OwnConditions.{settled_fits, rest_then}
-use Rattle.qss_hand.proofs.Turns.{conditions_few}
 use Rattle.qss_run.proofs.Rewatching.{all_below, all_below-more, among_below, none_settled}
 use Rattle.qss_run.proofs.Rewatching.{settled_then}
 use Rattle.qss_run.proofs.run_conditions.Conditions.set_all_detectors.Goals as goal

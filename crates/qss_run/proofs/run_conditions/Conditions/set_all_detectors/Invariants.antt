@@ -1,5 +1,5 @@
-use Rattle.std.proofs.Common.{◌≡◌}
-use Rattle.qss_run.specs.DetectorUpdates.{AreAlikeButSettled, AreSettled, detector_states_of}
+use Rattle.qss_run.proofs.Common.{◌≡◌, AreSettled, detector_states_of}
+use Rattle.qss_run.specs.DetectorUpdates.{AreAlikeButSettled}
 use Rattle.qss_run.proofs.Rewatching.{all_below}
 use Rattle.qss_run.proofs.run_conditions.Conditions.set_all_detectors.Given as goal
 

@@ -1,14 +1,8 @@
 -- The conditions that read one more value before the tick are settled.
-use Rattle.std.proofs.Common.{◌<◌, ◌+◌, ℕ, List, [], length, get_or, take, sym, ◌∙◌, ap, subst}
-use Rattle.std.proofs.Common.{arith}
-use Rattle.std.proofs.lemmas.List.{take_all}
-use Rattle.std.specs.Prelude.{All}
-use Rattle.qss_machine.specs.Handlers.{conditions}
-use Rattle.qss_machine.specs.Machines.{discrete_count}
-use Rattle.qss_machine.specs.Readers.{reading_conditions}
-use Rattle.qss_run.specs.DetectorUpdates.{AreSettledAlong, readers_before}
-use Rattle.qss_machine.proofs.Among.{lists_more}
-use Rattle.qss_machine.proofs.KeptReaders.{conditions_many, conditions_kept, conditions_below}
+use Rattle.qss_run.proofs.Common
+use Common.{[], ℕ, ◌+◌, ◌<◌, ◌∙◌, All, ap, AreSettledAlong, arith, conditions, conditions_below}
+use Common.{conditions_kept, conditions_many, discrete_count, get_or, length, List, lists_more}
+use Common.{readers_before, reading_conditions, subst, sym, take, take_all}
 use Rattle.qss_run.proofs.OwnConditions.{none_along, along_more, still_settles}
 use Rattle.qss_run.proofs.run_conditions.Conditions.settle_assigned_detectors.Goals as goal
 

@@ -1,5 +1,4 @@
-use Rattle.std.proofs.Common.{take}
-use Rattle.qss_run.specs.DetectorUpdates.{AreSettledAlong, readers_before}
+use Rattle.qss_run.proofs.Common.{AreSettledAlong, readers_before, take}
 use Rattle.qss_run.proofs.run_conditions.Conditions.settle_assigned_detectors.Given as goal
 
 -- the conditions that read the values so far before the tick are settled

@@ -1,20 +1,12 @@
 -- One condition is settled.
-use Rattle.std.proofs.Common.{◌≡◌, Bool, ◌+◌, ◌==◌, ◌&&◌, ◌||◌, length, set, refl, sym, ◌∙◌, ap}
-use Rattle.std.proofs.Common.{arith}
-use Rattle.std.proofs.lemmas.List.{length-set, with_items_is}
-use Rattle.std.specs.Vec.{with_items}
-use Rattle.qss_machine.specs.declared.machine_parts.Condition.{Condition}
-use Rattle.mu_num.specs.ListedPlaces.{flag_at, is_listed}
-use Rattle.qss_machine.specs.Machines.{state_count, compares, truth}
-use Rattle.qss_cross.specs.Crossing.{DetectorView}
-use Rattle.qss_run.specs.declared.run_conditions.Conditions.{Conditions}
-use Rattle.qss_run.specs.DueLists.{differ}
-use Rattle.qss_run.specs.DetectorUpdates.{detector_states_of}
-use Rattle.qss_events.specs.Schedules.{condition_at}
+use Rattle.qss_run.proofs.Common
+use Common.{◌&&◌, ◌+◌, ◌==◌, ◌||◌, ◌∙◌, ◌≡◌, ap, arith, Bool, compares, Condition, condition_at}
+use Common.{Conditions, conditions_few, detector_states_of, DetectorView, differ, flag_at}
+use Common.{is_listed, length, length-set, refl, set, state_count, sym, truth, with_items}
+use Common.{with_items_is}
 use Rattle.qss_run.proofs.Apart.{one_noted}
 use Rattle.qss_run.proofs.Rewatching.{one_settled}
 use Rattle.qss_run.proofs.Watched.{watch_is}
-use Rattle.qss_hand.proofs.Turns.{conditions_few}
 use Rattle.qss_run.proofs.run_conditions.Conditions.settle_detector.Goals as goal
 
 pub overflow_add-at : goal.overflow_add-at

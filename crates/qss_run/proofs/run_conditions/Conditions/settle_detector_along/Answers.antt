@@ -1,14 +1,9 @@
 -- The condition has the same value at all states.
-use Rattle.std.proofs.Common.{◌≡◌, List, length, ℤ, sym, ◌∙◌, ap}
-use Rattle.qss_machine.specs.declared.machine_parts.Condition.{Condition}
-use Rattle.qss_machine.specs.Machines.{value_of}
-use Rattle.qss_machine.specs.Readers.{has_entry}
-use Rattle.qss_run.specs.DetectorUpdates.{detector_states_of}
-use Rattle.qss_events.specs.Schedules.{condition_at}
-use Rattle.qss_states.specs.StateLines.{states_at}
+use Rattle.qss_run.proofs.Common
+use Common.{ℤ, ◌∙◌, ◌≡◌, ap, Condition, condition_at, detector_states_of, has_entry, length}
+use Common.{length-states_at, List, may_arrive, states_at, sym, value_of}
 use Rattle.qss_run.proofs.Agreeing.{value_agrees}
 use Rattle.qss_run.proofs.Arrived.{arrived_small}
-use Rattle.qss_states.proofs.DueLevels.{length-states_at, may_arrive}
 use Rattle.qss_run.proofs.Rewatching.{settled_at}
 use Rattle.qss_run.proofs.Settling.{arrived_of}
 use Rattle.qss_run.proofs.run_conditions.Conditions.settle_detector_along.Goals as goal

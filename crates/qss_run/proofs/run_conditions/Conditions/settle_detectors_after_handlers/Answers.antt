@@ -1,13 +1,9 @@
 -- The conditions settle list by list.
-use Rattle.std.proofs.Common.{◌≡◌, ◌++◌, ℕ, List, length, take, drop, ℤ, sym, ◌∙◌, ap, subst, arith}
+use Rattle.qss_run.proofs.Common
+use Common.{ℕ, ℤ, ◌++◌, ◌∙◌, ◌≡◌, ap, AreSettledAlong, arith, CanSettle, drop, is_reinitialized}
+use Common.{length, List, readers_before, reinitialized_of, Row, subst, sym, take, touched_after}
+use Common.{touched_by, Values}
 use Rattle.std.proofs.Math.Seq.{take-append_seam}
-use Rattle.qss_machine.specs.declared.machine_parts.Row.{Row}
-use Rattle.qss_hand.specs.Values.{Values}
-use Rattle.qss_run.specs.HandlerResults.{is_reinitialized}
-use Rattle.qss_events.specs.HandlerRows.{reinitialized_of}
-use Rattle.qss_run.specs.ConditionContexts.{CanSettle}
-use Rattle.qss_run.specs.DetectorUpdates.{AreSettledAlong, touched_by, touched_after}
-use Rattle.qss_run.specs.DetectorUpdates.{readers_before}
 use Rattle.qss_run.proofs.OwnConditions.{along_then, still_settles}
 use Rattle.qss_run.proofs.run_conditions.Conditions.settle_detectors_after_handlers.Goals as goal
 

@@ -1,7 +1,6 @@
 -- One more condition is settled.
-use Rattle.std.proofs.Common.{ℕ, List, ◌∷◌, [], get_or, take, subst, refl}
-use Rattle.std.proofs.lemmas.List.{take_more, take_all}
-use Rattle.qss_run.specs.DetectorUpdates.{AreSettledAlong}
+use Rattle.qss_run.proofs.Common
+use Common.{[], ℕ, ◌∷◌, AreSettledAlong, get_or, List, refl, subst, take, take_all, take_more}
 use Rattle.qss_run.proofs.OwnConditions.{none_along, along_more, still_settles}
 use Rattle.qss_run.proofs.run_conditions.Conditions.settle_detectors_at.Goals as goal
 

@@ -1,5 +1,4 @@
-use Rattle.std.proofs.Common.{take}
-use Rattle.qss_run.specs.DetectorUpdates.{AreSettledAlong}
+use Rattle.qss_run.proofs.Common.{AreSettledAlong, take}
 use Rattle.qss_run.proofs.run_conditions.Conditions.settle_detectors_at.Given as goal
 
 -- the conditions so far are settled

@@ -1,12 +1,8 @@
 -- The conditions that read one more variable are settled.
-use Rattle.std.proofs.Common.{◌<◌, ℕ, List, length, get_or, take, sym, ◌∙◌, subst, arith}
-use Rattle.std.proofs.lemmas.List.{take_all}
-use Rattle.std.specs.Prelude.{All}
-use Rattle.qss_machine.specs.Handlers.{conditions}
-use Rattle.qss_machine.specs.Readers.{reading_conditions}
-use Rattle.qss_run.specs.DetectorUpdates.{AreSettledAlong, readers_of}
-use Rattle.qss_machine.proofs.Among.{lists_more}
-use Rattle.qss_machine.proofs.KeptReaders.{conditions_many, conditions_kept, conditions_below}
+use Rattle.qss_run.proofs.Common
+use Common.{ℕ, ◌<◌, ◌∙◌, All, AreSettledAlong, arith, conditions, conditions_below, conditions_kept}
+use Common.{conditions_many, get_or, length, List, lists_more, readers_of, reading_conditions}
+use Common.{subst, sym, take, take_all}
 use Rattle.qss_run.proofs.OwnConditions.{none_along, along_more, still_settles}
 use Rattle.qss_run.proofs.run_conditions.Conditions.settle_reader_detectors.Goals as goal
 

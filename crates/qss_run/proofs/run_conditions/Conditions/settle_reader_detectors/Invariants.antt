@@ -1,5 +1,4 @@
-use Rattle.std.proofs.Common.{take}
-use Rattle.qss_run.specs.DetectorUpdates.{AreSettledAlong, readers_of}
+use Rattle.qss_run.proofs.Common.{AreSettledAlong, readers_of, take}
 use Rattle.qss_run.proofs.run_conditions.Conditions.settle_reader_detectors.Given as goal
 
 -- the conditions that read the variables so far are settled

@@ -1,18 +1,13 @@
 -- The conditions that one more reinitialized state touches are settled.
-use Rattle.std.proofs.Common.{◌≡◌, ℕ, ◌+◌, List, ◌++◌, get_or, take, ℤ, ap, pos, refl, sym, ◌∙◌}
-use Rattle.std.proofs.Common.{subst, arith}
-use Rattle.std.proofs.lemmas.List.{take_all}
-use Rattle.std.specs.Prelude.{Option}
-use Rattle.qss_machine.specs.declared.machine_parts.Row.{Row}
-use Rattle.qss_machine.specs.declared.machine_parts.RowKind.TheVariants as kind
-use Rattle.qss_run.specs.declared.run_conditions.Conditions.{Conditions}
-use Rattle.qss_events.specs.HandlerRows.{reinitialized_of}
-use Rattle.qss_run.specs.DetectorUpdates.{AreSettledAlong, touched_of, touched_by}
+use Rattle.qss_run.proofs.Common
+use Common.{ℕ, ℤ, ◌++◌, ◌+◌, ◌∙◌, ◌≡◌, ap, AreSettledAlong, arith, Conditions, get_or, List, Option}
+use Common.{pos, refl, reinitialized_of, Row, subst, sym, take, take_all, touched_by, touched_of}
 use Rattle.qss_run.proofs.OwnConditions.{none_along, along_more, still_settles}
 use Rattle.qss_run.proofs.Reinitialized.{reinitialized_at, reinitialized_same, reinitialized_more}
 use Rattle.qss_run.proofs.Settling.{touched_more}
 use Rattle.qss_run.proofs.run_conditions.Conditions.settle_reinitialized_detectors.Goals.{then-is_handler_reinitialization}
 use Rattle.qss_run.proofs.run_conditions.Conditions.settle_reinitialized_detectors.Goals.{else-is_handler_reinitialization}
+use Rattle.qss_machine.specs.declared.machine_parts.RowKind.TheVariants as kind
 use Rattle.qss_run.proofs.run_conditions.Conditions.settle_reinitialized_detectors.Goals as goal
 
 no_row : Row

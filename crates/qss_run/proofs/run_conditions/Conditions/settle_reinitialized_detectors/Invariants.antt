@@ -1,6 +1,4 @@
-use Rattle.std.proofs.Common.{take}
-use Rattle.qss_events.specs.HandlerRows.{reinitialized_of}
-use Rattle.qss_run.specs.DetectorUpdates.{AreSettledAlong, touched_by}
+use Rattle.qss_run.proofs.Common.{AreSettledAlong, reinitialized_of, take, touched_by}
 use Rattle.qss_run.proofs.run_conditions.Conditions.settle_reinitialized_detectors.Given as goal
 
 -- the conditions that the states of the rows so far touch are settled

@@ -1,8 +1,7 @@
 -- The conditions that one more variable touches are settled.
-use Rattle.std.proofs.Common.{ℕ, List, get_or, take, subst, refl}
-use Rattle.std.proofs.lemmas.List.{take_all}
-use Rattle.qss_run.specs.DetectorUpdates.{AreSettledAlong, touched_of, touched_by}
-use Rattle.qss_machine.proofs.Among.{lists_more}
+use Rattle.qss_run.proofs.Common
+use Common.{ℕ, AreSettledAlong, get_or, List, lists_more, refl, subst, take, take_all, touched_by}
+use Common.{touched_of}
 use Rattle.qss_run.proofs.OwnConditions.{none_along, along_more, still_settles}
 use Rattle.qss_run.proofs.run_conditions.Conditions.settle_touched_detectors.Goals as goal
 

@@ -1,5 +1,4 @@
-use Rattle.std.proofs.Common.{take}
-use Rattle.qss_run.specs.DetectorUpdates.{AreSettledAlong, touched_by}
+use Rattle.qss_run.proofs.Common.{AreSettledAlong, take, touched_by}
 use Rattle.qss_run.proofs.run_conditions.Conditions.settle_touched_detectors.Given as goal
 
 -- the conditions that the variables so far touch are settled

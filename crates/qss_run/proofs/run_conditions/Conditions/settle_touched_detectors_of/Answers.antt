@@ -1,12 +1,9 @@
 -- The conditions that a variable touches are settled.
-use Rattle.std.proofs.Common.{ℕ, ◌<◌, ◌+◌, List, length, refl, sym, ◌∙◌, subst, arith}
-use Rattle.std.specs.Prelude.{All}
-use Rattle.qss_machine.specs.Handlers.{conditions}
-use Rattle.qss_machine.specs.Machines.{state_count, discrete_count}
-use Rattle.qss_machine.specs.Readers.{reading_rows, reading_conditions}
-use Rattle.qss_run.specs.DetectorUpdates.{AreSettledAlong, readers_of}
-use Rattle.qss_machine.proofs.KeptReaders.{rows_many, rows_kept, rows_below, conditions_many}
-use Rattle.qss_machine.proofs.KeptReaders.{conditions_kept, conditions_below}
+use Rattle.qss_run.proofs.Common
+use Common.{ℕ, ◌+◌, ◌<◌, ◌∙◌, All, AreSettledAlong, arith, conditions, conditions_below}
+use Common.{conditions_kept, conditions_many, discrete_count, length, List, readers_of}
+use Common.{reading_conditions, reading_rows, refl, rows_below, rows_kept, rows_many, state_count}
+use Common.{subst, sym}
 use Rattle.qss_run.proofs.OwnConditions.{along_more, still_settles}
 use Rattle.qss_run.proofs.run_conditions.Conditions.settle_touched_detectors_of.Goals as goal
 

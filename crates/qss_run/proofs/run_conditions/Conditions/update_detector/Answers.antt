@@ -1,25 +1,12 @@
 -- One detector goes on.
-use Rattle.std.proofs.Common.{◌≡◌, ◌+◌, ◌<◌, ℕ, ◌∷◌, [], length, get_or, set, refl, sym, ◌∙◌, ap}
-use Rattle.std.proofs.Common.{subst, arith}
-use Rattle.std.proofs.lemmas.Int.{to_z-of_z}
-use Rattle.std.proofs.lemmas.List.{get_or_default, get_or-set_same, length-set, with_items_is}
-use Rattle.std.proofs.lemmas.List.Elements.{All-nil, All-cons}
-use Rattle.std.specs.Int.RustNames.{FitsSigned}
-use Rattle.std.specs.Prelude.{All}
-use Rattle.std.specs.Vec.{with_items}
-use Rattle.qss_machine.specs.declared.machine_parts.Condition.{Condition}
-use Rattle.qss_machine.specs.Machines.{state_count, speed_of}
-use Rattle.qss_cross.specs.Crossing.{DetectorView}
-use Rattle.qss_sched.specs.Ranks.{due_at}
-use Rattle.qss_run.specs.declared.run_conditions.Conditions.{Conditions}
-use Rattle.qss_run.specs.ConditionPlaces.{detector_at}
-use Rattle.qss_events.specs.Schedules.{condition_at, no_detector}
-use Rattle.qss_run.specs.SpeedUpdates.{GoesOn, HasSpeed, AreSpeedsUpdated}
+use Rattle.qss_run.proofs.Common
+use Common.{[], ℕ, ◌+◌, ◌<◌, ◌∙◌, ◌∷◌, ◌≡◌, All, All-cons, All-nil, ap, AreSpeedsUpdated, arith}
+use Common.{Condition, condition_at, Conditions, conditions_few, detector_at, DetectorView, due_at}
+use Common.{FitsSigned, get_or, get_or-set_same, get_or_default, GoesOn, HasSpeed, length}
+use Common.{length-set, no_detector, of_z, refl, set, speed_of, state_count, subst, sym, to_z}
+use Common.{to_z-of_z, w128, with_items, with_items_is}
 use Rattle.qss_run.proofs.Speeds.{going_on_at}
-use Rattle.qss_hand.proofs.Turns.{conditions_few}
 use Rattle.qss_run.proofs.run_conditions.Conditions.update_detector.Goals as goal
-use mir.Syntax.{w128}
-use mir.Val.{to_z, of_z}
 
 pub overflow_cast-entry-2 : goal.overflow_cast-entry-2
 overflow_cast-entry-2 c =

@@ -1,7 +1,6 @@
 -- One more condition has its speed.
-use Rattle.std.proofs.Common.{ℕ, List, ◌∷◌, [], get_or, take, subst, refl}
-use Rattle.std.proofs.lemmas.List.{take_more, take_all}
-use Rattle.qss_run.specs.SpeedUpdates.{AreDetectorsUpdated}
+use Rattle.qss_run.proofs.Common
+use Common.{[], ℕ, ◌∷◌, AreDetectorsUpdated, get_or, List, refl, subst, take, take_all, take_more}
 use Rattle.qss_run.proofs.OwnConditions.{still_goes, rewatched_more}
 use Rattle.qss_run.proofs.run_conditions.Conditions.update_detectors_at.Goals as goal
 

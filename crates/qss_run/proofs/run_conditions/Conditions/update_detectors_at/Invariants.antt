@@ -1,5 +1,4 @@
-use Rattle.std.proofs.Common.{take}
-use Rattle.qss_run.specs.SpeedUpdates.{AreDetectorsUpdated}
+use Rattle.qss_run.proofs.Common.{AreDetectorsUpdated, take}
 use Rattle.qss_run.proofs.run_conditions.Conditions.update_detectors_at.Given as goal
 
 -- the conditions so far have their speeds

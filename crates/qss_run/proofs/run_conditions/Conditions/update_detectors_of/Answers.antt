@@ -1,7 +1,6 @@
 -- Where there are no conditions there is nothing to do.
-use Rattle.std.proofs.Common.{◌≡◌, sym, ◌∙◌, arith, refl}
+use Rattle.qss_run.proofs.Common.{◌∙◌, ◌≡◌, arith, refl, sym, vec_len}
 use Rattle.std.proofs.lemmas.Bool.{eqb-true}
-use Rattle.std.specs.Prelude.{vec_len}
 use Rattle.qss_run.proofs.run_conditions.Conditions.update_detectors_of.Goals as goal
 
 pub returns-then-is_empty : goal.returns-then-is_empty

@@ -1,13 +1,8 @@
 -- The conditions that read a state whose row reads one more moved state have their speeds.
-use Rattle.std.proofs.Common.{◌≡◌, ◌<◌, ℕ, List, get_or, take, flat_map, sym, ◌∙◌, ap, subst, arith}
-use Rattle.std.proofs.lemmas.List.{take_all}
-use Rattle.std.specs.Prelude.{All}
-use Rattle.qss_machine.specs.Machines.{state_count}
-use Rattle.qss_machine.specs.Readers.{reading_rows}
-use Rattle.qss_run.specs.DetectorUpdates.{readers_of}
-use Rattle.qss_run.specs.SpeedUpdates.{HasSpeed}
-use Rattle.qss_machine.proofs.Among.{lists_more}
-use Rattle.qss_machine.proofs.KeptReaders.{rows_many, rows_kept, rows_below}
+use Rattle.qss_run.proofs.Common
+use Common.{ℕ, ◌<◌, ◌∙◌, ◌≡◌, All, ap, arith, flat_map, get_or, HasSpeed, List, lists_more}
+use Common.{readers_of, reading_rows, rows_below, rows_kept, rows_many, state_count, subst, sym}
+use Common.{take, take_all}
 use Rattle.qss_run.proofs.OwnConditions.{still_goes, rewatched_more}
 use Rattle.qss_run.proofs.Speeds.{watched_again}
 use Rattle.qss_run.proofs.run_conditions.Conditions.update_detectors_of_readers.Goals as goal

@@ -1,7 +1,4 @@
-use Rattle.std.proofs.Common.{take, flat_map}
-use Rattle.qss_machine.specs.Readers.{reading_rows}
-use Rattle.qss_run.specs.DetectorUpdates.{readers_of}
-use Rattle.qss_run.specs.SpeedUpdates.{AreDetectorsUpdated}
+use Rattle.qss_run.proofs.Common.{AreDetectorsUpdated, flat_map, readers_of, reading_rows, take}
 use Rattle.qss_run.proofs.run_conditions.Conditions.update_detectors_of_readers.Given as goal
 
 -- the conditions that read a state whose row reads one of the moved states so far have their speeds

@@ -1,13 +1,8 @@
 -- The conditions that read one more state have their speeds.
-use Rattle.std.proofs.Common.{ℕ, List, ◌<◌, length, get_or, take, sym, ◌∙◌, subst, arith}
-use Rattle.std.proofs.lemmas.List.{take_all}
-use Rattle.std.specs.Prelude.{All}
-use Rattle.qss_machine.specs.Handlers.{conditions}
-use Rattle.qss_machine.specs.Readers.{reading_conditions}
-use Rattle.qss_run.specs.DetectorUpdates.{readers_of}
-use Rattle.qss_run.specs.SpeedUpdates.{AreDetectorsUpdated}
-use Rattle.qss_machine.proofs.Among.{lists_more}
-use Rattle.qss_machine.proofs.KeptReaders.{conditions_many, conditions_kept, conditions_below}
+use Rattle.qss_run.proofs.Common
+use Common.{ℕ, ◌<◌, ◌∙◌, All, AreDetectorsUpdated, arith, conditions, conditions_below}
+use Common.{conditions_kept, conditions_many, get_or, length, List, lists_more, readers_of}
+use Common.{reading_conditions, subst, sym, take, take_all}
 use Rattle.qss_run.proofs.OwnConditions.{still_goes, rewatched_more}
 use Rattle.qss_run.proofs.run_conditions.Conditions.update_detectors_of_states.Goals as goal
 

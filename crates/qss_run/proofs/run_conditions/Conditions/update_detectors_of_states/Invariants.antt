@@ -1,6 +1,4 @@
-use Rattle.std.proofs.Common.{take}
-use Rattle.qss_run.specs.DetectorUpdates.{readers_of}
-use Rattle.qss_run.specs.SpeedUpdates.{AreDetectorsUpdated}
+use Rattle.qss_run.proofs.Common.{AreDetectorsUpdated, readers_of, take}
 use Rattle.qss_run.proofs.run_conditions.Conditions.update_detectors_of_states.Given as goal
 
 -- the conditions that read the states so far have their speeds

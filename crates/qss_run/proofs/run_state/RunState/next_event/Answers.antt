@@ -1,17 +1,10 @@
 -- Under a rule with a name the rows and the touches of a call are the first of those that were to come.
-use Rattle.std.proofs.Common.{◌≡◌, ℕ, ◌-◌, ◌++◌, sym, ◌∙◌, ap, subst, arith}
-use Rattle.std.specs.Prelude.{Option, Some, None}
-use Rattle.qss_machine.specs.declared.compiled_machine.Machine.{Machine}
-use Rattle.qss_quant.specs.LevelRules.{level_by}
-use Rattle.qss_events.specs.declared.event_outcome.Outcome.{Outcome}
-use Rattle.qss_run.specs.declared.run_start.Store.{Store}
-use Rattle.qss_events.specs.AllowedLevels.{IsAllowedLevel}
-use Rattle.qss_run.specs.Stores.{snapshot_of}
-use Rattle.qss_events.specs.RunViews.{RunView}
+use Rattle.qss_run.proofs.Common
+use Common.{ℕ, ◌++◌, ◌-◌, ◌∙◌, ◌≡◌, ap, arith, IsAllowedLevel, IsNext, level_by, Machine}
+use Common.{MovesTouched, None, Option, Outcome, rows_left, RunView, snapshot_of, Some, Store}
+use Common.{subst, sym, touches_left}
 use Rattle.qss_run.specs.SimViews.{view_of}
-use Rattle.qss_events.specs.Events.{IsNext, rows_left}
 use Rattle.qss_events.specs.Outcomes.{tick_of, end_of}
-use Rattle.qss_run.specs.TouchCounts.{MovesTouched, touches_left}
 use Rattle.qss_events.proofs.NamedRows.{named_rows}
 use Rattle.qss_run.proofs.NamedTouches.{named_touches}
 use Rattle.qss_run.proofs.run_state.RunState.next_event.Goals as goal

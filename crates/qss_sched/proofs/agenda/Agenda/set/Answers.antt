@@ -1,4 +1,4 @@
-use Rattle.std.proofs.Common.{length, ap, arith}
+use Rattle.qss_sched.proofs.Common.{ap, arith, length}
 use Rattle.qss_sched.proofs.Agendas.{length_joined}
 use Rattle.qss_sched.proofs.agenda.Agenda.set.Goals as goal
 

@@ -1,5 +1,5 @@
 -- Nothing is due, near or far.
-use Rattle.std.proofs.Common.{sym, ◌∙◌}
+use Rattle.qss_sched.proofs.Common.{◌∙◌, sym}
 use Rattle.qss_sched.proofs.Agendas.{length_joined, start_first}
 use Rattle.qss_sched.proofs.agenda.Agenda.with_places.Goals as goal
 

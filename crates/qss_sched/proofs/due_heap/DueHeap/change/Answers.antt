@@ -1,9 +1,8 @@
 -- The place's rank in the heap is that of its new tick.
-use Rattle.std.proofs.Common.{◌≡◌, ◌-◌, ◌/◌, ◌^◌, ◌<◌, ◌∙◌, length, ap, arith}
-use Rattle.std.proofs.lemmas.List.{take_at, length-set}
-use Rattle.std.proofs.lemmas.Grind.{get_or_default_zero}
-use Rattle.std.specs.Prelude.{min, slice_index}
-use Rattle.qss_sched.specs.Heaps.{IsDueHeap}
+use Rattle.qss_sched.proofs.Common
+use Common.{◌-◌, ◌/◌, ◌<◌, ◌^◌, ◌∙◌, ◌≡◌, ap, arith, get_or_default_zero, IsDueHeap, length, min}
+use Common.{slice_index, take_at}
+use Rattle.std.proofs.lemmas.List.{length-set}
 use Rattle.qss_sched.proofs.DueHeaps.{heap_after}
 use Rattle.qss_sched.proofs.Least.{next_of_first}
 use Rattle.qss_sched.proofs.due_heap.DueHeap.change.Goals as goal

@@ -1,10 +1,10 @@
 -- The first position holds the rank of the first place, which determines its tick.
-use Rattle.std.proofs.Common.{◌≡◌, ◌<◌, length, refl, ◌∙◌, arith}
-use Rattle.std.proofs.lemmas.Grind.{common_steps, get_or_default_zero}
-use Rattle.std.specs.Prelude.{slice_index}
+use Rattle.qss_sched.proofs.Common
+use Common.{◌<◌, ◌∙◌, ◌≡◌, arith, common_steps, get_or_default_zero, length, refl, slice_index}
 use Rattle.qss_sched.proofs.Least.{first_at_tick, none_at_tick, none_before_first}
+use Rattle.qss_sched.proofs.due_heap.DueHeap.first_at.Goals.{else-is_due_rank_at-via-then-is_due_rank_at+else-place-places}
+use Rattle.qss_sched.proofs.due_heap.DueHeap.first_at.Goals.{else-is_due_rank_at-via-else-is_due_rank_at}
 use Rattle.qss_sched.proofs.due_heap.DueHeap.first_at.Goals as goal
-use Rattle.qss_sched.proofs.due_heap.DueHeap.first_at.Goals.{else-is_due_rank_at-via-then-is_due_rank_at+else-place-places, else-is_due_rank_at-via-else-is_due_rank_at}
 
 pub returns-then-place-places : goal.returns-then-place-places
 returns-then-place-places c =

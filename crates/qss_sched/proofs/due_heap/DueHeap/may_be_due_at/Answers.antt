@@ -1,5 +1,4 @@
-use Rattle.std.proofs.Common.{◌-◌, ◌^◌, arith}
-use Rattle.std.proofs.lemmas.Bool.{eqb-false}
+use Rattle.qss_sched.proofs.Common.{◌-◌, ◌^◌, arith, eqb-false}
 use Rattle.qss_sched.proofs.Least.{none_at_other}
 use Rattle.qss_sched.proofs.due_heap.DueHeap.may_be_due_at.Goals as goal
 

@@ -1,4 +1,4 @@
-use Rattle.std.proofs.Common.{◌-◌, ◌^◌, arith}
+use Rattle.qss_sched.proofs.Common.{◌-◌, ◌^◌, arith}
 use Rattle.qss_sched.proofs.Least.{next_up_to}
 use Rattle.qss_sched.proofs.due_heap.DueHeap.next_tick.Goals as goal
 

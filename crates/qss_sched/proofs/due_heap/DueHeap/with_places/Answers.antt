@@ -1,6 +1,5 @@
 -- At the start each rank is at its place's number.
-use Rattle.std.proofs.Common.{◌-◌, ◌^◌, arith}
-use Rattle.std.proofs.lemmas.Grind.{common_steps}
+use Rattle.qss_sched.proofs.Common.{◌-◌, ◌^◌, arith, common_steps}
 use Rattle.qss_sched.proofs.Least.{next_of_none}
 use Rattle.qss_sched.proofs.DueHeaps.{heap_at_start}
 use Rattle.qss_sched.proofs.due_heap.DueHeap.with_places.Goals as goal

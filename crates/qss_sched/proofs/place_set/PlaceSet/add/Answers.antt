@@ -1,12 +1,10 @@
 -- The place is marked, and listed last.
-use Rattle.std.proofs.Common.{◌≡◌, ◌<◌, ◌++◌, ◌∷◌, [], ℕ, true, false, List, length, set, sym, ◌∙◌, ap, subst, arith}
-use Rattle.std.proofs.lemmas.List.{length-set, with_items_is}
-use Rattle.std.specs.Prelude.{Bool, vec_capacity}
-use Rattle.std.specs.Vec.{with_items}
-use Rattle.mu_num.specs.ListedPlaces.{is_listed}
-use Rattle.qss_sched.specs.PlaceSets.{PlaceList, IsPlaceSet}
+use Rattle.qss_sched.proofs.Common
+use Common.{[], ℕ, ◌++◌, ◌<◌, ◌∙◌, ◌∷◌, ◌≡◌, ap, arith, Bool, false, is_listed, IsPlaceSet, length}
+use Common.{List, PlaceList, same_length, slice_set as set, subst, sym, true, vec_capacity}
+use Common.{with_items, with_items_is}
+use Rattle.std.proofs.lemmas.List.{length-set}
 use Rattle.qss_sched.proofs.PlaceSets.{has_room, added, same_set}
-use Rattle.mu_num.proofs.InPlace.{same_length}
 use Rattle.qss_sched.proofs.place_set.PlaceSet.add.Goals as goal
 
 pub bounds-among-place : goal.bounds-among-place

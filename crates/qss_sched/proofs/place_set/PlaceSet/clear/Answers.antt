@@ -1,12 +1,8 @@
 -- The places of the set are not marked any more, and the others were not.
-use Rattle.std.proofs.Common.{◌≡◌, ◌<◌, false, List, ℕ, length, sym, ◌∙◌, ap, subst}
-use Rattle.std.proofs.lemmas.List.{with_items_is}
-use Rattle.std.specs.Prelude.{All, Bool, vec_capacity}
-use Rattle.std.specs.Vec.{with_items}
-use Rattle.mu_num.specs.Writes.{IsWritten}
-use Rattle.qss_sched.specs.PlaceSets.{PlaceList, IsPlaceSet}
+use Rattle.qss_sched.proofs.Common
+use Common.{ℕ, ◌<◌, ◌∙◌, ◌≡◌, All, ap, Bool, false, IsPlaceSet, IsWritten, length, List, PlaceList}
+use Common.{same_length, subst, sym, vec_capacity, with_items, with_items_is}
 use Rattle.qss_sched.proofs.PlaceSets.{below_count, emptied, same_set}
-use Rattle.mu_num.proofs.InPlace.{same_length}
 use Rattle.qss_sched.proofs.place_set.PlaceSet.clear.Goals as goal
 
 pub unmark-requires : goal.unmark-requires

@@ -1,7 +1,5 @@
 -- A place is in the set where it is marked.
-use Rattle.std.proofs.Common.{length, sym, ◌∙◌, ap, arith}
-use Rattle.mu_num.specs.ListedPlaces.{flag_at, is_listed}
-use Rattle.qss_sched.specs.PlaceSets.{PlaceList}
+use Rattle.qss_sched.proofs.Common.{◌∙◌, ap, arith, flag_at, is_listed, length, PlaceList, sym}
 use Rattle.qss_sched.proofs.place_set.PlaceSet.contains.Goals as goal
 
 pub bounds-among-place : goal.bounds-among-place

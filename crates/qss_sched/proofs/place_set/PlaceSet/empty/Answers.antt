@@ -1,8 +1,7 @@
 -- No place is listed, and none is marked.
-use Rattle.std.proofs.Common.{ℕ, false, List, length, replicate, sym, ◌∙◌, ap, subst, arith}
-use Rattle.std.proofs.lemmas.List.{length-replicate}
-use Rattle.std.specs.Prelude.{Bool, vec_capacity}
-use Rattle.qss_sched.specs.PlaceSets.{IsPlaceSet}
+use Rattle.qss_sched.proofs.Common
+use Common.{ℕ, ◌∙◌, ap, arith, Bool, false, IsPlaceSet, length, length-replicate, List, replicate}
+use Common.{subst, sym, vec_capacity}
 use Rattle.qss_sched.proofs.PlaceSets.{empty_set, same_set}
 use Rattle.qss_sched.proofs.place_set.PlaceSet.empty.Goals as goal
 

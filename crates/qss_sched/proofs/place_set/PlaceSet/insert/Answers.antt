@@ -1,7 +1,5 @@
 -- The place is already in the set, or it is added.
-use Rattle.std.proofs.Common.{sym, ◌∙◌, ap}
-use Rattle.mu_num.specs.ListedPlaces.{is_listed}
-use Rattle.qss_sched.specs.PlaceSets.{PlaceList}
+use Rattle.qss_sched.proofs.Common.{◌∙◌, ap, is_listed, PlaceList, sym}
 use Rattle.qss_sched.proofs.PlaceSets.{there_already, came_last}
 use Rattle.qss_sched.proofs.place_set.PlaceSet.insert.Goals as goal
 

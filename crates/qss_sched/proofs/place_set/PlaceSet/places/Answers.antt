@@ -1,7 +1,5 @@
 -- The listed places are the marked ones, which are below the count.
-use Rattle.std.proofs.Common.{◌<◌, List, ℕ, sym, ◌∙◌, ap, subst}
-use Rattle.std.specs.Prelude.{All, vec_capacity}
-use Rattle.qss_sched.specs.PlaceSets.{PlaceList}
+use Rattle.qss_sched.proofs.Common.{ℕ, ◌<◌, ◌∙◌, All, ap, List, PlaceList, subst, sym, vec_capacity}
 use Rattle.qss_sched.proofs.PlaceSets.{below_count}
 use Rattle.qss_sched.proofs.place_set.PlaceSet.places.Goals as goal
 

@@ -1,6 +1,5 @@
 -- The place moves to the slot of its new tick.
-use Rattle.std.proofs.Common.{◌≡◌, ◌∙◌, length, refl}
-use Rattle.std.proofs.lemmas.List.{take_at}
+use Rattle.qss_sched.proofs.Common.{◌∙◌, ◌≡◌, length, refl, take_at}
 use Rattle.qss_sched.proofs.wheel.Wheel.accept.Goals as goal
 
 pub invariant_of-self : goal.invariant_of-self

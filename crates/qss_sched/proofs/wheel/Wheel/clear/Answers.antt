@@ -1,6 +1,5 @@
 -- The place leaves the slot of its tick.
-use Rattle.std.proofs.Common.{◌≡◌, ◌∙◌, length}
-use Rattle.std.proofs.lemmas.List.{take_at}
+use Rattle.qss_sched.proofs.Common.{◌∙◌, ◌≡◌, length, take_at}
 use Rattle.qss_sched.proofs.wheel.Wheel.clear.Goals as goal
 
 pub invariant_of-self : goal.invariant_of-self

@@ -1,5 +1,5 @@
 -- The least marked place at the next slot is the first.
-use Rattle.std.proofs.Common.{◌+◌}
+use Rattle.qss_sched.proofs.Common.{◌+◌}
 use Rattle.qss_sched.proofs.Wheels.{none_due, first_due}
 use Rattle.qss_sched.proofs.wheel.Wheel.first.Goals as goal
 

@@ -1,7 +1,5 @@
 -- Where no place is at the slot of the tick nothing is due then.
-use Rattle.std.proofs.Common.{◌+◌, subst, sym, arith}
-use Rattle.qss_sched.specs.Agendas.{AreTaken}
-use Rattle.qss_sched.specs.Wheels.{IsWheel}
+use Rattle.qss_sched.proofs.Common.{◌+◌, AreTaken, arith, IsWheel, subst, sym}
 use Rattle.qss_sched.proofs.Takes.{nothing_taken}
 use Rattle.qss_sched.proofs.Wheels.{none_at_base}
 use Rattle.qss_sched.proofs.wheel.Wheel.take_all.Goals as goal

@@ -1,6 +1,5 @@
 -- The place's word, its group and its slot are marked.
-use Rattle.std.proofs.Common.{◌≡◌, ◌∙◌, length}
-use Rattle.std.proofs.lemmas.List.{take_at}
+use Rattle.qss_sched.proofs.Common.{◌∙◌, ◌≡◌, length, take_at}
 use Rattle.qss_sched.proofs.Places.{entered, others_kept}
 use Rattle.qss_sched.proofs.wheel_marks.Marks.enter.Goals as goal
 

@@ -1,6 +1,5 @@
-use Rattle.std.proofs.Common.{◌≡◌, ◌<◌, length, ◌∙◌, arith}
-use Rattle.std.proofs.lemmas.Grind.{common_steps, get_or_default_zero}
-use Rattle.std.specs.Prelude.{slice_index}
+use Rattle.qss_sched.proofs.Common
+use Common.{◌<◌, ◌∙◌, ◌≡◌, arith, common_steps, get_or_default_zero, length, slice_index}
 use Rattle.qss_sched.proofs.Words.{group_found}
 use Rattle.qss_sched.proofs.wheel_marks.Marks.group.Goals as goal
 

@@ -1,6 +1,5 @@
 -- The group's word and its slot may have others.
-use Rattle.std.proofs.Common.{◌≡◌, ◌∙◌, length, refl}
-use Rattle.std.proofs.lemmas.List.{take_at}
+use Rattle.qss_sched.proofs.Common.{◌∙◌, ◌≡◌, length, refl, take_at}
 use Rattle.qss_sched.proofs.Words.{word_gone, slot_gone}
 use Rattle.qss_sched.proofs.wheel_marks.Marks.keep.Goals as goal
 

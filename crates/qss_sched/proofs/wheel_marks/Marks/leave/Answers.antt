@@ -1,6 +1,5 @@
 -- Either word may have another bit: then the bit that denotes the word stays set.
-use Rattle.std.proofs.Common.{◌≡◌, ◌∙◌, length, refl}
-use Rattle.std.proofs.lemmas.List.{take_at}
+use Rattle.qss_sched.proofs.Common.{◌∙◌, ◌≡◌, length, refl, take_at}
 use Rattle.qss_sched.proofs.Places.{left_word, left_group, left_slot, others_kept}
 use Rattle.qss_sched.proofs.wheel_marks.Marks.leave.Goals as goal
 

@@ -1,6 +1,5 @@
 -- The absolute row sums are maintained from the start only if no bound was found.
-use Rattle.std.proofs.Common.{true, false, length, refl, ◌∙◌, ap}
-use Rattle.qss_states.specs.declared.kept_weights.Weights.{Weights}
+use Rattle.qss_states.proofs.Common.{◌∙◌, ap, false, length, refl, true, Weights}
 use Rattle.qss_states.proofs.Kept.{not_kept, kept_anew}
 use Rattle.qss_states.proofs.kept_weights.Weights.start.Goals as goal
 

@@ -1,7 +1,6 @@
 -- While the moved levels stay within the bound, no row exceeds its limits.
-use Rattle.std.proofs.Common.{◌≡◌, List, length, ℤ, false, true, refl, sym, ◌∙◌, ap, arith}
-use Rattle.qss_states.specs.declared.kept_weights.Weights.{Weights}
-use Rattle.qss_states.specs.SafeBounds.{AreSmall}
+use Rattle.qss_states.proofs.Common
+use Common.{ℤ, ◌∙◌, ◌≡◌, ap, AreSmall, arith, false, length, List, refl, sym, true, Weights}
 use Rattle.qss_states.proofs.Kept.{levels_still, light_up_to, not_kept, kept_anew}
 use Rattle.qss_states.proofs.kept_weights.Weights.update_weights.Goals as goal
 
