@@ -1,7 +1,7 @@
 //! Products, quotients and powers of affine forms. A product has at least one factor without
 //! coefficients, or is a product of states and discrete variables in an equation.
 
-ghost use Rattle.std.specs.Prelude.{◌≡◌, ◌<◌, ◌≤◌, ◌↔◌, ◌+◌, ◌^◌, false, true, IfOk, OnOk, map, IsTrue, All};
+ghost use Rattle.std.specs.Prelude.{◌≡◌, ◌<◌, ◌≤◌, ◌↔◌, ◌+◌, ◌^◌, [], false, true, IfOk, OnOk, map, IsTrue, All};
 ghost use Rattle.mu_affine.specs.Prelude.{nat_cmp, checked};
 ghost use Rattle.mu_affine.specs.Words.{Place, is_nonzero, product_form, checked_form, form_meaning, IsFinished, IsVariable, IsOfStates, IsOfDiscretes, IsConstant, scaled_form, IsCheckedAnswer, scaled, ScalesList, placed, multiply_forms, raise_form, IsAnswer, named, pair_cmp, ChangesAt, IsRising, paired, SetsList, SetsTable, Crosses, beside};
 
@@ -255,36 +255,28 @@ fn multiply_variable_forms(
 pub(crate) fn are_mixed_factors(sizes: Sizes, left: &ExactForm, right: &ExactForm) -> bool
     ensures { IsTrue result ↔ (IsOfStates sizes left.now × IsOfDiscretes sizes right.now) }
 {
-    is_factor_of_states(sizes, left) && is_factor_of_discretes(sizes, right)
+    has_only_entries(left)
+        && has_only_entries(right)
+        && are_entries_of_states(sizes, left.entries.as_slice())
+        && are_entries_of_discretes(sizes, right.entries.as_slice())
 }
 
-// Returns whether a form has only coefficients of states.
-fn is_factor_of_states(sizes: Sizes, form: &ExactForm) -> bool
-    ensures { IsTrue result ↔ IsOfStates sizes form.now }
+// Returns whether a form has neither products nor the time.
+fn has_only_entries(form: &ExactForm) -> bool
+    ensures { IsTrue result ↔ ((form.now.products ≡ []) × (is_nonzero form.now.time ≡ false)) }
 {
-    are_factor_states(sizes, form.entries.as_slice())
-        && form.products.as_slice().is_empty()
-        && is_zero_factor(form.time)
+    form.products.as_slice().is_empty() && is_zero_factor(form.time)
 }
 
 // Returns whether all these entries are of states.
-fn are_factor_states(sizes: Sizes, entries: &[ExactEntry]) -> bool
+fn are_entries_of_states(sizes: Sizes, entries: &[ExactEntry]) -> bool
     ensures { IsTrue result ↔ All (λ e. e.var < sizes.states) entries.now }
 {
     entries.iter().all(|entry| entry.var < sizes.states)
 }
 
-// Returns whether a form has only coefficients of discrete variables.
-fn is_factor_of_discretes(sizes: Sizes, form: &ExactForm) -> bool
-    ensures { IsTrue result ↔ IsOfDiscretes sizes form.now }
-{
-    are_factor_discretes(sizes, form.entries.as_slice())
-        && form.products.as_slice().is_empty()
-        && is_zero_factor(form.time)
-}
-
 // Returns whether all these entries are of discrete variables.
-fn are_factor_discretes(sizes: Sizes, entries: &[ExactEntry]) -> bool
+fn are_entries_of_discretes(sizes: Sizes, entries: &[ExactEntry]) -> bool
     ensures { IsTrue result
         ↔ All (λ e. (sizes.states ≤ e.var) × (e.var < sizes.states + sizes.discretes)) entries.now }
 {

@@ -1,17 +1,8 @@
 //! Unrolls items that occur in loops: equations, clauses, statements and start assignments.
 
 ghost use Rattle.std.specs.Prelude.{◌≡◌, ℕ, [], List, map, Ok, IfOk, IfErr, OnOk};
-ghost use Rattle.mu_tree.specs.ModelTree.{Range};
-ghost use Rattle.mu_unroll.specs.Prelude.{variable_limit};
-ghost use Rattle.mu_unroll.specs.ConstantFolding.{IsSameStep};
-ghost use Rattle.mu_unroll.specs.Environments.{HasSameNames, progress_of};
-ghost use Rattle.mu_unroll.specs.ListUnrolling.{in_order, in_rounds, unless_loop};
-ghost use Rattle.mu_unroll.specs.UnrollFaults.{IsFault};
-ghost use Rattle.mu_unroll.specs.Unrolling.{Progress, Step};
-ghost use Rattle.mu_unroll.specs.VariablePlaces.{ArePlaced};
-ghost use Rattle.mu_unroll.specs.VariableTables.{meant_at};
-ghost use Rattle.mu_unroll.specs.declared.environment.LoopVar.{LoopVar};
-ghost use Rattle.mu_unroll.specs.declared.environment.NameDenotation.{NameDenotation};
+ghost use Rattle.mu_unroll.specs.Prelude.{Range, variable_limit};
+ghost use Rattle.mu_unroll.specs.Words.{IsSameStep, HasSameNames, progress_of, in_order, in_rounds, unless_loop, IsFault, Progress, Step, ArePlaced, meant_at, LoopVar, NameDenotation};
 
 use crate::environment::{Environment, NameDenotation};
 use crate::item_folding::fold_items;

@@ -3,16 +3,8 @@
 
 ghost use Rattle.std.specs.Prelude.{◌≡◌, map, Ok, IfOk, IfErr};
 ghost use Rattle.std.proofs.Common.{ap};
-ghost use Rattle.mu_tree.specs.FlatExpression.{FlatVariable};
-ghost use Rattle.mu_tree.specs.ModelTree.{EachStatement};
-ghost use Rattle.mu_tree.specs.Nests.{Each, statement_item, statement_items_of};
-ghost use Rattle.mu_unroll.specs.Prelude.{variable_limit, expression, reference, flat_variable, statement, statements_of};
-ghost use Rattle.mu_unroll.specs.Environments.{progress_of};
-ghost use Rattle.mu_unroll.specs.ListUnrolling.{loop_in_rounds};
-ghost use Rattle.mu_unroll.specs.UnrollFaults.{IsFault};
-ghost use Rattle.mu_unroll.specs.Unrolling.{one_start, start_at, start_once, unrolled_start, with_start};
-ghost use Rattle.mu_unroll.specs.VariablePlaces.{ArePlaced};
-ghost use Rattle.mu_unroll.specs.VariableTables.{denoted, meant_at};
+ghost use Rattle.mu_unroll.specs.Prelude.{FlatVariable, EachStatement, Each, statement_item, statement_items_of, variable_limit, expression, reference, flat_variable, statement, statements_of};
+ghost use Rattle.mu_unroll.specs.Words.{progress_of, loop_in_rounds, IsFault, one_start, start_at, start_once, unrolled_start, with_start, ArePlaced, denoted, meant_at};
 
 use crate::constant_folding::{fold_constant, fold_reference};
 use crate::environment::{Environment, NameDenotation, ResolvedReference};

@@ -3,13 +3,8 @@
 
 ghost use Rattle.std.specs.Prelude.{◌≡◌, List, map, Ok, IfOk, IfErr, OnOk};
 ghost use Rattle.std.proofs.Common.{ap};
-ghost use Rattle.mu_tree.specs.FlatExpression.{FlatAction, FlatBranchTree, FlatEquationTree};
-ghost use Rattle.mu_tree.specs.ModelTree.{EachClause, EachEquation, EachStatement, clauses_of, equations_of};
-ghost use Rattle.mu_tree.specs.Nests.{Each, clause_item, clause_items_of, equation_item, equation_items_of, statement_item, statement_items_of};
-ghost use Rattle.mu_unroll.specs.ListUnrolling.{loop_in_rounds};
-ghost use Rattle.mu_unroll.specs.Prelude.{variable_limit, expression, reference, flat_action, flat_branch, flat_clause, flat_equation, flat_model, flat_variable, IsFlatModel, target_role, branch, clause, equation, model, statement, statements_of, IsNumbered};
-ghost use Rattle.mu_unroll.specs.Unrolling.{clause_once, equation_once, statement_once};
-ghost use Rattle.mu_unroll.specs.Words.{HasSameNames, progress_of, IsFault, ArePlaced, denoted, meant_at, assign_to, one_action, one_equation, restart_of, one_clause, unrolled, unrolled_branch, unrolled_branches, unrolled_clause, unrolled_equation, unrolled_statement, unrolled_with, listed, IsWellFormed};
+ghost use Rattle.mu_unroll.specs.Prelude.{FlatAction, FlatBranchTree, FlatEquationTree, EachClause, EachEquation, EachStatement, clauses_of, equations_of, Each, clause_item, clause_items_of, equation_item, equation_items_of, statement_item, statement_items_of, variable_limit, expression, reference, flat_action, flat_branch, flat_clause, flat_equation, flat_model, flat_variable, IsFlatModel, target_role, branch, clause, equation, model, statement, statements_of, IsNumbered};
+ghost use Rattle.mu_unroll.specs.Words.{loop_in_rounds, clause_once, equation_once, statement_once, HasSameNames, progress_of, IsFault, ArePlaced, denoted, meant_at, assign_to, one_action, one_equation, restart_of, one_clause, unrolled, unrolled_branch, unrolled_branches, unrolled_clause, unrolled_equation, unrolled_statement, unrolled_with, listed, IsWellFormed};
 
 use crate::constant_folding::{fold_expression, fold_reference};
 use crate::environment::{Environment, NameDenotation};
