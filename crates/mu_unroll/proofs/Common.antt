@@ -21,17 +21,14 @@ pub use Rattle.mu_tree.specs.FlatExpression.{flat_variable, FlatAction, FlatBran
 pub use Rattle.mu_tree.specs.FlatExpression.{FlatEquationTree, FlatExpression, FlatModelTree}
 pub use Rattle.mu_tree.specs.FlatExpression.{FlatScaled, FlatSigned, FlatVariable}
 pub use Rattle.mu_tree.specs.FlatModels.{HasRole, IsFlatClause, IsFlatExpression, IsFlatModel}
-pub use Rattle.mu_tree.specs.ModelTree.{Algebraic, Assign, branch, Branches, BranchTree}
-pub use Rattle.mu_tree.specs.ModelTree.{clause_then, clauses_of, ClauseTree, ClauseTrees}
-pub use Rattle.mu_tree.specs.ModelTree.{Derivative, EachClause, EachEquation, EachStatement}
-pub use Rattle.mu_tree.specs.ModelTree.{equation_then, equations_of, EquationTree, EquationTrees}
-pub use Rattle.mu_tree.specs.ModelTree.{model, ModelTree, no_clauses, no_equations, no_statements}
-pub use Rattle.mu_tree.specs.ModelTree.{Range, range, Restart, statement, statement_then}
-pub use Rattle.mu_tree.specs.ModelTree.{statements_of, StatementTree, StatementTrees}
-pub use Rattle.mu_tree.specs.Nests.{item_size, list_size, range_of, statement_item}
-pub use Rattle.mu_tree.specs.Nests.{statement_items_of}
+pub use Rattle.mu_tree.specs.FlatModels.{target_role}
+pub use Rattle.mu_tree.specs.ModelTree.{branch, BranchTree, clauses_of, ClauseTrees, equations_of}
+pub use Rattle.mu_tree.specs.ModelTree.{EquationTrees, model, ModelTree, Range, range, statement}
+pub use Rattle.mu_tree.specs.ModelTree.{statements_of, StatementTrees}
+pub use Rattle.mu_tree.specs.Nests.{Each, equation_items, item_size, item_then, list_size, NestTree}
+pub use Rattle.mu_tree.specs.Nests.{NestTrees, no_items, One, range_of, statement_items}
 pub use Rattle.mu_tree.specs.declared.flat.FlatRole.{FlatRole}
-pub use Rattle.mu_tree.specs.declared.flat.FlatRole.TheVariants.{Discrete, State}
+pub use Rattle.mu_tree.specs.declared.flat.FlatRole.TheVariants.{Algebraic, Discrete, State}
 pub use Rattle.mu_tree.specs.declared.flat.FlatVar.{FlatVar}
 pub use Rattle.mu_tree.specs.declared.tree.Branch.{Branch}
 pub use Rattle.mu_tree.specs.declared.tree.Statement.{Statement}
@@ -53,11 +50,12 @@ pub use Rattle.mu_unroll.specs.Listing.{listed}
 pub use Rattle.mu_unroll.specs.LoopBounds.{AreRoundsBounded, bounds_of}
 pub use Rattle.mu_unroll.specs.Nexts.{next_number}
 pub use Rattle.mu_unroll.specs.UnrollFaults.{IsFault}
-pub use Rattle.mu_unroll.specs.Unrolling.{assign_to, declared_in, equation_for, inside, looped}
-pub use Rattle.mu_unroll.specs.Unrolling.{one_start, Progress, progress, repeated, restart_of}
-pub use Rattle.mu_unroll.specs.Unrolling.{rounds_from, start_at, Step, unrolled, unrolled_branch}
-pub use Rattle.mu_unroll.specs.Unrolling.{unrolled_branches, unrolled_clause, unrolled_clauses}
-pub use Rattle.mu_unroll.specs.Unrolling.{unrolled_equation, unrolled_equations, unrolled_start}
+pub use Rattle.mu_unroll.specs.Unrolling.{assign_to, clause_once, declared_in, equation_for}
+pub use Rattle.mu_unroll.specs.Unrolling.{equation_once, inside, looped, one_statement, Progress}
+pub use Rattle.mu_unroll.specs.Unrolling.{progress, repeated, restart_of, rounds_from, start_at}
+pub use Rattle.mu_unroll.specs.Unrolling.{start_once, statement_once, Step, unrolled}
+pub use Rattle.mu_unroll.specs.Unrolling.{unrolled_branch, unrolled_branches, unrolled_clauses}
+pub use Rattle.mu_unroll.specs.Unrolling.{unrolled_equations, unrolled_item, unrolled_items}
 pub use Rattle.mu_unroll.specs.Unrolling.{unrolled_starts, unrolled_statement, unrolled_statements}
 pub use Rattle.mu_unroll.specs.Unrolling.{unrolled_with, with_maybe, with_more, with_start}
 pub use Rattle.mu_unroll.specs.VariablePlaces.{ArePlaced, constant_of, count_of_kind, element_name}
@@ -65,7 +63,7 @@ pub use Rattle.mu_unroll.specs.VariablePlaces.{elements_from, first_meant, first
 pub use Rattle.mu_unroll.specs.VariablePlaces.{kind_of, loop_value, meant_after, meant_in, scalar}
 pub use Rattle.mu_unroll.specs.VariablePlaces.{scalar_count, scalars_in, scalars_of_kind, width}
 pub use Rattle.mu_unroll.specs.VariableTables.{denoted, meant_at}
-pub use Rattle.mu_unroll.specs.WellFormed.{EquationHas, EquationsHave, HasSmallPowers, IsWellFormed}
+pub use Rattle.mu_unroll.specs.WellFormed.{HasSmallPowers, IsWellFormed, ItemHas, ItemsHave}
 pub use Rattle.mu_unroll.specs.declared.environment.Environment.{Environment}
 pub use Rattle.mu_unroll.specs.declared.environment.LoopVar.{LoopVar}
 pub use Rattle.mu_unroll.specs.declared.environment.NameDenotation.{NameDenotation}

@@ -1,24 +1,23 @@
 -- The result of unrolling satisfies the invariant of flat models.
 use Rattle.mu_unroll.proofs.Common
-use Common.{[], ℕ, ⊤, ◌+◌, ◌^◌, ◌∙◌, ◌∷◌, ◌≡◌, ◌≤◌, Algebraic, ap, arith, Assign, bind_result, Bool}
-use Common.{clauses_of, constant_value, constants_in, count_of_kind, Counts, declared_in}
-use Common.{Derivative, EachEquation, EachStatement, equation_then, EquationHas, equations_of}
-use Common.{EquationsHave, EquationTree, EquationTrees, Err, Expression, false, FlatBranchTree}
-use Common.{FlatExpression, FlatModelTree, FlatRole, FlatVariable, found, Fraction, HasSmallPowers}
-use Common.{IfOk, if◌then◌else◌, inside, IsFlatClause, IsFlatExpression, IsFlatModel, IsNumbered}
-use Common.{IsWellFormed, Known, length, length-map, List, LoopVar, meant_in, ModelTree}
-use Common.{NameDenotation, nat_lt, nat_tests, no_counts, no_equations, no_statements, Ok}
-use Common.{one_start, Progress, progress, Reference, refl, ResolvedReference, Restart, Result}
-use Common.{scalar_count, scalars_in, start_at, statement_then, statements_of, StatementTree}
-use Common.{StatementTrees, subst, suc, sym, TooMany, true, unrolled, unrolled_clauses}
-use Common.{unrolled_equations, unrolled_start, unrolled_starts, unrolled_with, UnrollErr}
-use Common.{with_item, with_start, zero}
+use Common.{[], ℕ, ⊤, ◌+◌, ◌^◌, ◌∙◌, ◌∷◌, ◌≡◌, ◌≤◌, ap, arith, bind_result, Bool, clauses_of}
+use Common.{constant_value, constants_in, count_of_kind, Counts, declared_in, Each, equation_items}
+use Common.{equations_of, Err, Expression, false, FlatBranchTree, FlatExpression, FlatModelTree}
+use Common.{FlatRole, FlatVariable, found, Fraction, HasSmallPowers, IfOk, if◌then◌else◌}
+use Common.{IsFlatClause, IsFlatExpression, IsFlatModel, IsNumbered, IsWellFormed, item_then}
+use Common.{ItemHas, ItemsHave, Known, length, length-map, List, LoopVar, meant_in, ModelTree}
+use Common.{NameDenotation, nat_lt, nat_tests, NestTree, NestTrees, no_counts, no_items, Ok, One}
+use Common.{Progress, progress, Reference, refl, ResolvedReference, Result, scalar_count}
+use Common.{scalars_in, start_at, start_once, statement_items, statements_of, StatementTrees, subst}
+use Common.{suc, sym, TooMany, true, unrolled, unrolled_clauses, unrolled_equations}
+use Common.{unrolled_starts, unrolled_with, UnrollErr, with_item, with_start, zero}
+use Rattle.mu_unroll.specs.Unrolling.{one_start}
 use Rattle.std.proofs.lemmas.List.Elements.{All-contains}
 use Rattle.mu_unroll.proofs.FlatParts.{AreNamed, expression_flat, expression_named}
 use Rattle.mu_unroll.proofs.Keeping.{IsCounted, IsOfCounts, IsEquationOf, Kept, KeptClauses}
 use Rattle.mu_unroll.proofs.Keeping.{KeptEquations, clause_items, clause_nodes, clauses_kept}
 use Rattle.mu_unroll.proofs.Keeping.{equation_nodes, equations_kept, item_counted, kept_none}
-use Rattle.mu_unroll.proofs.Keeping.{loop_keeps, sum_ones}
+use Rattle.mu_unroll.proofs.Keeping.{items_keep, sum_ones}
 use Rattle.mu_unroll.proofs.Numbering.{AllPoint, all_point, all_roles, in_order, length_in_kinds}
 use Rattle.mu_unroll.proofs.Numbering.{roles_of}
 use Rattle.mu_unroll.proofs.Stepping.{any_answer, each_then}
@@ -38,6 +37,16 @@ with_start_roles vars (found_as.Numbered flat_role.Algebraic v) a = refl
 with_start_roles vars (found_as.Value b) a = refl
 with_start_roles vars found_as.Unfound a = refl
 
+-- of each item something holds
+mutual
+  any_item : {L : Type 0} (x : NestTree L) → ItemHas (λ _. ⊤) x
+  any_item {L} (One l) = tt
+  any_item {L} (Each range body) = any_items body
+
+  any_items : {L : Type 0} (xs : NestTrees L) → ItemsHave (λ _. ⊤) xs
+  any_items {L} no_items = tt
+  any_items {L} (item_then x xs) = (any_item x, any_items xs)
+
 -- the variables have these roles, and the counts are within the limits
 record KeptStarts (rs : List FlatRole) (p : Progress FlatVariable) : Type 0 where
   pub roles : roles_of p.done ≡ rs
@@ -54,28 +63,13 @@ one_start_kept rs known target e p h =
     each_then (λ (_ : Fraction). Unit {0}) (KeptStarts rs) (constant_value (constants_in known) e) (λ a. Ok (progress (with_start p.done t a) c)) (any_answer (constant_value (constants_in known) e)) (λ a _.
     record { roles = with_start_roles p.done t a ∙ h.roles; item_limit = hc.item_limit; node_limit = hc.node_limit })))
 
-mutual
-  start_kept : (rs : List FlatRole) (declared : List ℕ → NameDenotation) (loops : List LoopVar) (x : StatementTree) (p : Progress FlatVariable) → KeptStarts rs p → IfOk (unrolled_start declared loops x p) (KeptStarts rs)
-  start_kept rs declared loops (Assign target e) p h = one_start_kept rs (meant_in loops declared) target e p h
-  start_kept rs declared loops (Restart target e) p h = h
-  start_kept rs declared loops (EachStatement range body) p h =
-      loop_keeps (KeptStarts rs) (meant_in loops declared) range (λ i q. unrolled_starts declared (inside loops range.var i) body q) (starts_same rs) (λ i q hq. starts_kept rs declared (inside loops range.var i) body q hq) p h
-
-  starts_kept : (rs : List FlatRole) (declared : List ℕ → NameDenotation) (loops : List LoopVar) (xs : StatementTrees) (p : Progress FlatVariable) → KeptStarts rs p → IfOk (unrolled_starts declared loops xs p) (KeptStarts rs)
-  starts_kept rs declared loops no_statements p h = h
-  starts_kept rs declared loops (statement_then x xs) p h =
-      each_then (KeptStarts rs) (KeptStarts rs) (unrolled_start declared loops x p) (λ q. unrolled_starts declared loops xs q) (start_kept rs declared loops x p h) (λ q hq. starts_kept rs declared loops xs q hq)
-
--- of each right side something holds
-mutual
-  any_equation : (e : EquationTree) → EquationHas (λ _. ⊤) e
-  any_equation (Derivative target e) = tt
-  any_equation (Algebraic target e) = tt
-  any_equation (EachEquation range body) = any_equations body
-
-  any_equations : (es : EquationTrees) → EquationsHave (λ _. ⊤) es
-  any_equations no_equations = tt
-  any_equations (equation_then e es) = (any_equation e, any_equations es)
+starts_kept : (rs : List FlatRole) (declared : List ℕ → NameDenotation) (loops : List LoopVar) (xs : StatementTrees) (p : Progress FlatVariable) → KeptStarts rs p → IfOk (unrolled_starts declared loops xs p) (KeptStarts rs)
+starts_kept rs declared loops xs =
+    items_keep (KeptStarts rs) (λ _. ⊤) start_once declared (starts_same rs) (λ ls l _ p h. one l.restart (meant_in ls declared) l.target l.value p h) loops (statement_items xs) (any_items (statement_items xs))
+  where
+    one : (restart : Bool) (known : List ℕ → NameDenotation) (target : Reference) (e : Expression) (p : Progress FlatVariable) → KeptStarts rs p → IfOk (if restart then Ok p else one_start known target e p) (KeptStarts rs)
+    one true known target e p h = h
+    one false known target e p h = one_start_kept rs known target e p h
 
 -- how many variables there are
 length_of_roles : (ks : List Known) (vars : List FlatVariable) → roles_of vars ≡ roles_of (scalars_in ks) → length vars ≡ scalar_count ks
@@ -133,7 +127,7 @@ pub numbered_right : (m : ModelTree) (ks : List Known) → IfOk (unrolled m ks) 
 numbered_right m ks = by_starts m ks IsNumbered (λ s hs few points.
     each_then (KeptEquations s.done (AreNamed s.done)) IsNumbered (unrolled_equations (declared_in ks) [] (equations_of m.equations) (progress [] s.counts))
     (λ e. bind_result (unrolled_clauses (declared_in ks) [] (clauses_of m.clauses) (progress [] e.counts)) (λ c. Ok (record { vars = s.done; equations = e.done; clauses = c.done })))
-    (equations_kept s.done (λ _. ⊤) (AreNamed s.done) (declared_in ks) points (λ known p. expression_named s.done false known p) [] (equations_of m.equations) (any_equations (equations_of m.equations)) (progress [] s.counts)
+    (equations_kept s.done (λ _. ⊤) (AreNamed s.done) (declared_in ks) points (λ known p. expression_named s.done false known p) [] (equations_of m.equations) (any_items (equation_items (equations_of m.equations))) (progress [] s.counts)
     (no_equations_kept s.done (AreNamed s.done) s.counts hs.item_limit hs.node_limit)) (λ e he.
     each_then (λ (_ : Progress (List FlatBranchTree)). Unit {0}) IsNumbered (unrolled_clauses (declared_in ks) [] (clauses_of m.clauses) (progress [] e.counts)) (λ c. Ok (record { vars = s.done; equations = e.done; clauses = c.done }))
     (any_answer (unrolled_clauses (declared_in ks) [] (clauses_of m.clauses) (progress [] e.counts))) (λ c _.

@@ -6,6 +6,7 @@ use Common.{FlatSigned, flattened, flattened_factors, flattened_terms, get_or, I
 use Common.{IsSameFactors, IsSameTerms, length, List, map, map-append, meant_in, NameDenotation}
 use Common.{node_count, Ok, Reference, refl, Result, scaled, signed, subst, sym, take, take-suc}
 use Common.{term_nodes, terms_of, UnrollErr}
+use Rattle.mu_unroll.specs.ConstantFolding.{IsSameFlat}
 use Rattle.mu_tree.specs.Expression.{Scaled, Signed, expression_step, reference_step, scaled_step}
 use Rattle.mu_tree.specs.Expression.{signed_step}
 use Rattle.mu_tree.specs.declared.expr.Expr.{Expr}
@@ -64,34 +65,52 @@ all_pushed {S} {T} value made all is xs ys x y before last same =
     bind_result (all ys) (λ fs. bind_result (value y) (λ f. Ok (fs ++ m f ∷ [])))) same
     ∙ sym (all_append value made all is ys y)
 
--- the terms of a sum
-term_made : Signed → FlatExpression → FlatSigned
-term_made t f = record { minus = t.minus; at = t.at; value = f }
+-- one more copy of a part, where `of` makes parts of a list, and `whole` the flat part of a part
+parts_pushed : {T S P F : Type 0} (part : T → S) (of : List S → P) (value : S → Expression)
+    (whole : S → FlatExpression → F)
+    (flat : Bool → (List ℕ → NameDenotation) → P → Result (List F) UnrollErr) (count : P → ℕ)
+    → ((b : Bool) (known : List ℕ → NameDenotation)
+    → IsListed (λ s. flattened b known (value s)) whole (λ ss. flat b known (of ss)))
+    → ((ss : List S) (s : S) → count (of (ss ++ s ∷ [])) ≡ count (of ss) + node_count (value s))
+    → (declared : List ℕ → NameDenotation) (before new parts : List T) (i : ℕ) (item copy : T)
+    → new ≡ before ++ copy ∷ [] → i < length parts → item ≡ get_or parts i item
+    → whole (part copy) ≡ whole (part item)
+    → IsSameExpression declared (value (part copy)) (value (part item))
+    → IsSameFlat flat count declared (of (map part before)) (of (map part (take i parts)))
+    → IsSameFlat flat count declared (of (map part new)) (of (map part (take (i + 1) parts)))
+parts_pushed {T} {S} {P} {F} part of value whole flat count listed counted declared before new parts
+    i item copy pushed h e like same all =
+    let copies : map part new ≡ map part before ++ part copy ∷ [] =
+    ap (map part) pushed ∙ map-append part before (copy ∷ []) in
+    let items : map part (take (i + 1) parts) ≡ map part (take i parts) ++ part item ∷ [] =
+    rw (add-one, take-suc parts i item h, ← e) (map-append part (take i parts) (item ∷ [])) in
+    subst (λ xs. IsSameFlat flat count declared (of xs) (of (map part (take (i + 1) parts))))
+    (sym copies)
+    (subst (λ ys. IsSameFlat flat count declared (of (map part before ++ part copy ∷ [])) (of ys))
+    (sym items)
+    (record {
+      in_loops = λ loops g b.
+          let known = meant_in loops declared in
+          all_pushed (λ s. flattened b known (value s)) whole (λ ss. flat b known (of ss))
+          (listed b known) (map part before) (map part (take i parts)) (part copy) (part item)
+          (all.in_loops loops g b) (same.in_loops loops g b) like;
+      nodes = omega (
+        arith,
+        counted (map part before) (part copy),
+        counted (map part (take i parts)) (part item),
+        all.nodes,
+        same.nodes,
+      );
+    }))
 
-terms_listed : (b : Bool) (known : List ℕ → NameDenotation)
-    → IsListed (λ t. flattened b known t.value) term_made (λ ts. flattened_terms b known (terms_of
-    ts))
-unfolding term_made
-terms_listed b known = record { none = refl; more = λ x xs. refl }
+-- the terms of a sum
+abbrev term_made : Signed → FlatExpression → FlatSigned
+term_made t f = record { minus = t.minus; at = t.at; value = f }
 
 term_count : (ts : List Signed) (t : Signed)
     → term_nodes (terms_of (ts ++ t ∷ [])) ≡ term_nodes (terms_of ts) + node_count t.value
 term_count [] t = omega arith
 term_count (s ∷ ss) t = let rest = term_count ss t in omega arith
-
-signed_pushed : (declared : List ℕ → NameDenotation) (xs ys : List Signed) (x y : Signed)
-    → IsSameTerms declared (terms_of xs) (terms_of ys) → x.minus ≡ y.minus → x.at ≡ y.at
-    → IsSameExpression declared x.value y.value
-    → IsSameTerms declared (terms_of (xs ++ x ∷ [])) (terms_of (ys ++ y ∷ []))
-unfolding term_made
-signed_pushed declared xs ys x y before minus at same = record {
-  in_loops = λ loops h b.
-      all_pushed (λ t. flattened b (meant_in loops declared) t.value) term_made
-      (λ ts. flattened_terms b (meant_in loops declared) (terms_of ts))
-      (terms_listed b (meant_in loops declared)) xs ys x y (before.in_loops loops h b)
-      (same.in_loops loops h b) (rw (minus, at) refl);
-  nodes = omega (arith, term_count xs x, term_count ys y, before.nodes, same.nodes);
-}
 
 pub terms_pushed : (declared : List ℕ → NameDenotation) (before new terms : List Term) (i : ℕ)
     (item : Term) (value : Expr)
@@ -105,142 +124,51 @@ pub terms_pushed : (declared : List ℕ → NameDenotation) (before new terms : 
     → IsSameExpression declared (expression value) (expression (out-Term item).value)
     → IsSameTerms declared (terms_of (map signed new)) (terms_of (map signed (take (i + 1) terms)))
 terms_pushed declared before new terms i item value pushed h e all same =
-    let copy : Signed = record {
+    let copy =
+    fold-roll-Term Expression Scaled Reference Signed expression_step scaled_step reference_step
+    signed_step (record {
       minus = (out-Term item).minus;
       at = (out-Term item).at;
-      value =
-          expression value;
-    } in
-    let one : signed item ≡ record {
-      minus = (out-Term item).minus;
-      at = (out-Term item).at;
-      value =
-          expression (out-Term item).value;
-    } =
+      value = value;
+    }) in
+    let one =
     fold_out-Term Expression Scaled Reference Signed expression_step scaled_step reference_step
     signed_step item in
-    let made : map signed new ≡ map signed before ++ copy ∷ [] =
-    ap (map signed) pushed
-    ∙ map-append signed before (roll-Term (record {
-      minus = (out-Term item).minus;
-      at = (out-Term
-          item).at;
-      value = value;
-    }) ∷ [])
-    ∙ ap (λ x. map signed before ++ x ∷ [])
-    (fold-roll-Term Expression Scaled Reference Signed expression_step scaled_step reference_step
-    signed_step (record { minus = (out-Term item).minus; at = (out-Term item).at; value = value }))
-    in
-    let taken : map signed (take (i + 1) terms) ≡ map signed (take i terms) ++ record {
-      minus =
-          (out-Term item).minus;
-      at = (out-Term item).at;
-      value = expression (out-Term item).value;
-    } ∷ []
-    =
-    rw (add-one, take-suc terms i item h, ← e) (map-append signed (take i terms) (item ∷ []) ∙ ap (λ
-    x. map signed (take i terms) ++ x ∷ []) one) in
-    subst (λ xs. IsSameTerms declared (terms_of xs) (terms_of (map signed (take (i + 1) terms))))
-    (sym made)
-    (subst (λ ys. IsSameTerms declared (terms_of (map signed before ++ copy ∷ [])) (terms_of ys))
-    (sym taken)
-    (signed_pushed declared (map signed before) (map signed (take i terms)) copy
-    (record {
-      minus = (out-Term item).minus;
-      at = (out-Term item).at;
-      value = expression (out-Term
-          item).value;
-    }) all refl refl same))
+    parts_pushed signed terms_of (λ t. t.value) term_made flattened_terms term_nodes
+    (λ b known. record { none = refl; more = λ x xs. refl }) term_count declared before new terms i
+    item _ pushed h e (ap term_made copy ∙ sym (ap term_made one)) (rw (copy, one) same) all
 
 -- the factors of a product
-factor_made : Scaled → FlatExpression → FlatScaled
+abbrev factor_made : Scaled → FlatExpression → FlatScaled
 factor_made t f = record { divide = t.divide; at = t.at; value = f }
-
-factors_listed : (b : Bool) (known : List ℕ → NameDenotation)
-    → IsListed (λ t. flattened b known t.value) factor_made (λ ts. flattened_factors b known
-    (factors_of ts))
-unfolding factor_made
-factors_listed b known = record { none = refl; more = λ x xs. refl }
 
 factor_count : (ts : List Scaled) (t : Scaled)
     → factor_nodes (factors_of (ts ++ t ∷ [])) ≡ factor_nodes (factors_of ts) + node_count t.value
 factor_count [] t = omega arith
 factor_count (s ∷ ss) t = let rest = factor_count ss t in omega arith
 
-scaled_pushed : (declared : List ℕ → NameDenotation) (xs ys : List Scaled) (x y : Scaled)
-    → IsSameFactors declared (factors_of xs) (factors_of ys) → x.divide ≡ y.divide → x.at ≡ y.at
-    → IsSameExpression declared x.value y.value
-    → IsSameFactors declared (factors_of (xs ++ x ∷ [])) (factors_of (ys ++ y ∷ []))
-unfolding factor_made
-scaled_pushed declared xs ys x y before divide at same = record {
-  in_loops = λ loops h b.
-      all_pushed (λ t. flattened b (meant_in loops declared) t.value) factor_made
-      (λ ts. flattened_factors b (meant_in loops declared) (factors_of ts))
-      (factors_listed b (meant_in loops declared)) xs ys x y (before.in_loops loops h b)
-      (same.in_loops loops h b) (rw (divide, at) refl);
-  nodes = omega (arith, factor_count xs x, factor_count ys y, before.nodes, same.nodes);
-}
-
 pub factors_pushed : (declared : List ℕ → NameDenotation) (before new factors : List Factor) (i : ℕ)
     (item : Factor) (value : Expr)
     → new ≡ before ++ roll-Factor (record {
       divide = (out-Factor item).divide;
-      at = (out-Factor
-          item).at;
+      at = (out-Factor item).at;
       value = value;
     }) ∷ []
     → i < length factors → item ≡ get_or factors i item
-    → IsSameFactors declared (factors_of (map scaled before)) (factors_of (map scaled (take i
-    factors)))
+    → IsSameFactors declared (factors_of (map scaled before)) (factors_of (map scaled (take i factors)))
     → IsSameExpression declared (expression value) (expression (out-Factor item).value)
-    → IsSameFactors declared (factors_of (map scaled new)) (factors_of (map scaled (take (i + 1)
-    factors)))
+    → IsSameFactors declared (factors_of (map scaled new)) (factors_of (map scaled (take (i + 1) factors)))
 factors_pushed declared before new factors i item value pushed h e all same =
-    let copy : Scaled = record {
-      divide = (out-Factor item).divide;
-      at = (out-Factor item).at;
-      value
-          = expression value;
-    } in
-    let one : scaled item ≡ record {
-      divide = (out-Factor item).divide;
-      at = (out-Factor item).at;
-      value = expression (out-Factor item).value;
-    } =
-    fold_out-Factor Expression Scaled Reference Signed expression_step scaled_step reference_step
-    signed_step item in
-    let made : map scaled new ≡ map scaled before ++ copy ∷ [] =
-    ap (map scaled) pushed
-    ∙ map-append scaled before (roll-Factor (record {
-      divide = (out-Factor item).divide;
-      at =
-          (out-Factor item).at;
-      value = value;
-    }) ∷ [])
-    ∙ ap (λ x. map scaled before ++ x ∷ [])
-    (fold-roll-Factor Expression Scaled Reference Signed expression_step scaled_step reference_step
+    let copy =
+    fold-roll-Factor Expression Scaled Reference Signed expression_step scaled_step reference_step
     signed_step (record {
       divide = (out-Factor item).divide;
       at = (out-Factor item).at;
-      value =
-          value;
-    })) in
-    let taken : map scaled (take (i + 1) factors) ≡ map scaled (take i factors) ++ record {
-      divide =
-          (out-Factor item).divide;
-      at = (out-Factor item).at;
-      value = expression (out-Factor item).value;
-    } ∷ [] =
-    rw (add-one, take-suc factors i item h, ← e) (map-append scaled (take i factors) (item ∷ []) ∙
-    ap (λ x. map scaled (take i factors) ++ x ∷ []) one) in
-    subst (λ xs. IsSameFactors declared (factors_of xs) (factors_of (map scaled (take (i + 1)
-    factors)))) (sym made)
-    (subst (λ ys. IsSameFactors declared (factors_of (map scaled before ++ copy ∷ [])) (factors_of
-    ys)) (sym taken)
-    (scaled_pushed declared (map scaled before) (map scaled (take i factors)) copy
-    (record {
-      divide = (out-Factor item).divide;
-      at = (out-Factor item).at;
-      value = expression
-          (out-Factor item).value;
-    }) all refl refl same))
+      value = value;
+    }) in
+    let one =
+    fold_out-Factor Expression Scaled Reference Signed expression_step scaled_step reference_step
+    signed_step item in
+    parts_pushed scaled factors_of (λ t. t.value) factor_made flattened_factors factor_nodes
+    (λ b known. record { none = refl; more = λ x xs. refl }) factor_count declared before new factors i
+    item _ pushed h e (ap factor_made copy ∙ sym (ap factor_made one)) (rw (copy, one) same) all

@@ -1,31 +1,32 @@
 -- What holds of what was made and counted, kept from item to item.
 use Rattle.mu_unroll.proofs.Common
-use Common.{[], ℕ, ℤ, ◌+ℤ◌, ◌+◌, ◌<◌, ◌^◌, ◌∷◌, ◌≡◌, ◌≤◌, Algebraic, All, All-nil, arith, Assign}
-use Common.{assign_to, bind_result, Bool, bounds_of, Branches, BranchTree, clause_then, ClauseTree}
-use Common.{ClauseTrees, Counts, Derivative, Discrete, EachClause, EachEquation, EachStatement}
-use Common.{equation_for, equation_then, EquationHas, EquationsHave, EquationTree, EquationTrees}
-use Common.{Err, Expression, false, FlatAction, FlatBranchTree, FlatEquationTree, FlatExpression}
-use Common.{FlatRole, flattened, FlatVariable, found, HasRole, HasSmallPowers, IfOk, IfSome}
-use Common.{if◌then◌else◌, inside, IsFlatClause, IsFlatExpression, length, length-append, List}
-use Common.{looped, LoopVar, meant_in, NameDenotation, nat_lt, nat_tests, no_clauses, no_equations}
-use Common.{no_statements, node_count, None, number_of_kind, Ok, Option, pos, Progress, progress}
-use Common.{Range, Reference, refl, repeated, Restart, restart_of, Result, Rounds, rounds_from}
-use Common.{slice_get, Some, State, statement_then, statements_of, StatementTree, StatementTrees}
-use Common.{suc, TooMany, true, unrolled_branch, unrolled_branches, unrolled_clause}
-use Common.{unrolled_clauses, unrolled_equation, unrolled_equations, unrolled_statement}
-use Common.{unrolled_statements, UnrollErr, with_item, with_maybe, with_more, with_round, zero}
+use Common.{[], ℕ, ℤ, ◌+ℤ◌, ◌+◌, ◌<◌, ◌^◌, ◌∷◌, ◌≡◌, ◌≤◌, All, All-nil, arith, assign_to}
+use Common.{bind_result, Bool, bounds_of, BranchTree, clause_once, ClauseTrees, Counts, Discrete}
+use Common.{Each, equation_for, equation_items, equation_once, EquationTrees, Err, Expression}
+use Common.{false, FlatAction, FlatBranchTree, FlatEquationTree, FlatExpression, FlatRole}
+use Common.{flattened, FlatVariable, found, HasRole, HasSmallPowers, IfOk, IfSome, if◌then◌else◌}
+use Common.{inside, IsFlatClause, IsFlatExpression, item_then, ItemHas, ItemsHave, length}
+use Common.{length-append, List, looped, LoopVar, meant_in, NameDenotation, nat_lt, nat_tests}
+use Common.{NestTree, NestTrees, no_items, node_count, None, number_of_kind, Ok, One, one_statement}
+use Common.{Option, pos, Progress, progress, Range, Reference, refl, repeated, restart_of, Result}
+use Common.{Rounds, rounds_from, slice_get, Some, State, statement_items, statement_once}
+use Common.{statements_of, StatementTrees, Step, subst, suc, sym, target_role, TooMany, true}
+use Common.{unrolled_branch, unrolled_branches, unrolled_clauses, unrolled_equations, unrolled_item}
+use Common.{unrolled_items, unrolled_statements, UnrollErr, with_item, with_maybe, with_more}
+use Common.{with_round, zero}
+use Rattle.mu_unroll.specs.WellFormed.{EquationsHave, BranchHas, BranchesHave, ClausesHave}
+use Rattle.mu_unroll.specs.WellFormed.{StatementsHave}
 use Rattle.std.proofs.Common.{sum_by}
 use Rattle.std.proofs.lemmas.List.Elements.{All-push, All-head, All-tail}
 use Rattle.std.proofs.lemmas.List.Sums.{sum_by_push, sum_by-cons}
-use Rattle.mu_tree.specs.FlatModels.{IsFlatAction, IsFlatBranch, action_nodes, target_role}
-use Rattle.mu_unroll.specs.Unrolling.{one_action, one_clause, one_equation}
-use Rattle.mu_unroll.specs.WellFormed.{StatementHas, StatementsHave, BranchHas, ClauseHas}
-use Rattle.mu_unroll.specs.WellFormed.{ClausesHave}
+use Rattle.mu_tree.specs.FlatModels.{IsFlatAction, IsFlatBranch, action_nodes}
+use Rattle.mu_unroll.specs.Unrolling.{one_clause}
+use Rattle.mu_tree.specs.Nests.{OneEquation, OneStatement}
 use Rattle.mu_unroll.proofs.FlatParts.{Flattens, IsFlat, IsFoundIn, expression_flat, found_in}
 use Rattle.mu_unroll.proofs.FlatParts.{number_in}
 use Rattle.mu_unroll.proofs.Numbering.{AllPoint, points_inside, role_at, roles_of}
 use Rattle.mu_unroll.proofs.Stepping.{any_answer, each_then}
-use Rattle.mu_tree.specs.FlatExpression as trees
+use Rattle.mu_tree.specs.Nests as trees
 use Rattle.mu_tree.specs.FlatModels as flat
 
 -- one more item: what is counted then, and its limits
@@ -75,6 +76,21 @@ loop_keeps {X} I known range once same step p h =
     each_then (λ (_ : Rounds). Unit {0}) I (bounds_of known range.at range.from range.to) (λ r. repeated once r.next (rounds_from r.next r.last) p) (any_answer (bounds_of known range.at range.from range.to))
     (λ r _. repeated_keeps I once same step r.next (rounds_from r.next r.last) p h)
 
+-- items keep what an item that is no loop keeps
+module _ {L X : Type 0} (I : Progress X → Type 0) (P : L → Type 0) (one : L → Step X) (declared : List ℕ → NameDenotation) (same : IsOfCounts I)
+    (keeps : (loops : List LoopVar) (l : L) → P l → (p : Progress X) → I p → IfOk (one l declared loops p) I) where
+  mutual
+    item_keeps : (loops : List LoopVar) (x : NestTree L) → ItemHas P x → (p : Progress X) → I p → IfOk (unrolled_item one x declared loops p) I
+    item_keeps loops (One l) s p h = keeps loops l s p h
+    item_keeps loops (Each range body) s p h =
+        loop_keeps I (meant_in loops declared) range (λ i q. unrolled_items one body declared (inside loops range.var i) q) same
+        (λ i q hq. items_keep (inside loops range.var i) body s q hq) p h
+
+    pub items_keep : (loops : List LoopVar) (xs : NestTrees L) → ItemsHave P xs → (p : Progress X) → I p → IfOk (unrolled_items one xs declared loops p) I
+    items_keep loops no_items s p h = h
+    items_keep loops (item_then x xs) s p h =
+        each_then I I (unrolled_item one x declared loops p) (λ q. unrolled_items one xs declared loops q) (item_keeps loops x s.0 p h) (λ q hq. items_keep loops xs s.1 q hq)
+
 -- each value is right; after the first items and nodes, those of all values are counted and within the limits
 pub record Kept {X : Type 0} (Right : X → Type 0) (items nodes : X → ℕ) (first_item first_node : ℕ) (p : Progress X) : Type 0 where
   pub right : All Right p.done
@@ -120,6 +136,25 @@ kept_maybe {X} Right nodes first_item first_node p n d None h c r = record {
   node_limit = c.node_limit;
 }
 
+-- one item with a left and a right side
+one_item_kept : {X : Type 0} (vars : List FlatVariable) (Right : X → Type 0) (nodes : X → ℕ) (first_item first_node : ℕ) (F : FlatExpression → Type 0) (in_clause : Bool) (kind : FlatRole) (make : Option ℕ → FlatExpression → Option X)
+    (known : List ℕ → NameDenotation) (target : Reference) (e : Expression) (p : Progress X) → AllPoint (roles_of vars) known → IfOk (flattened in_clause known e) (IsFlat F e)
+    → ((v : ℕ) (f : FlatExpression) → HasRole vars v kind → IsFlat F e f → IfSome (make (Some v) f) (λ x. Right x × (nodes x ≡ node_count e))) → ((f : FlatExpression) → make None f ≡ None)
+    → Kept Right (λ _. 1) nodes first_item first_node p
+    → IfOk (bind_result (with_item p.counts (node_count e)) (λ c. bind_result (found known target) (λ t. bind_result (flattened in_clause known e) (λ f. Ok (with_maybe p c (make (number_of_kind kind t) f)))))) (Kept Right (λ _. 1) nodes first_item first_node)
+one_item_kept {X} vars Right nodes first_item first_node F in_clause kind make known target e p points parts right none h =
+    let K : Progress X → Type 0 = Kept Right (λ _. 1) nodes first_item first_node in
+    each_then (IsCounted p.counts (node_count e)) K (with_item p.counts (node_count e)) (λ c. bind_result (found known target) (λ t. bind_result (flattened in_clause known e) (λ f. Ok (with_maybe p c (make (number_of_kind kind t) f)))))
+    (item_counted p.counts (node_count e)) (λ c hc.
+    each_then (IsFoundIn (roles_of vars)) K (found known target) (λ t. bind_result (flattened in_clause known e) (λ f. Ok (with_maybe p c (make (number_of_kind kind t) f))))
+    (found_in (roles_of vars) known target points) (λ t ht.
+    each_then (IsFlat F e) K (flattened in_clause known e) (λ f. Ok (with_maybe p c (make (number_of_kind kind t) f))) parts (λ f hf.
+    kept_maybe Right nodes first_item first_node p (node_count e) c (make (number_of_kind kind t) f) h hc (by_number (number_of_kind kind t) f (number_in (roles_of vars) kind t ht) hf))))
+  where
+    by_number : (o : Option ℕ) (f : FlatExpression) → IfSome o (λ v. slice_get (roles_of vars) v ≡ Some kind) → IsFlat F e f → IfSome (make o f) (λ x. Right x × (nodes x ≡ node_count e))
+    by_number (Some v) f k r = right v f (role_at vars v kind k) r
+    by_number None f k r = subst (λ o. IfSome o (λ x. Right x × (nodes x ≡ node_count e))) (sym (none f)) tt
+
 -- the nodes of a right side
 abbrev pub equation_nodes : FlatEquationTree → ℕ
 equation_nodes e = flat.node_count e.value
@@ -131,86 +166,32 @@ IsEquationOf vars F e = HasRole vars e.target (target_role e.der) × F e.value
 abbrev pub KeptEquations : List FlatVariable → (FlatExpression → Type 0) → Progress FlatEquationTree → Type 0
 KeptEquations vars F = Kept (IsEquationOf vars F) (λ _. 1) equation_nodes 0 0
 
-equation_right : (vars : List FlatVariable) (F : FlatExpression → Type 0) (der : Bool) (e : Expression) (f : FlatExpression) (o : Option ℕ) → IfSome o (λ v. slice_get (roles_of vars) v ≡ Some (target_role der)) → IsFlat F e f
-    → IfSome (equation_for der o f) (λ x. IsEquationOf vars F x × (equation_nodes x ≡ node_count e))
-equation_right vars F der e f (Some v) h r = ((role_at vars v (target_role der) h, r.0), r.1)
-equation_right vars F der e f None h r = tt
-
-one_equation_kept : (vars : List FlatVariable) (F : FlatExpression → Type 0) (der : Bool) (known : List ℕ → NameDenotation) (target : Reference) (e : Expression) (p : Progress FlatEquationTree) → AllPoint (roles_of vars) known → IfOk (flattened false known e) (IsFlat F e)
-    → KeptEquations vars F p → IfOk (one_equation der known target e p) (KeptEquations vars F)
-one_equation_kept vars F der known target e p points parts h =
-    each_then (IsCounted p.counts (node_count e)) (KeptEquations vars F) (with_item p.counts (node_count e)) (λ c. bind_result (found known target) (λ t. bind_result (flattened false known e) (λ f. Ok (with_maybe p c (equation_for der (number_of_kind (target_role der) t) f)))))
-    (item_counted p.counts (node_count e)) (λ c hc.
-    each_then (IsFoundIn (roles_of vars)) (KeptEquations vars F) (found known target) (λ t. bind_result (flattened false known e) (λ f. Ok (with_maybe p c (equation_for der (number_of_kind (target_role der) t) f))))
-    (found_in (roles_of vars) known target points) (λ t ht.
-    each_then (IsFlat F e) (KeptEquations vars F) (flattened false known e) (λ f. Ok (with_maybe p c (equation_for der (number_of_kind (target_role der) t) f))) parts (λ f hf.
-    kept_maybe (IsEquationOf vars F) equation_nodes 0 0 p (node_count e) c (equation_for der (number_of_kind (target_role der) t) f) h hc
-    (equation_right vars F der e f (number_of_kind (target_role der) t) (number_in (roles_of vars) (target_role der) t ht) hf))))
-
-mutual
-  equation_kept : (vars : List FlatVariable) (P : Expression → Type 0) (F : FlatExpression → Type 0) (declared : List ℕ → NameDenotation) → AllPoint (roles_of vars) declared → ((known : List ℕ → NameDenotation) → AllPoint (roles_of vars) known → Flattens P F false known)
-      → (loops : List LoopVar) (e : EquationTree) → EquationHas P e → (p : Progress FlatEquationTree) → KeptEquations vars F p → IfOk (unrolled_equation declared loops e p) (KeptEquations vars F)
-  equation_kept vars P F declared points parts loops (Derivative target e) s p h =
-      let inner : AllPoint (roles_of vars) (meant_in loops declared) = points_inside (roles_of vars) loops declared points in
-      one_equation_kept vars F true (meant_in loops declared) target e p inner (parts (meant_in loops declared) inner e s) h
-  equation_kept vars P F declared points parts loops (Algebraic target e) s p h =
-      let inner : AllPoint (roles_of vars) (meant_in loops declared) = points_inside (roles_of vars) loops declared points in
-      one_equation_kept vars F false (meant_in loops declared) target e p inner (parts (meant_in loops declared) inner e s) h
-  equation_kept vars P F declared points parts loops (EachEquation range body) s p h =
-      loop_keeps (KeptEquations vars F) (meant_in loops declared) range (λ i q. unrolled_equations declared (inside loops range.var i) body q) (kept_same (IsEquationOf vars F) (λ _. 1) equation_nodes 0 0)
-      (λ i q hq. equations_kept vars P F declared points parts (inside loops range.var i) body s q hq) p h
-
-  -- equations inside loops
-  pub equations_kept : (vars : List FlatVariable) (P : Expression → Type 0) (F : FlatExpression → Type 0) (declared : List ℕ → NameDenotation) → AllPoint (roles_of vars) declared → ((known : List ℕ → NameDenotation) → AllPoint (roles_of vars) known → Flattens P F false known)
-      → (loops : List LoopVar) (es : EquationTrees) → EquationsHave P es → (p : Progress FlatEquationTree) → KeptEquations vars F p → IfOk (unrolled_equations declared loops es p) (KeptEquations vars F)
-  equations_kept vars P F declared points parts loops no_equations s p h = h
-  equations_kept vars P F declared points parts loops (equation_then e es) s p h =
-      each_then (KeptEquations vars F) (KeptEquations vars F) (unrolled_equation declared loops e p) (λ q. unrolled_equations declared loops es q) (equation_kept vars P F declared points parts loops e s.0 p h)
-      (λ q hq. equations_kept vars P F declared points parts loops es s.1 q hq)
+-- equations inside loops
+pub equations_kept : (vars : List FlatVariable) (P : Expression → Type 0) (F : FlatExpression → Type 0) (declared : List ℕ → NameDenotation) → AllPoint (roles_of vars) declared → ((known : List ℕ → NameDenotation) → AllPoint (roles_of vars) known → Flattens P F false known)
+    → (loops : List LoopVar) (es : EquationTrees) → EquationsHave P es → (p : Progress FlatEquationTree) → KeptEquations vars F p → IfOk (unrolled_equations declared loops es p) (KeptEquations vars F)
+equations_kept vars P F declared points parts loops es =
+    items_keep (KeptEquations vars F) (λ (l : OneEquation). P l.value) equation_once declared (kept_same (IsEquationOf vars F) (λ _. 1) equation_nodes 0 0)
+    (λ ls l s p h.
+    let inner : AllPoint (roles_of vars) (meant_in ls declared) = points_inside (roles_of vars) ls declared points in
+    one_item_kept vars (IsEquationOf vars F) equation_nodes 0 0 F false (target_role l.der) (equation_for l.der) (meant_in ls declared) l.target l.value p inner (parts (meant_in ls declared) inner l.value s)
+    (λ v f role r. ((role, r.0), r.1)) (λ f. refl) h) loops (equation_items es)
 
 -- statements
 abbrev pub KeptActions : List FlatVariable → ℕ → ℕ → Progress FlatAction → Type 0
 KeptActions vars first_item first_node = Kept (IsFlatAction vars) (λ _. 1) action_nodes first_item first_node
 
-assign_right : (vars : List FlatVariable) (e : Expression) (f : FlatExpression) (o : Option ℕ) → IfSome o (λ v. slice_get (roles_of vars) v ≡ Some Discrete) → IsFlat (IsFlatExpression vars true) e f
-    → IfSome (assign_to o f) (λ x. IsFlatAction vars x × (action_nodes x ≡ node_count e))
-assign_right vars e f (Some v) h r = ((role_at vars v Discrete h, r.0), r.1)
-assign_right vars e f None h r = tt
-
-restart_right : (vars : List FlatVariable) (e : Expression) (f : FlatExpression) (o : Option ℕ) → IfSome o (λ v. slice_get (roles_of vars) v ≡ Some State) → IsFlat (IsFlatExpression vars true) e f
-    → IfSome (restart_of o f) (λ x. IsFlatAction vars x × (action_nodes x ≡ node_count e))
-restart_right vars e f (Some v) h r = ((role_at vars v State h, r.0), r.1)
-restart_right vars e f None h r = tt
-
-one_action_kept : (vars : List FlatVariable) (first_item first_node : ℕ) (action : Option ℕ → FlatExpression → Option FlatAction) (kind : FlatRole) (known : List ℕ → NameDenotation) (target : Reference) (e : Expression) (p : Progress FlatAction)
-    → AllPoint (roles_of vars) known → HasSmallPowers e
-    → ((f : FlatExpression) (o : Option ℕ) → IfSome o (λ v. slice_get (roles_of vars) v ≡ Some kind) → IsFlat (IsFlatExpression vars true) e f → IfSome (action o f) (λ x. IsFlatAction vars x × (action_nodes x ≡ node_count e)))
-    → KeptActions vars first_item first_node p → IfOk (one_action action kind known target e p) (KeptActions vars first_item first_node)
-one_action_kept vars first_item first_node action kind known target e p points s right h =
-    each_then (IsCounted p.counts (node_count e)) (KeptActions vars first_item first_node) (with_item p.counts (node_count e)) (λ c. bind_result (found known target) (λ t. bind_result (flattened true known e) (λ f. Ok (with_maybe p c (action (number_of_kind kind t) f)))))
-    (item_counted p.counts (node_count e)) (λ c hc.
-    each_then (IsFoundIn (roles_of vars)) (KeptActions vars first_item first_node) (found known target) (λ t. bind_result (flattened true known e) (λ f. Ok (with_maybe p c (action (number_of_kind kind t) f))))
-    (found_in (roles_of vars) known target points) (λ t ht.
-    each_then (IsFlat (IsFlatExpression vars true) e) (KeptActions vars first_item first_node) (flattened true known e) (λ f. Ok (with_maybe p c (action (number_of_kind kind t) f))) (expression_flat vars true known points e s) (λ f hf.
-    kept_maybe (IsFlatAction vars) action_nodes first_item first_node p (node_count e) c (action (number_of_kind kind t) f) h hc (right f (number_of_kind kind t) (number_in (roles_of vars) kind t ht) hf))))
-
-mutual
-  statement_kept : (vars : List FlatVariable) (first_item first_node : ℕ) (declared : List ℕ → NameDenotation) → AllPoint (roles_of vars) declared → (loops : List LoopVar) (x : StatementTree) → StatementHas HasSmallPowers x → (p : Progress FlatAction)
-      → KeptActions vars first_item first_node p → IfOk (unrolled_statement declared loops x p) (KeptActions vars first_item first_node)
-  statement_kept vars first_item first_node declared points loops (Assign target e) s p h =
-      one_action_kept vars first_item first_node assign_to Discrete (meant_in loops declared) target e p (points_inside (roles_of vars) loops declared points) s (λ f o k r. assign_right vars e f o k r) h
-  statement_kept vars first_item first_node declared points loops (Restart target e) s p h =
-      one_action_kept vars first_item first_node restart_of State (meant_in loops declared) target e p (points_inside (roles_of vars) loops declared points) s (λ f o k r. restart_right vars e f o k r) h
-  statement_kept vars first_item first_node declared points loops (EachStatement range body) s p h =
-      loop_keeps (KeptActions vars first_item first_node) (meant_in loops declared) range (λ i q. unrolled_statements declared (inside loops range.var i) body q) (kept_same (IsFlatAction vars) (λ _. 1) action_nodes first_item first_node)
-      (λ i q hq. statements_kept vars first_item first_node declared points (inside loops range.var i) body s q hq) p h
-
-  statements_kept : (vars : List FlatVariable) (first_item first_node : ℕ) (declared : List ℕ → NameDenotation) → AllPoint (roles_of vars) declared → (loops : List LoopVar) (xs : StatementTrees) → StatementsHave HasSmallPowers xs → (p : Progress FlatAction)
-      → KeptActions vars first_item first_node p → IfOk (unrolled_statements declared loops xs p) (KeptActions vars first_item first_node)
-  statements_kept vars first_item first_node declared points loops no_statements s p h = h
-  statements_kept vars first_item first_node declared points loops (statement_then x xs) s p h =
-      each_then (KeptActions vars first_item first_node) (KeptActions vars first_item first_node) (unrolled_statement declared loops x p) (λ q. unrolled_statements declared loops xs q) (statement_kept vars first_item first_node declared points loops x s.0 p h)
-      (λ q hq. statements_kept vars first_item first_node declared points loops xs s.1 q hq)
+statements_kept : (vars : List FlatVariable) (first_item first_node : ℕ) (declared : List ℕ → NameDenotation) → AllPoint (roles_of vars) declared → (loops : List LoopVar) (xs : StatementTrees) → StatementsHave HasSmallPowers xs → (p : Progress FlatAction)
+    → KeptActions vars first_item first_node p → IfOk (unrolled_statements declared loops xs p) (KeptActions vars first_item first_node)
+statements_kept vars first_item first_node declared points loops xs =
+    items_keep (KeptActions vars first_item first_node) (λ (l : OneStatement). HasSmallPowers l.value) statement_once declared (kept_same (IsFlatAction vars) (λ _. 1) action_nodes first_item first_node)
+    (λ ls l s p h. one (meant_in ls declared) (points_inside (roles_of vars) ls declared points) l.restart l.target l.value p s h) loops (statement_items xs)
+  where
+    one : (known : List ℕ → NameDenotation) → AllPoint (roles_of vars) known → (restart : Bool) (target : Reference) (e : Expression) (p : Progress FlatAction) → HasSmallPowers e → KeptActions vars first_item first_node p
+        → IfOk (one_statement restart known target e p) (KeptActions vars first_item first_node)
+    one known inner true target e p s h =
+        one_item_kept vars (IsFlatAction vars) action_nodes first_item first_node (IsFlatExpression vars true) true State restart_of known target e p inner (expression_flat vars true known inner e s) (λ v f role r. ((role, r.0), r.1)) (λ f. refl) h
+    one known inner false target e p s h =
+        one_item_kept vars (IsFlatAction vars) action_nodes first_item first_node (IsFlatExpression vars true) true Discrete assign_to known target e p inner (expression_flat vars true known inner e s) (λ v f role r. ((role, r.0), r.1)) (λ f. refl) h
 
 -- branches
 abbrev pub branch_items : FlatBranchTree → ℕ
@@ -282,18 +263,9 @@ one_clause_kept vars first_item first_node declared points loops bs some s p h =
     (branches_kept vars p.counts.items p.counts.nodes declared points loops bs s 1 (progress [] p.counts) (omega arith) (kept_none (IsFlatBranch vars) branch_items branch_nodes p.counts h.item_limit h.node_limit))
     (λ q hq. kept_more (IsFlatClause vars) clause_items clause_nodes first_item first_node p q.counts q.done h (omega (arith, hq.1), hq.0.right) hq.0.counted_items hq.0.counted_nodes hq.0.item_limit hq.0.node_limit)
 
-mutual
-  clause_kept : (vars : List FlatVariable) (first_item first_node : ℕ) (declared : List ℕ → NameDenotation) → AllPoint (roles_of vars) declared → (loops : List LoopVar) (x : ClauseTree) → ClauseHas HasSmallPowers x → (p : Progress (List FlatBranchTree))
-      → KeptClauses vars first_item first_node p → IfOk (unrolled_clause declared loops x p) (KeptClauses vars first_item first_node)
-  clause_kept vars first_item first_node declared points loops (Branches bs) s p h = one_clause_kept vars first_item first_node declared points loops bs s.0 s.1 p h
-  clause_kept vars first_item first_node declared points loops (EachClause range body) s p h =
-      loop_keeps (KeptClauses vars first_item first_node) (meant_in loops declared) range (λ i q. unrolled_clauses declared (inside loops range.var i) body q) (kept_same (IsFlatClause vars) clause_items clause_nodes first_item first_node)
-      (λ i q hq. clauses_kept vars first_item first_node declared points (inside loops range.var i) body s q hq) p h
-
-  -- clauses inside loops
-  pub clauses_kept : (vars : List FlatVariable) (first_item first_node : ℕ) (declared : List ℕ → NameDenotation) → AllPoint (roles_of vars) declared → (loops : List LoopVar) (xs : ClauseTrees) → ClausesHave HasSmallPowers xs → (p : Progress (List FlatBranchTree))
-      → KeptClauses vars first_item first_node p → IfOk (unrolled_clauses declared loops xs p) (KeptClauses vars first_item first_node)
-  clauses_kept vars first_item first_node declared points loops no_clauses s p h = h
-  clauses_kept vars first_item first_node declared points loops (clause_then x xs) s p h =
-      each_then (KeptClauses vars first_item first_node) (KeptClauses vars first_item first_node) (unrolled_clause declared loops x p) (λ q. unrolled_clauses declared loops xs q) (clause_kept vars first_item first_node declared points loops x s.0 p h)
-      (λ q hq. clauses_kept vars first_item first_node declared points loops xs s.1 q hq)
+-- clauses inside loops
+pub clauses_kept : (vars : List FlatVariable) (first_item first_node : ℕ) (declared : List ℕ → NameDenotation) → AllPoint (roles_of vars) declared → (loops : List LoopVar) (xs : ClauseTrees) → ClausesHave HasSmallPowers xs → (p : Progress (List FlatBranchTree))
+    → KeptClauses vars first_item first_node p → IfOk (unrolled_clauses declared loops xs p) (KeptClauses vars first_item first_node)
+clauses_kept vars first_item first_node declared points loops xs =
+    items_keep (KeptClauses vars first_item first_node) (BranchesHave HasSmallPowers) clause_once declared (kept_same (IsFlatClause vars) clause_items clause_nodes first_item first_node)
+    (λ ls bs s p h. one_clause_kept vars first_item first_node declared points ls bs s.0 s.1 p h) loops (trees.clause_items xs)

@@ -1,28 +1,29 @@
 -- If no limit is exceeded, the result of unrolling is the lists by recursion on the tree.
 use Rattle.mu_unroll.proofs.Common
-use Common.{[], ℕ, ℤ, ◌++◌, ◌+ℤ◌, ◌+◌, ◌^◌, ◌∙◌, ◌∷◌, ◌≡◌, Algebraic, ap, append-nil, append_assoc}
-use Common.{Assign, assign_to, bind_result, Bool, bounds_of, Branches, BranchTree, clause_then}
-use Common.{clauses_of, ClauseTree, ClauseTrees, constant_value, constants_in, Counts, declared_in}
-use Common.{Derivative, EachClause, EachEquation, EachStatement, equation_for, equation_then}
-use Common.{equations_of, EquationTree, EquationTrees, Err, Expression, false, FlatAction}
+use Common.{[], ℕ, ℤ, ◌++◌, ◌+ℤ◌, ◌+◌, ◌^◌, ◌∙◌, ◌∷◌, ◌≡◌, ap, append-nil, append_assoc, assign_to}
+use Common.{bind_result, Bool, bounds_of, BranchTree, clause_once, clauses_of, ClauseTrees}
+use Common.{constant_value, constants_in, Counts, declared_in, Each, equation_for, equation_items}
+use Common.{equation_once, equations_of, EquationTrees, Err, Expression, false, FlatAction}
 use Common.{FlatBranchTree, FlatEquationTree, FlatExpression, FlatModelTree, flattened}
-use Common.{FlatVariable, found, Fraction, IfOk, if◌then◌else◌, inside, Known, List, listed, looped}
-use Common.{LoopVar, meant_in, ModelTree, NameDenotation, nat_lt, no_clauses, no_counts}
-use Common.{no_equations, no_statements, node_count, None, number_of_kind, Ok, one_start, Option}
-use Common.{pos, Progress, progress, Range, Reference, refl, repeated, ResolvedReference, Restart}
-use Common.{restart_of, Result, Rounds, rounds_from, scalar_count, scalars_in, Some, statement_then}
-use Common.{statements_of, StatementTree, StatementTrees, suc, sym, TooMany, true, unrolled}
-use Common.{unrolled_branch, unrolled_branches, unrolled_clause, unrolled_clauses}
-use Common.{unrolled_equation, unrolled_equations, unrolled_start, unrolled_starts}
-use Common.{unrolled_statement, unrolled_statements, unrolled_with, UnrollErr, with_item}
-use Common.{with_maybe, with_more, with_round, with_start, zero}
+use Common.{FlatVariable, found, Fraction, IfOk, if◌then◌else◌, inside, item_then, Known, List}
+use Common.{listed, looped, LoopVar, meant_in, ModelTree, NameDenotation, nat_lt, NestTree}
+use Common.{NestTrees, no_counts, no_items, node_count, None, number_of_kind, Ok, One}
+use Common.{one_statement, Option, pos, Progress, progress, Range, Reference, refl, repeated}
+use Common.{ResolvedReference, restart_of, Result, Rounds, rounds_from, scalar_count, scalars_in}
+use Common.{Some, start_once, statement_items, statement_once, statements_of, StatementTrees, Step}
+use Common.{suc, sym, target_role, TooMany, true, unrolled, unrolled_branch, unrolled_branches}
+use Common.{unrolled_clauses, unrolled_equations, unrolled_item, unrolled_items, unrolled_starts}
+use Common.{unrolled_statements, unrolled_with, UnrollErr, with_item, with_maybe, with_more}
+use Common.{with_round, with_start, zero}
 use Rattle.std.specs.Prelude.{option_to_list}
-use Rattle.mu_unroll.specs.Listing.{StartValue, each_round, each_value, followed, listed_branches}
-use Rattle.mu_unroll.specs.Listing.{listed_clause, listed_clauses, listed_equation}
-use Rattle.mu_unroll.specs.Listing.{listed_equations, listed_start, listed_starts, listed_statement}
-use Rattle.mu_unroll.specs.Listing.{listed_statements, started, the_branch}
+use Rattle.mu_unroll.specs.Listing.{Listing, StartValue, clause_listing, each_round, each_value}
+use Rattle.mu_unroll.specs.Listing.{equation_listing, followed, listed_branches, listed_clauses}
+use Rattle.mu_unroll.specs.Listing.{listed_equations, listed_item, listed_items, listed_starts}
+use Rattle.mu_unroll.specs.Listing.{listed_statements, start_listing, started, statement_listing}
+use Rattle.mu_unroll.specs.Listing.{the_action, the_branch}
 use Rattle.mu_unroll.proofs.Faulty.{after}
 use Rattle.mu_unroll.proofs.Stepping.{any_answer, each_then, each_weaker, itself}
+use Rattle.mu_tree.specs.Nests as trees
 use Rattle.mu_tree.specs.declared.flat.FlatRole.TheVariants as flat_role
 
 -- a way to go on with a list
@@ -49,14 +50,19 @@ goes_on_then {X} {Y} join j before r s q p g h = record {
   done = h.done ∙ ap (λ xs. join xs h.made) g.done ∙ sym (j.more before g.made h.made);
 }
 
+-- one item, and then those after it
+items_go_on : {X Y : Type 0} (join : List X → List Y → List X) → IsJoin join → (one rest : Progress X → Result (Progress X) UnrollErr) (r s : Result (List Y) UnrollErr)
+    → ((p : Progress X) → IfOk (one p) (GoesOn join p.done r)) → ((q : Progress X) → IfOk (rest q) (GoesOn join q.done s)) → (p : Progress X) → IfOk (bind_result (one p) (λ q. rest q)) (GoesOn join p.done (followed r s))
+items_go_on {X} {Y} join j one rest r s first others p =
+    each_then (GoesOn join p.done r) (GoesOn join p.done (followed r s)) (one p) (λ q. rest q) (first p) (λ q g.
+    each_weaker (GoesOn join q.done s) (GoesOn join p.done (followed r s)) (rest q) (λ t h. goes_on_then join j p.done r s q t g h) (others q))
+
 repeated_goes_on : {X Y : Type 0} (join : List X → List Y → List X) → IsJoin join → (once : ℤ → Progress X → Result (Progress X) UnrollErr) (one : ℤ → Result (List Y) UnrollErr)
     → ((i : ℤ) (p : Progress X) → IfOk (once i p) (GoesOn join p.done (one i))) → (i : ℤ) (rounds : ℕ) (p : Progress X) → IfOk (repeated once i rounds p) (GoesOn join p.done (each_round one i rounds))
 repeated_goes_on {X} {Y} join j once one step i zero p = goes_on_none join j p.done p.counts
 repeated_goes_on {X} {Y} join j once one step i (suc more) p =
     each_then (λ (_ : Counts). Unit {0}) (GoesOn join p.done (each_round one i (suc more))) (with_round p.counts) (λ c. bind_result (once i (progress p.done c)) (λ q. repeated once (i +ℤ pos 1) more q)) (any_answer (with_round p.counts)) (λ c _.
-    each_then (GoesOn join p.done (one i)) (GoesOn join p.done (each_round one i (suc more))) (once i (progress p.done c)) (λ q. repeated once (i +ℤ pos 1) more q) (step i (progress p.done c)) (λ q g.
-    each_weaker (GoesOn join q.done (each_round one (i +ℤ pos 1) more)) (GoesOn join p.done (each_round one i (suc more))) (repeated once (i +ℤ pos 1) more q) (λ s h. goes_on_then join j p.done (one i) (each_round one (i +ℤ pos 1) more) q s g h)
-    (repeated_goes_on join j once one step (i +ℤ pos 1) more q)))
+    items_go_on join j (once i) (λ q. repeated once (i +ℤ pos 1) more q) (one i) (each_round one (i +ℤ pos 1) more) (step i) (λ q. repeated_goes_on join j once one step (i +ℤ pos 1) more q) (progress p.done c))
 
 loop_goes_on : {X Y : Type 0} (join : List X → List Y → List X) → IsJoin join → (known : List ℕ → NameDenotation) (range : Range) (once : ℤ → Progress X → Result (Progress X) UnrollErr) (one : ℤ → Result (List Y) UnrollErr)
     → ((i : ℤ) (p : Progress X) → IfOk (once i p) (GoesOn join p.done (one i))) → (p : Progress X) → IfOk (looped known range once p) (GoesOn join p.done (each_value known range one))
@@ -91,35 +97,33 @@ item_goes_on {X} in_clause known target e make p =
     (sym (after (found known target) (λ u. bind_result (flattened in_clause known e) (λ g. Ok (option_to_list (make u g)))) t is_t ∙ after (flattened in_clause known e) (λ g. Ok (option_to_list (make t g))) f is_f))
     (maybe_goes_on p c (make t f)))))
 
-mutual
-  equation_listed : (declared : List ℕ → NameDenotation) (loops : List LoopVar) (e : EquationTree) (p : Progress FlatEquationTree) → IfOk (unrolled_equation declared loops e p) (GoesOn appended p.done (listed_equation declared loops e))
-  equation_listed declared loops (Derivative target e) p = item_goes_on false (meant_in loops declared) target e (λ t f. equation_for true (number_of_kind flat_role.State t) f) p
-  equation_listed declared loops (Algebraic target e) p = item_goes_on false (meant_in loops declared) target e (λ t f. equation_for false (number_of_kind flat_role.Algebraic t) f) p
-  equation_listed declared loops (EachEquation range body) p =
-      loop_goes_on appended append_join (meant_in loops declared) range (λ i q. unrolled_equations declared (inside loops range.var i) body q) (λ i. listed_equations declared (inside loops range.var i) body)
-      (λ i q. equations_listed declared (inside loops range.var i) body q) p
+-- items inside loops
+module _ {L X Y : Type 0} (join : List X → List Y → List X) (j : IsJoin join) (one : L → Step X) (listing : L → Listing Y) (declared : List ℕ → NameDenotation)
+    (step : (loops : List LoopVar) (l : L) (p : Progress X) → IfOk (one l declared loops p) (GoesOn join p.done (listing l declared loops))) where
+  mutual
+    item_listed : (loops : List LoopVar) (x : NestTree L) (p : Progress X) → IfOk (unrolled_item one x declared loops p) (GoesOn join p.done (listed_item listing x declared loops))
+    item_listed loops (One l) p = step loops l p
+    item_listed loops (Each range body) p =
+        loop_goes_on join j (meant_in loops declared) range (λ i q. unrolled_items one body declared (inside loops range.var i) q) (λ i. listed_items listing body declared (inside loops range.var i))
+        (λ i q. items_listed (inside loops range.var i) body q) p
 
-  equations_listed : (declared : List ℕ → NameDenotation) (loops : List LoopVar) (es : EquationTrees) (p : Progress FlatEquationTree) → IfOk (unrolled_equations declared loops es p) (GoesOn appended p.done (listed_equations declared loops es))
-  equations_listed declared loops no_equations p = goes_on_none appended append_join p.done p.counts
-  equations_listed declared loops (equation_then e es) p =
-      each_then (GoesOn appended p.done (listed_equation declared loops e)) (GoesOn appended p.done (listed_equations declared loops (equation_then e es))) (unrolled_equation declared loops e p) (λ q. unrolled_equations declared loops es q) (equation_listed declared loops e p) (λ q g.
-      each_weaker (GoesOn appended q.done (listed_equations declared loops es)) (GoesOn appended p.done (listed_equations declared loops (equation_then e es))) (unrolled_equations declared loops es q)
-      (λ s h. goes_on_then appended append_join p.done (listed_equation declared loops e) (listed_equations declared loops es) q s g h) (equations_listed declared loops es q))
+    items_listed : (loops : List LoopVar) (xs : NestTrees L) (p : Progress X) → IfOk (unrolled_items one xs declared loops p) (GoesOn join p.done (listed_items listing xs declared loops))
+    items_listed loops no_items p = goes_on_none join j p.done p.counts
+    items_listed loops (item_then x xs) p =
+        items_go_on join j (unrolled_item one x declared loops) (unrolled_items one xs declared loops) (listed_item listing x declared loops) (listed_items listing xs declared loops) (item_listed loops x) (items_listed loops xs) p
 
-mutual
-  statement_listed : (declared : List ℕ → NameDenotation) (loops : List LoopVar) (x : StatementTree) (p : Progress FlatAction) → IfOk (unrolled_statement declared loops x p) (GoesOn appended p.done (listed_statement declared loops x))
-  statement_listed declared loops (Assign target e) p = item_goes_on true (meant_in loops declared) target e (λ t f. assign_to (number_of_kind flat_role.Discrete t) f) p
-  statement_listed declared loops (Restart target e) p = item_goes_on true (meant_in loops declared) target e (λ t f. restart_of (number_of_kind flat_role.State t) f) p
-  statement_listed declared loops (EachStatement range body) p =
-      loop_goes_on appended append_join (meant_in loops declared) range (λ i q. unrolled_statements declared (inside loops range.var i) body q) (λ i. listed_statements declared (inside loops range.var i) body)
-      (λ i q. statements_listed declared (inside loops range.var i) body q) p
+equations_listed : (declared : List ℕ → NameDenotation) (loops : List LoopVar) (es : EquationTrees) (p : Progress FlatEquationTree) → IfOk (unrolled_equations declared loops es p) (GoesOn appended p.done (listed_equations declared loops es))
+equations_listed declared loops es =
+    items_listed appended append_join equation_once equation_listing declared (λ ls e p. item_goes_on false (meant_in ls declared) e.target e.value (λ t f. equation_for e.der (number_of_kind (target_role e.der) t) f) p) loops (equation_items es)
 
-  statements_listed : (declared : List ℕ → NameDenotation) (loops : List LoopVar) (xs : StatementTrees) (p : Progress FlatAction) → IfOk (unrolled_statements declared loops xs p) (GoesOn appended p.done (listed_statements declared loops xs))
-  statements_listed declared loops no_statements p = goes_on_none appended append_join p.done p.counts
-  statements_listed declared loops (statement_then x xs) p =
-      each_then (GoesOn appended p.done (listed_statement declared loops x)) (GoesOn appended p.done (listed_statements declared loops (statement_then x xs))) (unrolled_statement declared loops x p) (λ q. unrolled_statements declared loops xs q) (statement_listed declared loops x p) (λ q g.
-      each_weaker (GoesOn appended q.done (listed_statements declared loops xs)) (GoesOn appended p.done (listed_statements declared loops (statement_then x xs))) (unrolled_statements declared loops xs q)
-      (λ s h. goes_on_then appended append_join p.done (listed_statement declared loops x) (listed_statements declared loops xs) q s g h) (statements_listed declared loops xs q))
+statements_listed : (declared : List ℕ → NameDenotation) (loops : List LoopVar) (xs : StatementTrees) (p : Progress FlatAction) → IfOk (unrolled_statements declared loops xs p) (GoesOn appended p.done (listed_statements declared loops xs))
+statements_listed declared loops xs =
+    items_listed appended append_join statement_once statement_listing declared (λ ls s p. step (meant_in ls declared) s.target s.value p s.restart) loops (statement_items xs)
+  where
+    step : (known : List ℕ → NameDenotation) (target : Reference) (e : Expression) (p : Progress FlatAction) (restart : Bool)
+        → IfOk (one_statement restart known target e p) (GoesOn appended p.done (if restart then the_action restart_of flat_role.State known target e else the_action assign_to flat_role.Discrete known target e))
+    step known target e p true = item_goes_on true known target e (λ t f. restart_of (number_of_kind flat_role.State t) f) p
+    step known target e p false = item_goes_on true known target e (λ t f. assign_to (number_of_kind flat_role.Discrete t) f) p
 
 branch_listed : (declared : List ℕ → NameDenotation) (loops : List LoopVar) (b : BranchTree) (p : Progress FlatBranchTree) → IfOk (unrolled_branch declared loops b p) (GoesOn appended p.done (the_branch declared loops b))
 branch_listed declared loops b p =
@@ -150,29 +154,17 @@ branch_listed declared loops b p =
 branches_listed : (declared : List ℕ → NameDenotation) (loops : List LoopVar) (bs : List BranchTree) (p : Progress FlatBranchTree) → IfOk (unrolled_branches declared loops bs p) (GoesOn appended p.done (listed_branches declared loops bs))
 branches_listed declared loops [] p = goes_on_none appended append_join p.done p.counts
 branches_listed declared loops (b ∷ bs) p =
-    each_then (GoesOn appended p.done (the_branch declared loops b)) (GoesOn appended p.done (listed_branches declared loops (b ∷ bs))) (unrolled_branch declared loops b p) (λ q. unrolled_branches declared loops bs q) (branch_listed declared loops b p) (λ q g.
-    each_weaker (GoesOn appended q.done (listed_branches declared loops bs)) (GoesOn appended p.done (listed_branches declared loops (b ∷ bs))) (unrolled_branches declared loops bs q)
-    (λ s h. goes_on_then appended append_join p.done (the_branch declared loops b) (listed_branches declared loops bs) q s g h) (branches_listed declared loops bs q))
+    items_go_on appended append_join (unrolled_branch declared loops b) (unrolled_branches declared loops bs) (the_branch declared loops b) (listed_branches declared loops bs) (branch_listed declared loops b) (branches_listed declared loops bs) p
 
-mutual
-  clause_listed : (declared : List ℕ → NameDenotation) (loops : List LoopVar) (x : ClauseTree) (p : Progress (List FlatBranchTree)) → IfOk (unrolled_clause declared loops x p) (GoesOn appended p.done (listed_clause declared loops x))
-  clause_listed declared loops (Branches bs) p =
-      each_then (GoesOn appended [] (listed_branches declared loops bs)) (GoesOn appended p.done (listed_clause declared loops (Branches bs))) (unrolled_branches declared loops bs (progress [] p.counts)) (λ q. Ok (with_more p q.counts q.done)) (branches_listed declared loops bs (progress [] p.counts)) (λ q g.
-      record {
-        made = q.done ∷ [];
-        is = after (listed_branches declared loops bs) (λ xs. Ok (xs ∷ [])) g.made g.is ∙ ap (λ xs. Ok (xs ∷ [])) (sym g.done);
-        done = refl;
-      })
-  clause_listed declared loops (EachClause range body) p =
-      loop_goes_on appended append_join (meant_in loops declared) range (λ i q. unrolled_clauses declared (inside loops range.var i) body q) (λ i. listed_clauses declared (inside loops range.var i) body)
-      (λ i q. clauses_listed declared (inside loops range.var i) body q) p
-
-  clauses_listed : (declared : List ℕ → NameDenotation) (loops : List LoopVar) (xs : ClauseTrees) (p : Progress (List FlatBranchTree)) → IfOk (unrolled_clauses declared loops xs p) (GoesOn appended p.done (listed_clauses declared loops xs))
-  clauses_listed declared loops no_clauses p = goes_on_none appended append_join p.done p.counts
-  clauses_listed declared loops (clause_then x xs) p =
-      each_then (GoesOn appended p.done (listed_clause declared loops x)) (GoesOn appended p.done (listed_clauses declared loops (clause_then x xs))) (unrolled_clause declared loops x p) (λ q. unrolled_clauses declared loops xs q) (clause_listed declared loops x p) (λ q g.
-      each_weaker (GoesOn appended q.done (listed_clauses declared loops xs)) (GoesOn appended p.done (listed_clauses declared loops (clause_then x xs))) (unrolled_clauses declared loops xs q)
-      (λ s h. goes_on_then appended append_join p.done (listed_clause declared loops x) (listed_clauses declared loops xs) q s g h) (clauses_listed declared loops xs q))
+clauses_listed : (declared : List ℕ → NameDenotation) (loops : List LoopVar) (xs : ClauseTrees) (p : Progress (List FlatBranchTree)) → IfOk (unrolled_clauses declared loops xs p) (GoesOn appended p.done (listed_clauses declared loops xs))
+clauses_listed declared loops xs =
+    items_listed appended append_join clause_once clause_listing declared (λ ls bs p.
+    each_then (GoesOn appended [] (listed_branches declared ls bs)) (GoesOn appended p.done (clause_listing bs declared ls)) (unrolled_branches declared ls bs (progress [] p.counts)) (λ q. Ok (with_more p q.counts q.done)) (branches_listed declared ls bs (progress [] p.counts)) (λ q g.
+    record {
+      made = q.done ∷ [];
+      is = after (listed_branches declared ls bs) (λ xs. Ok (xs ∷ [])) g.made g.is ∙ ap (λ xs. Ok (xs ∷ [])) (sym g.done);
+      done = refl;
+    })) loops (trees.clause_items xs)
 
 -- start values that are assigned one after another
 started_more : (vars : List FlatVariable) (ss ts : List StartValue) → started vars (ss ++ ts) ≡ started (started vars ss) ts
@@ -182,11 +174,12 @@ started_more vars (s ∷ ss) ts = started_more (with_start vars s.target s.value
 start_join : IsJoin started
 start_join = record { none = λ vars. refl; more = started_more }
 
-one_start_listed : (declared : List ℕ → NameDenotation) (loops : List LoopVar) (target : Reference) (e : Expression) (p : Progress FlatVariable)
-    → IfOk (one_start (meant_in loops declared) target e p) (GoesOn started p.done (listed_start declared loops (Assign target e)))
-one_start_listed declared loops target e p =
+one_start_listed : (declared : List ℕ → NameDenotation) (loops : List LoopVar) (target : Reference) (e : Expression) (p : Progress FlatVariable) (restart : Bool)
+    → IfOk (start_once (record { restart = restart; target = target; value = e }) declared loops p) (GoesOn started p.done (start_listing (record { restart = restart; target = target; value = e }) declared loops))
+one_start_listed declared loops target e p true = goes_on_none started start_join p.done p.counts
+one_start_listed declared loops target e p false =
     let known : List ℕ → NameDenotation = meant_in loops declared in
-    let G : Progress FlatVariable → Type 0 = GoesOn started p.done (listed_start declared loops (Assign target e)) in
+    let G : Progress FlatVariable → Type 0 = GoesOn started p.done (start_listing (record { restart = false; target = target; value = e }) declared loops) in
     let value : Result Fraction UnrollErr = constant_value (constants_in known) e in
     each_then (λ (_ : Counts). Unit {0}) G (with_item p.counts 0) (λ c. bind_result (found known target) (λ t. bind_result value (λ a. Ok (progress (with_start p.done t a) c)))) (any_answer (with_item p.counts 0)) (λ c _.
     each_then (λ t. found known target ≡ Ok t) G (found known target) (λ t. bind_result value (λ a. Ok (progress (with_start p.done t a) c))) (itself (found known target)) (λ t is_t.
@@ -197,20 +190,8 @@ one_start_listed declared loops target e p =
       done = refl;
     })))
 
-mutual
-  start_listed : (declared : List ℕ → NameDenotation) (loops : List LoopVar) (x : StatementTree) (p : Progress FlatVariable) → IfOk (unrolled_start declared loops x p) (GoesOn started p.done (listed_start declared loops x))
-  start_listed declared loops (Assign target e) p = one_start_listed declared loops target e p
-  start_listed declared loops (Restart target e) p = goes_on_none started start_join p.done p.counts
-  start_listed declared loops (EachStatement range body) p =
-      loop_goes_on started start_join (meant_in loops declared) range (λ i q. unrolled_starts declared (inside loops range.var i) body q) (λ i. listed_starts declared (inside loops range.var i) body)
-      (λ i q. starts_listed declared (inside loops range.var i) body q) p
-
-  starts_listed : (declared : List ℕ → NameDenotation) (loops : List LoopVar) (xs : StatementTrees) (p : Progress FlatVariable) → IfOk (unrolled_starts declared loops xs p) (GoesOn started p.done (listed_starts declared loops xs))
-  starts_listed declared loops no_statements p = goes_on_none started start_join p.done p.counts
-  starts_listed declared loops (statement_then x xs) p =
-      each_then (GoesOn started p.done (listed_start declared loops x)) (GoesOn started p.done (listed_starts declared loops (statement_then x xs))) (unrolled_start declared loops x p) (λ q. unrolled_starts declared loops xs q) (start_listed declared loops x p) (λ q g.
-      each_weaker (GoesOn started q.done (listed_starts declared loops xs)) (GoesOn started p.done (listed_starts declared loops (statement_then x xs))) (unrolled_starts declared loops xs q)
-      (λ s h. goes_on_then started start_join p.done (listed_start declared loops x) (listed_starts declared loops xs) q s g h) (starts_listed declared loops xs q))
+starts_listed : (declared : List ℕ → NameDenotation) (loops : List LoopVar) (xs : StatementTrees) (p : Progress FlatVariable) → IfOk (unrolled_starts declared loops xs p) (GoesOn started p.done (listed_starts declared loops xs))
+starts_listed declared loops xs = items_listed started start_join start_once start_listing declared (λ ls s p. one_start_listed declared ls s.target s.value p s.restart) loops (statement_items xs)
 
 abbrev tree : List FlatVariable → List FlatEquationTree → List (List FlatBranchTree) → FlatModelTree
 tree vars equations clauses = record { vars = vars; equations = equations; clauses = clauses }

@@ -1,19 +1,18 @@
 -- The roles of the scalar variables by number, and the variables that names stand for.
 use Rattle.mu_unroll.proofs.Common
-use Common.{[], ℕ, ◌++◌, ◌+◌, ◌<◌, ◌∙◌, ◌∷◌, ◌≡◌, ◌≤◌, ap, append-nil, append_assoc, ap₂, arith}
-use Common.{Bool, bytes_eq, Constant, count_of_kind, declared_in, Discrete, elements_from, false}
-use Common.{first_meant, first_of_kind, FlatRole, FlatVariable, Fraction, get_or as slice_index_or}
-use Common.{has_kind, HasRole, if◌then◌else◌, kind_of, Known, length, length-append, List}
-use Common.{loop_value, LoopVar, map, map-append, meant_after, meant_in, NameDenotation, None}
-use Common.{Nothing, Option, refl, scalar, scalars_in, scalars_of_kind, slice_get, Some, State}
-use Common.{subst, suc, sym, true, unwrap_or, Variable, width, zero}
+use Common.{[], ℕ, ◌++◌, ◌+◌, ◌<◌, ◌∙◌, ◌∷◌, ◌≡◌, ◌≤◌, Algebraic, ap, append-nil, ap₂, arith, Bool}
+use Common.{Constant, count_of_kind, declared_in, Discrete, elements_from, false, first_of_kind}
+use Common.{FlatRole, FlatVariable, Fraction, get_or as slice_index_or, has_kind, HasRole}
+use Common.{if◌then◌else◌, kind_of, Known, length, length-append, List, loop_value, LoopVar, map}
+use Common.{map-append, meant_after, meant_in, NameDenotation, None, Nothing, Option, refl, scalar}
+use Common.{scalars_in, scalars_of_kind, slice_get, Some, State, subst, suc, sym, true, Variable}
+use Common.{width, zero}
 use Rattle.std.proofs.Common.{replicate, le_trans, le_refl}
 use Rattle.std.specs.List.Sorted.{IsNonDecreasing}
 use Rattle.std.proofs.lemmas.List.{replicate-append-replicate, length-replicate}
-use Rattle.mu_tree.specs.declared.flat.FlatRole.TheVariants.{Algebraic}
 use Rattle.mu_tree.specs.FlatModels.{rank}
 use Rattle.mu_unroll.specs.VariablePlaces.{scalars_of}
-use Rattle.mu_unroll.proofs.Placing.{count-append, count-one, width_of}
+use Rattle.mu_unroll.proofs.Placing.{declared_have, room_for}
 
 -- the roles of variables
 abbrev pub roles_of : List FlatVariable → List FlatRole
@@ -116,34 +115,13 @@ point_one all before rest k e = by_kind (kind_of k.role) refl
     by_kind : (o : Option FlatRole) → kind_of k.role ≡ o → PointsTo (in_kinds (count_of_kind State all) (count_of_kind Discrete all) (count_of_kind Algebraic all)) (elim o as (λ _. NameDenotation) [ None ↦ Constant k.value | Some kind ↦ Variable kind (first_of_kind kind all + count_of_kind kind before) k.size ])
     by_kind None is = tt
     by_kind (Some kind) is = λ i h.
-        let whole : count_of_kind kind all ≡ count_of_kind kind before + (count_of_kind kind (k ∷ []) + count_of_kind kind rest) =
-        ap (count_of_kind kind) e ∙ count-append kind before (k ∷ rest) ∙ ap (λ c. count_of_kind kind before + c) (count-append kind (k ∷ []) rest) in
-        kind_at all kind ((first_of_kind kind all + count_of_kind kind before) + i) (count_of_kind kind before + i) (omega arith) (omega (arith, count-one kind k, width_of kind k is))
-
-abbrev PointsHere : List FlatRole → Option NameDenotation → Type 0
-PointsHere rs None = Unit {0}
-PointsHere rs (Some m) = PointsTo rs m
-
-point_from : (all before ks : List Known) (name : List ℕ) → all ≡ before ++ ks → PointsHere (in_kinds (count_of_kind State all) (count_of_kind Discrete all) (count_of_kind Algebraic all)) (first_meant all before ks name)
-point_from all before [] name e = tt
-point_from all before (k ∷ ks) name e =
-    by_test (bytes_eq k.name name) (point_one all before ks k e) (point_from all (before ++ k ∷ []) ks name (e ∙ sym (append_assoc before (k ∷ []) ks)))
-  where
-    by_test : (t : Bool) → PointsTo (in_kinds (count_of_kind State all) (count_of_kind Discrete all) (count_of_kind Algebraic all)) (meant_after all before k) → PointsHere (in_kinds (count_of_kind State all) (count_of_kind Discrete all) (count_of_kind Algebraic all)) (first_meant all (before ++ k ∷ []) ks name)
-        → PointsHere (in_kinds (count_of_kind State all) (count_of_kind Discrete all) (count_of_kind Algebraic all)) (if t then Some (meant_after all before k) else first_meant all (before ++ k ∷ []) ks name)
-    by_test true here later = here
-    by_test false here later = later
+        kind_at all kind ((first_of_kind kind all + count_of_kind kind before) + i) (count_of_kind kind before + i) (omega arith) (omega (arith, room_for all before rest k kind e is))
 
 -- each declared name denotes variables with its role
 pub all_point : (ks : List Known) → AllPoint (roles_of (scalars_in ks)) (declared_in ks)
-all_point ks = subst (λ rs. AllPoint rs (declared_in ks)) (sym (all_roles ks)) points
-  where
-    here : (rs : List FlatRole) (o : Option NameDenotation) → PointsHere rs o → PointsTo rs (unwrap_or o Nothing)
-    here rs None p = tt
-    here rs (Some m) p = p
-
-    points : AllPoint (in_kinds (count_of_kind State ks) (count_of_kind Discrete ks) (count_of_kind Algebraic ks)) (declared_in ks)
-    points name = here (in_kinds (count_of_kind State ks) (count_of_kind Discrete ks) (count_of_kind Algebraic ks)) (first_meant ks [] ks name) (point_from ks [] ks name refl)
+all_point ks =
+    subst (λ rs. AllPoint rs (declared_in ks)) (sym (all_roles ks))
+    (declared_have (PointsTo (in_kinds (count_of_kind State ks) (count_of_kind Discrete ks) (count_of_kind Algebraic ks))) ks tt (λ before rest k e. point_one ks before rest k e))
 
 -- and so does each name inside loops
 pub points_inside : (rs : List FlatRole) (loops : List LoopVar) (declared : List ℕ → NameDenotation) → AllPoint rs declared → AllPoint rs (meant_in loops declared)

@@ -1,15 +1,14 @@
 -- Where the variables of declared names stand.
 use Rattle.mu_unroll.proofs.Common
-use Common.{[], ℕ, ◌++◌, ◌+◌, ◌-◌, ◌<◌, ◌∙◌, ◌∷◌, ◌≡◌, ◌≤◌, add-one, added_at, ap, append-nil}
-use Common.{append_assoc, ArePlaced, arith, Bool, bytes_eq, Constant, count_of_kind, declared_in}
-use Common.{Discrete, drop, element_name, elements_from, false, first_meant, first_of_kind}
-use Common.{FlatRole, get_or, has_kind, if◌then◌else◌, kind_of, Known, length, List, meant_after}
-use Common.{NameDenotation, next_number, None, Nothing, Option, refl, scalar, scalar_count, Some}
-use Common.{State, suc, sym, take, take-suc, true, unwrap_or, Variable, width}
+use Common.{[], ℕ, ◌++◌, ◌+◌, ◌-◌, ◌<◌, ◌∙◌, ◌∷◌, ◌≡◌, ◌≤◌, add-one, added_at, Algebraic, ap}
+use Common.{append-nil, append_assoc, ArePlaced, arith, Bool, bytes_eq, Constant, count_of_kind}
+use Common.{declared_in, Discrete, drop, element_name, elements_from, false, first_meant}
+use Common.{first_of_kind, FlatRole, get_or, has_kind, if◌then◌else◌, kind_of, Known, length, List}
+use Common.{meant_after, NameDenotation, next_number, None, Nothing, Option, refl, scalar}
+use Common.{scalar_count, Some, State, suc, sym, take, take-suc, true, unwrap_or, Variable, width}
 use Rattle.std.specs.Option.{option_or}
 use Rattle.std.proofs.Math.Path.{fun_ext}
 use Rattle.std.proofs.lemmas.List.{take-append-drop}
-use Rattle.mu_tree.specs.declared.flat.FlatRole.TheVariants.{Algebraic}
 use Rattle.mu_unroll.specs.declared.flat_variables.Next.{Next}
 use Rattle.mu_unroll.specs.Nexts.{next_after, meant_at_next, after_known}
 use Rattle.mu_unroll.specs.VariablePlaces.{IsPlaced, is_kind}
@@ -112,34 +111,35 @@ taken_more ks i k h e = rw (add-one, take-suc ks i k h, ← e) refl
 pub count-take : (kind : FlatRole) (ks : List Known) (i : ℕ) → count_of_kind kind (take i ks) ≤ count_of_kind kind ks
 count-take kind ks i = omega (arith, sym (count-append kind (take i ks) (drop i ks)) ∙ ap (count_of_kind kind) (take-append-drop i ks))
 
--- the variables of a name are in range
-abbrev pub IsPlacedHere : ℕ → Option NameDenotation → Type 0
-IsPlacedHere n None = Unit {0}
-IsPlacedHere n (Some m) = IsPlaced n m
+-- the variables of a name are among those of its kind
+pub room_for : (all before rest : List Known) (k : Known) (kind : FlatRole) → all ≡ before ++ k ∷ rest → kind_of k.role ≡ Some kind → count_of_kind kind before + width k.size ≤ count_of_kind kind all
+room_for all before rest k kind e is =
+    let whole : count_of_kind kind all ≡ count_of_kind kind before + (count_of_kind kind (k ∷ []) + count_of_kind kind rest) =
+    ap (count_of_kind kind) e ∙ count-append kind before (k ∷ rest) ∙ ap (λ c. count_of_kind kind before + c) (count-append kind (k ∷ []) rest) in
+    omega (arith, count-one kind k, width_of kind k is)
 
+-- what holds of the denotation by each declaration holds of what a name denotes
+module _ (P : NameDenotation → Type 0) (all : List Known) (nothing : P Nothing) (each : (before rest : List Known) (k : Known) → all ≡ before ++ k ∷ rest → P (meant_after all before k)) where
+  declared_from : (before ks : List Known) (name : List ℕ) → all ≡ before ++ ks → P (unwrap_or (first_meant all before ks name) Nothing)
+  declared_from before [] name e = nothing
+  declared_from before (k ∷ ks) name e =
+      by_test (bytes_eq k.name name) (declared_from (before ++ k ∷ []) ks name (e ∙ sym (append_assoc before (k ∷ []) ks)))
+    where
+      by_test : (t : Bool) → P (unwrap_or (first_meant all (before ++ k ∷ []) ks name) Nothing) → P (unwrap_or (if t then Some (meant_after all before k) else first_meant all (before ++ k ∷ []) ks name) Nothing)
+      by_test true later = each before ks k e
+      by_test false later = later
+
+  pub declared_have : (name : List ℕ) → P (declared_in all name)
+  declared_have name = declared_from [] all name refl
+
+-- the variables of a name are in range
 placed_one : (n : ℕ) (all before rest : List Known) (k : Known) → all ≡ before ++ k ∷ rest → scalar_count all ≤ n → IsPlaced n (meant_after all before k)
 placed_one n all before rest k e h = by_kind (kind_of k.role) refl
   where
     by_kind : (o : Option FlatRole) → kind_of k.role ≡ o → IsPlaced n (elim o as (λ _. NameDenotation) [ None ↦ Constant k.value | Some kind ↦ Variable kind (first_of_kind kind all + count_of_kind kind before) k.size ])
     by_kind None is = tt
-    by_kind (Some kind) is =
-        let whole : count_of_kind kind all ≡ count_of_kind kind before + (count_of_kind kind (k ∷ []) + count_of_kind kind rest) =
-        ap (count_of_kind kind) e ∙ count-append kind before (k ∷ rest) ∙ ap (λ c. count_of_kind kind before + c) (count-append kind (k ∷ []) rest) in
-        omega (arith, within_all kind all, count-one kind k, width_of kind k is)
-
-placed_from : (n : ℕ) (all before ks : List Known) (name : List ℕ) → all ≡ before ++ ks → scalar_count all ≤ n → IsPlacedHere n (first_meant all before ks name)
-placed_from n all before [] name e h = tt
-placed_from n all before (k ∷ ks) name e h =
-    by_test (bytes_eq k.name name) (placed_one n all before ks k e h) (placed_from n all (before ++ k ∷ []) ks name (e ∙ sym (append_assoc before (k ∷ []) ks)) h)
-  where
-    by_test : (t : Bool) → IsPlaced n (meant_after all before k) → IsPlacedHere n (first_meant all (before ++ k ∷ []) ks name) → IsPlacedHere n (if t then Some (meant_after all before k) else first_meant all (before ++ k ∷ []) ks name)
-    by_test true here later = here
-    by_test false here later = later
+    by_kind (Some kind) is = omega (arith, within_all kind all, room_for all before rest k kind e is)
 
 -- all names are placed
 pub all_placed : (ks : List Known) → scalar_count ks ≤ 4096 → ArePlaced 4096 (declared_in ks)
-all_placed ks h name = here (first_meant ks [] ks name) (placed_from 4096 ks [] ks name refl h)
-  where
-    here : (o : Option NameDenotation) → IsPlacedHere 4096 o → IsPlaced 4096 (unwrap_or o Nothing)
-    here None p = tt
-    here (Some m) p = p
+all_placed ks h = declared_have (IsPlaced 4096) ks tt (λ before rest k e. placed_one 4096 ks before rest k e h)

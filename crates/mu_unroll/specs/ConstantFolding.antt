@@ -42,29 +42,24 @@ pub record IsSameReference (declared : List ℕ → NameDenotation) (r s : Refer
       → found (meant_in loops declared) r ≡ found (meant_in loops declared) s
   pub place : place_of r ≡ place_of s
 
--- two expressions have the same flat expression or fault, and equally many nodes, in all loops that
--- hide no declared constant
-pub record IsSameExpression (declared : List ℕ → NameDenotation) (e f : Expression) : Type 0 where
+-- two parts of expressions have the same flat part or fault, and equally many nodes, in all loops
+-- that hide no declared constant
+pub record IsSameFlat {P F : Type 0}
+    (flat : Bool → (List ℕ → NameDenotation) → P → Result F UnrollErr) (count : P → ℕ)
+    (declared : List ℕ → NameDenotation) (p q : P) : Type 0 where
   pub in_loops : (loops : List LoopVar) → HidesNoConstant declared loops → (in_clause : Bool)
-      → flattened in_clause (meant_in loops declared) e
-      ≡ flattened in_clause (meant_in loops declared) f
-  pub nodes : node_count e ≡ node_count f
+      → flat in_clause (meant_in loops declared) p ≡ flat in_clause (meant_in loops declared) q
+  pub nodes : count p ≡ count q
 
--- two sums have the same flat sum or fault, and equally many nodes, in all loops that hide no
--- declared constant
-pub record IsSameTerms (declared : List ℕ → NameDenotation) (ts us : Terms) : Type 0 where
-  pub in_loops : (loops : List LoopVar) → HidesNoConstant declared loops → (in_clause : Bool)
-      → flattened_terms in_clause (meant_in loops declared) ts
-      ≡ flattened_terms in_clause (meant_in loops declared) us
-  pub nodes : term_nodes ts ≡ term_nodes us
+-- this holds of two expressions, of the terms of two sums, and of the factors of two products
+abbrev pub IsSameExpression : (List ℕ → NameDenotation) → Expression → Expression → Type 0
+IsSameExpression = IsSameFlat flattened node_count
 
--- two products have the same flat product or fault, and equally many nodes, in all loops that hide
--- no declared constant
-pub record IsSameFactors (declared : List ℕ → NameDenotation) (fs gs : Factors) : Type 0 where
-  pub in_loops : (loops : List LoopVar) → HidesNoConstant declared loops → (in_clause : Bool)
-      → flattened_factors in_clause (meant_in loops declared) fs
-      ≡ flattened_factors in_clause (meant_in loops declared) gs
-  pub nodes : factor_nodes fs ≡ factor_nodes gs
+abbrev pub IsSameTerms : (List ℕ → NameDenotation) → Terms → Terms → Type 0
+IsSameTerms = IsSameFlat flattened_terms term_nodes
+
+abbrev pub IsSameFactors : (List ℕ → NameDenotation) → Factors → Factors → Type 0
+IsSameFactors = IsSameFlat flattened_factors factor_nodes
 
 -- two steps have the same result, in all loops that hide no declared constant
 pub record IsSameStep {X : Type 0} (declared : List ℕ → NameDenotation)

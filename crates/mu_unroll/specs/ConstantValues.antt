@@ -1,5 +1,5 @@
 -- Values of constant expressions inside loops, or the first fault of a part.
-use Rattle.std.specs.Prelude.{ℕ, ℤ, pos, Bool, bytes_eq, nat_eq, if◌then◌else◌, List, [], ◌∷◌}
+use Rattle.std.specs.Prelude.{ℕ, ℤ, pos, nat_eq, if◌then◌else◌, List}
 use Rattle.std.specs.Prelude.{Option, Some, None, Result, Ok, Err}
 use Rattle.mu_num.specs.declared.NumErr.{NumErr}
 use Rattle.mu_num.specs.Fraction.{Fraction, whole}

@@ -3,18 +3,10 @@ use Rattle.std.specs.Prelude.{ℕ, List, map}
 use Rattle.std.specs.BTreeMap.{BTreeMap}
 use denote.Ref.{Bor}
 use Rattle.mu_tree.specs.Expression.{factors_of, scaled, signed, terms_of}
-use Rattle.mu_tree.specs.ModelTree.{branch, clause, clauses_of, equation, equations_of, statement}
-use Rattle.mu_tree.specs.ModelTree.{statements_of}
 use Rattle.mu_tree.specs.declared.expr.Factor.{Factor}
 use Rattle.mu_tree.specs.declared.expr.Term.{Term}
-use Rattle.mu_tree.specs.declared.tree.Branch.{Branch}
-use Rattle.mu_tree.specs.declared.tree.Clause.{Clause}
-use Rattle.mu_tree.specs.declared.tree.Equation.{Equation}
-use Rattle.mu_tree.specs.declared.tree.Statement.{Statement}
 use Rattle.mu_unroll.specs.declared.environment.NameDenotation.{NameDenotation}
-use Rattle.mu_unroll.specs.ConstantFolding.{IsSameBranches, IsSameClauses, IsSameEquations}
-use Rattle.mu_unroll.specs.ConstantFolding.{IsSameFactors, IsSameStarts, IsSameStatements}
-use Rattle.mu_unroll.specs.ConstantFolding.{IsSameTerms}
+use Rattle.mu_unroll.specs.ConstantFolding.{IsSameFactors, IsSameTerms}
 use Rattle.mu_unroll.specs.VariableTables.{meant_at}
 
 -- what declared names denote

@@ -1,6 +1,7 @@
 -- The flat model without limits, as lists that are defined by recursion on the syntax tree.
-use Rattle.std.specs.Prelude.{ℕ, ℤ, pos, ◌+ℤ◌, Bool, true, false, List, [], ◌∷◌, ◌++◌, Option, Some}
-use Rattle.std.specs.Prelude.{None, Result, Ok, Err, option_to_list}
+use Rattle.std.specs.Prelude.{ℕ, ℤ, pos, ◌+ℤ◌, Bool, if◌then◌else◌, true, false, List, [], ◌∷◌, ◌++◌}
+use Rattle.std.specs.Prelude.{Option}
+use Rattle.std.specs.Prelude.{Result, Ok, option_to_list}
 use Prim.Native.Nat.{zero, suc}
 use Rattle.mu_num.specs.Fraction.{Fraction}
 use Rattle.mu_tree.specs.declared.flat.FlatRole.{FlatRole}
@@ -9,12 +10,10 @@ use Rattle.mu_tree.specs.Expression.{Expression, Reference}
 use Rattle.mu_tree.specs.FlatExpression.{FlatExpression, FlatVariable, FlatEquationTree, FlatAction}
 use Rattle.mu_tree.specs.FlatExpression.{FlatBranchTree, FlatModelTree}
 use Rattle.mu_tree.specs.FlatModels.{target_role}
-use Rattle.mu_tree.specs.ModelTree.{Range, EquationTree, Derivative, Algebraic, EachEquation}
-use Rattle.mu_tree.specs.ModelTree.{EquationTrees, no_equations, equation_then, StatementTree}
-use Rattle.mu_tree.specs.ModelTree.{Assign, Restart, EachStatement, StatementTrees, no_statements}
-use Rattle.mu_tree.specs.ModelTree.{statement_then, BranchTree, ClauseTree, Branches, EachClause}
-use Rattle.mu_tree.specs.ModelTree.{ClauseTrees, no_clauses, clause_then, equations_of}
-use Rattle.mu_tree.specs.ModelTree.{statements_of, clauses_of, ModelTree}
+use Rattle.mu_tree.specs.ModelTree.{BranchTree, ClauseTrees, EquationTrees, ModelTree, Range}
+use Rattle.mu_tree.specs.ModelTree.{StatementTrees, clauses_of, equations_of, statements_of}
+use Rattle.mu_tree.specs.Nests.{Each, NestTree, NestTrees, One, OneEquation, OneStatement}
+use Rattle.mu_tree.specs.Nests.{clause_items, equation_items, item_then, no_items, statement_items}
 use Rattle.mu_names.specs.declared.declared_scope.Known.{Known}
 use Rattle.mu_unroll.specs.declared.unroll_fault.UnrollErr.{UnrollErr}
 use Rattle.mu_unroll.specs.declared.environment.ResolvedReference.{ResolvedReference}
@@ -45,32 +44,41 @@ abbrev pub the_equation : Bool → (List ℕ → NameDenotation) → Reference �
 the_equation der known target e =
     bind_result (found known target) (λ t. bind_result (flattened false known e) (λ f. Ok (option_to_list (equation_for der (number_of_kind (target_role der) t) f))))
 
-abbrev mutual
-  -- the flat equations of an equation inside loops
-  pub listed_equation : (List ℕ → NameDenotation) → List LoopVar → EquationTree → Result (List FlatEquationTree) UnrollErr
-  listed_equation declared loops (Derivative target e) = the_equation true (meant_in loops declared) target e
-  listed_equation declared loops (Algebraic target e) = the_equation false (meant_in loops declared) target e
-  listed_equation declared loops (EachEquation range body) = each_value (meant_in loops declared) range (λ i. listed_equations declared (inside loops range.var i) body)
+-- the results of an item inside loops
+abbrev pub Listing : Type 0 → Type 0
+Listing X = (List ℕ → NameDenotation) → List LoopVar → Result (List X) UnrollErr
 
-  pub listed_equations : (List ℕ → NameDenotation) → List LoopVar → EquationTrees → Result (List FlatEquationTree) UnrollErr
-  listed_equations declared loops no_equations = Ok []
-  listed_equations declared loops (equation_then e es) = followed (listed_equation declared loops e) (listed_equations declared loops es)
+abbrev mutual
+  -- the results of an item, where `one` gives those of an item that is no loop
+  pub listed_item : {L X : Type 0} → (L → Listing X) → NestTree L → Listing X
+  listed_item one (One l) declared loops = one l declared loops
+  listed_item one (Each range body) declared loops =
+      each_value (meant_in loops declared) range (λ i. listed_items one body declared (inside loops range.var i))
+
+  pub listed_items : {L X : Type 0} → (L → Listing X) → NestTrees L → Listing X
+  listed_items one no_items declared loops = Ok []
+  listed_items one (item_then x xs) declared loops = followed (listed_item one x declared loops) (listed_items one xs declared loops)
+
+-- the flat equations of equations inside loops
+abbrev pub equation_listing : OneEquation → Listing FlatEquationTree
+equation_listing e declared loops = the_equation e.der (meant_in loops declared) e.target e.value
+
+abbrev pub listed_equations : (List ℕ → NameDenotation) → List LoopVar → EquationTrees → Result (List FlatEquationTree) UnrollErr
+listed_equations declared loops es = listed_items equation_listing (equation_items es) declared loops
 
 -- one flat statement
 abbrev pub the_action : (Option ℕ → FlatExpression → Option FlatAction) → FlatRole → (List ℕ → NameDenotation) → Reference → Expression → Result (List FlatAction) UnrollErr
 the_action action kind known target e =
     bind_result (found known target) (λ t. bind_result (flattened true known e) (λ f. Ok (option_to_list (action (number_of_kind kind t) f))))
 
-abbrev mutual
-  -- the flat statements of a statement inside loops
-  pub listed_statement : (List ℕ → NameDenotation) → List LoopVar → StatementTree → Result (List FlatAction) UnrollErr
-  listed_statement declared loops (Assign target e) = the_action assign_to flat_role.Discrete (meant_in loops declared) target e
-  listed_statement declared loops (Restart target e) = the_action restart_of flat_role.State (meant_in loops declared) target e
-  listed_statement declared loops (EachStatement range body) = each_value (meant_in loops declared) range (λ i. listed_statements declared (inside loops range.var i) body)
+-- the flat statements of statements inside loops
+abbrev pub statement_listing : OneStatement → Listing FlatAction
+statement_listing s declared loops =
+    if s.restart then the_action restart_of flat_role.State (meant_in loops declared) s.target s.value
+    else the_action assign_to flat_role.Discrete (meant_in loops declared) s.target s.value
 
-  pub listed_statements : (List ℕ → NameDenotation) → List LoopVar → StatementTrees → Result (List FlatAction) UnrollErr
-  listed_statements declared loops no_statements = Ok []
-  listed_statements declared loops (statement_then x xs) = followed (listed_statement declared loops x) (listed_statements declared loops xs)
+abbrev pub listed_statements : (List ℕ → NameDenotation) → List LoopVar → StatementTrees → Result (List FlatAction) UnrollErr
+listed_statements declared loops ss = listed_items statement_listing (statement_items ss) declared loops
 
 -- the flat branch of a branch
 abbrev pub the_branch : (List ℕ → NameDenotation) → List LoopVar → BranchTree → Result (List FlatBranchTree) UnrollErr
@@ -84,32 +92,25 @@ abbrev pub listed_branches : (List ℕ → NameDenotation) → List LoopVar → 
 listed_branches declared loops [] = Ok []
 listed_branches declared loops (b ∷ bs) = followed (the_branch declared loops b) (listed_branches declared loops bs)
 
-abbrev mutual
-  -- the flat clauses of a clause inside loops
-  pub listed_clause : (List ℕ → NameDenotation) → List LoopVar → ClauseTree → Result (List (List FlatBranchTree)) UnrollErr
-  listed_clause declared loops (Branches bs) = bind_result (listed_branches declared loops bs) (λ xs. Ok (xs ∷ []))
-  listed_clause declared loops (EachClause range body) = each_value (meant_in loops declared) range (λ i. listed_clauses declared (inside loops range.var i) body)
+-- the flat clauses of clauses inside loops
+abbrev pub clause_listing : List BranchTree → Listing (List FlatBranchTree)
+clause_listing bs declared loops = bind_result (listed_branches declared loops bs) (λ xs. Ok (xs ∷ []))
 
-  pub listed_clauses : (List ℕ → NameDenotation) → List LoopVar → ClauseTrees → Result (List (List FlatBranchTree)) UnrollErr
-  listed_clauses declared loops no_clauses = Ok []
-  listed_clauses declared loops (clause_then x xs) = followed (listed_clause declared loops x) (listed_clauses declared loops xs)
+abbrev pub listed_clauses : (List ℕ → NameDenotation) → List LoopVar → ClauseTrees → Result (List (List FlatBranchTree)) UnrollErr
+listed_clauses declared loops cs = listed_items clause_listing (clause_items cs) declared loops
 
 -- a start assignment: its target and its value
 pub record StartValue : Type 0 where
   pub target : ResolvedReference
   pub value : Fraction
 
-abbrev mutual
-  -- the start assignments of a statement inside loops
-  pub listed_start : (List ℕ → NameDenotation) → List LoopVar → StatementTree → Result (List StartValue) UnrollErr
-  listed_start declared loops (Assign target e) =
-      bind_result (found (meant_in loops declared) target) (λ t. bind_result (constant_value (constants_in (meant_in loops declared)) e) (λ a. Ok (record { target = t; value = a } ∷ [])))
-  listed_start declared loops (Restart target e) = Ok []
-  listed_start declared loops (EachStatement range body) = each_value (meant_in loops declared) range (λ i. listed_starts declared (inside loops range.var i) body)
+-- the start assignments of statements inside loops
+abbrev pub start_listing : OneStatement → Listing StartValue
+start_listing s declared loops =
+    if s.restart then Ok [] else bind_result (found (meant_in loops declared) s.target) (λ t. bind_result (constant_value (constants_in (meant_in loops declared)) s.value) (λ a. Ok (record { target = t; value = a } ∷ [])))
 
-  pub listed_starts : (List ℕ → NameDenotation) → List LoopVar → StatementTrees → Result (List StartValue) UnrollErr
-  listed_starts declared loops no_statements = Ok []
-  listed_starts declared loops (statement_then x xs) = followed (listed_start declared loops x) (listed_starts declared loops xs)
+abbrev pub listed_starts : (List ℕ → NameDenotation) → List LoopVar → StatementTrees → Result (List StartValue) UnrollErr
+listed_starts declared loops ss = listed_items start_listing (statement_items ss) declared loops
 
 -- the variables after start assignments; the last assignment to a variable takes effect
 abbrev pub started : List FlatVariable → List StartValue → List FlatVariable

@@ -1,5 +1,5 @@
 -- The rounds of a loop.
-use Rattle.std.specs.Prelude.{ℕ, ℤ, pos, neg_ℤ, ◌^◌, ◌≤ℤ◌, List, Result, Ok, Err}
+use Rattle.std.specs.Prelude.{ℕ, pos, neg_ℤ, ◌^◌, ◌≤ℤ◌, List, Result, Ok}
 use Rattle.mu_tree.specs.Expression.{Expression}
 use Rattle.mu_unroll.specs.declared.unroll_fault.UnrollErr.{UnrollErr}
 use Rattle.mu_unroll.specs.declared.environment.NameDenotation.{NameDenotation}

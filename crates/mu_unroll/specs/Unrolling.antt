@@ -18,7 +18,6 @@ use Rattle.mu_tree.specs.Nests.{Each, NestTree, NestTrees, One, OneEquation, One
 use Rattle.mu_tree.specs.Nests.{clause_item, clause_items, equation_item, equation_items}
 use Rattle.mu_tree.specs.Nests.{item_then, no_items, statement_item, statement_items}
 use Rattle.mu_names.specs.declared.declared_scope.Known.{Known}
-use Rattle.mu_names.specs.declared.declared_scope.Scope.{Scope}
 use Rattle.mu_unroll.specs.declared.unroll_counts.Counts.{Counts}
 use Rattle.mu_unroll.specs.declared.unroll_fault.UnrollErr.{UnrollErr}
 use Rattle.mu_unroll.specs.declared.unroll_fault.UnrollErr.TheVariants.{TooMany}
@@ -121,17 +120,21 @@ abbrev pub restart_of : Option ℕ → flat.FlatExpression → Option FlatAction
 restart_of (Some v) f = Some (flat.Restart v f)
 restart_of None f = None
 
--- one flat statement
+-- one flat statement whose target has a kind
 abbrev pub one_action : (Option ℕ → flat.FlatExpression → Option FlatAction) → FlatRole → (List ℕ → NameDenotation) → Reference → Expression → Progress FlatAction → Result (Progress FlatAction) UnrollErr
 one_action action kind known target e p =
     bind_result (with_item p.counts (node_count e)) (λ c. bind_result (found known target) (λ t. bind_result (flattened true known e) (λ f.
     Ok (with_maybe p c (action (number_of_kind kind t) f)))))
 
+-- one flat statement: a reinit of a state, or an assignment to a discrete variable
+abbrev pub one_statement : (restart : Bool) → (List ℕ → NameDenotation) → Reference → Expression → Progress FlatAction → Result (Progress FlatAction) UnrollErr
+one_statement restart known target e p =
+    if restart then one_action restart_of flat_role.State known target e p
+    else one_action assign_to flat_role.Discrete known target e p
+
 -- a statement of a clause that is no loop
 abbrev pub statement_once : OneStatement → Step FlatAction
-statement_once s declared loops p =
-    if s.restart then one_action restart_of flat_role.State (meant_in loops declared) s.target s.value p
-    else one_action assign_to flat_role.Discrete (meant_in loops declared) s.target s.value p
+statement_once s declared loops p = one_statement s.restart (meant_in loops declared) s.target s.value p
 
 -- the flat statements of a statement inside loops, and of a list of statements
 abbrev pub unrolled_statement : (List ℕ → NameDenotation) → List LoopVar → StatementTree → Progress FlatAction → Result (Progress FlatAction) UnrollErr
@@ -147,7 +150,7 @@ unrolled_branch declared loops b p =
     bind_result (with_item p.counts (node_count b.condition.left + node_count b.condition.right)) (λ c.
     bind_result (flattened true (meant_in loops declared) b.condition.left) (λ l.
     bind_result (flattened true (meant_in loops declared) b.condition.right) (λ r.
-    bind_result (unrolled_statements declared loops (statements_of b.body) (record { done = []; counts = c })) (λ q.
+    bind_result (unrolled_items statement_once (statement_items (statements_of b.body)) declared loops (record { done = []; counts = c })) (λ q.
     Ok (with_more p q.counts (record { left = l; rel = b.condition.rel; right = r; at = b.condition.at; body = q.done }))))))
 
 -- the flat branches in order
@@ -211,9 +214,9 @@ declared_in ks name = unwrap_or (first_meant ks [] ks name) meant.Nothing
 -- clauses
 abbrev pub unrolled_with : (List ℕ → NameDenotation) → ModelTree → List FlatVariable → Result FlatModelTree UnrollErr
 unrolled_with declared m vars =
-    bind_result (unrolled_starts declared [] (statements_of m.starts) (record { done = vars; counts = no_counts })) (λ s.
-    bind_result (unrolled_equations declared [] (equations_of m.equations) (record { done = []; counts = s.counts })) (λ e.
-    bind_result (unrolled_clauses declared [] (clauses_of m.clauses) (record { done = []; counts = e.counts })) (λ c.
+    bind_result (unrolled_items start_once (statement_items (statements_of m.starts)) declared [] (record { done = vars; counts = no_counts })) (λ s.
+    bind_result (unrolled_items equation_once (equation_items (equations_of m.equations)) declared [] (record { done = []; counts = s.counts })) (λ e.
+    bind_result (unrolled_items clause_once (clause_items (clauses_of m.clauses)) declared [] (record { done = []; counts = e.counts })) (λ c.
     Ok (record { vars = s.done; equations = e.done; clauses = c.done }))))
 
 -- the flat model of a model with this scope, or the first fault; the limit of 4,096 scalar

@@ -4,7 +4,7 @@ pub use Rattle.mu_unroll.specs.Environments.{HasSameNames, progress_of}
 pub use Rattle.mu_unroll.specs.ListUnrolling.{in_order, in_rounds, loop_in_rounds, unless_loop}
 pub use Rattle.mu_unroll.specs.Listing.{listed}
 pub use Rattle.mu_unroll.specs.UnrollFaults.{IsFault}
-pub use Rattle.mu_unroll.specs.Unrolling.{Progress, Step, assign_to, clause_once, equation_once, one_action, one_clause, one_equation, one_start, restart_of, start_at, start_once, statement_once, unrolled, unrolled_branch, unrolled_branches, unrolled_clause, unrolled_equation, unrolled_start, unrolled_statement, unrolled_statements, unrolled_with, with_start}
+pub use Rattle.mu_unroll.specs.Unrolling.{Progress, Step, clause_once, equation_once, one_clause, one_equation, one_start, one_statement, start_at, start_once, statement_once, unrolled, unrolled_branch, unrolled_branches, unrolled_clause, unrolled_equation, unrolled_start, unrolled_statement, unrolled_statements, unrolled_with, with_start}
 pub use Rattle.mu_unroll.specs.VariablePlaces.{ArePlaced}
 pub use Rattle.mu_unroll.specs.VariableTables.{denoted, meant_at}
 pub use Rattle.mu_unroll.specs.WellFormed.{IsWellFormed}

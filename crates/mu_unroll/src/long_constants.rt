@@ -28,6 +28,7 @@ pub fn has_long_items<F, T: Unroll<F>>(in_loop: bool, items: &[T]) -> bool {
 }
 
 // Returns whether the index of a reference is long.
+#[cycle(counting_nodes)]
 fn has_long_index(target: &Ref) -> bool {
     match &target.index {
         Some(index) => has_many_nodes(index),
@@ -36,91 +37,59 @@ fn has_long_index(target: &Ref) -> bool {
 }
 
 // Returns whether a constant expression is long.
+#[cycle(counting_nodes)]
 fn has_many_nodes(e: &Expr) -> bool {
-    count_constant_nodes(0, e) > SHORT
+    count_long_nodes(0, true, e) > SHORT
+}
+
+// Returns whether an expression of an equation or of a clause has a long index.
+fn has_long_operand(e: &Expr) -> bool {
+    count_long_nodes(0, false, e) > SHORT
 }
 
 // Returns the number of nodes before an expression plus those of the expression, counted until it
 // exceeds the maximum of short expressions. A literal with more than 64 digits counts as a long
-// expression.
-#[cycle(counting_constants)]
-fn count_constant_nodes(before: u32, e: &Expr) -> u32 {
-    let nodes = before.saturating_add(1);
-    match e {
-        Expr::Num { digits, .. } => {
-            if digits.bytes().len() > DIGITS {
-                SHORT + 1
-            } else {
-                nodes
-            }
-        }
-        Expr::Var(_) | Expr::Time { .. } | Expr::Pre(_) => nodes,
-        Expr::Sum { terms } => count_constant_terms(nodes, terms),
-        Expr::Product { factors } => count_constant_factors(nodes, factors),
-        Expr::Pow { base, .. } => count_constant_nodes(nodes, base),
-    }
+// expression. Of an expression that is not constant, only a long index counts.
+#[cycle(counting_nodes)]
+fn count_long_nodes(before: u32, is_constant: bool, e: &Expr) -> u32 {
+    let nodes = before.saturating_add(is_constant as u32);
+    let is_long = match e {
+        Expr::Num { digits, .. } => is_constant && digits.bytes().len() > DIGITS,
+        Expr::Var(target) | Expr::Pre(target) => !is_constant && has_long_index(target),
+        Expr::Time { .. } => false,
+        Expr::Sum { terms } => return count_long_terms(nodes, is_constant, terms),
+        Expr::Product { factors } => return count_long_factors(nodes, is_constant, factors),
+        Expr::Pow { base, .. } => return count_long_nodes(nodes, is_constant, base),
+    };
+    if is_long { SHORT + 1 } else { nodes }
 }
 
 // Returns the number of nodes before the terms plus those of the terms, counted until it exceeds
 // the maximum of short expressions.
-#[cycle(counting_constants)]
-fn count_constant_terms(before: u32, terms: &[Term]) -> u32 {
+#[cycle(counting_nodes)]
+fn count_long_terms(before: u32, is_constant: bool, terms: &[Term]) -> u32 {
     let mut nodes = before;
     for term in terms {
         if nodes > SHORT {
             return nodes;
         }
-        nodes = count_constant_nodes(nodes, &term.value);
+        nodes = count_long_nodes(nodes, is_constant, &term.value);
     }
     nodes
 }
 
 // Returns the number of nodes before the factors plus those of the factors, counted until it
 // exceeds the maximum of short expressions.
-#[cycle(counting_constants)]
-fn count_constant_factors(before: u32, factors: &[Factor]) -> u32 {
+#[cycle(counting_nodes)]
+fn count_long_factors(before: u32, is_constant: bool, factors: &[Factor]) -> u32 {
     let mut nodes = before;
     for factor in factors {
         if nodes > SHORT {
             return nodes;
         }
-        nodes = count_constant_nodes(nodes, &factor.value);
+        nodes = count_long_nodes(nodes, is_constant, &factor.value);
     }
     nodes
-}
-
-// Returns whether an expression of an equation or of a clause has a long index.
-#[cycle(finding_long_indices)]
-fn has_long_operand(e: &Expr) -> bool {
-    match e {
-        Expr::Num { .. } | Expr::Time { .. } => false,
-        Expr::Var(target) | Expr::Pre(target) => has_long_index(target),
-        Expr::Sum { terms } => has_long_term(terms),
-        Expr::Product { factors } => has_long_factor(factors),
-        Expr::Pow { base, .. } => has_long_operand(base),
-    }
-}
-
-// Returns whether a term has a long index.
-#[cycle(finding_long_indices)]
-fn has_long_term(terms: &[Term]) -> bool {
-    for term in terms {
-        if has_long_operand(&term.value) {
-            return true;
-        }
-    }
-    false
-}
-
-// Returns whether a factor has a long index.
-#[cycle(finding_long_indices)]
-fn has_long_factor(factors: &[Factor]) -> bool {
-    for factor in factors {
-        if has_long_operand(&factor.value) {
-            return true;
-        }
-    }
-    false
 }
 
 /// Returns whether an equation or a statement of a clause has a long constant expression.

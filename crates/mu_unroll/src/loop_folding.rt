@@ -2,7 +2,7 @@
 
 ghost use Rattle.std.specs.Prelude.{map, IfOk};
 ghost use Rattle.mu_unroll.specs.Prelude.{branch};
-ghost use Rattle.mu_unroll.specs.ConstantFolding.{IsSameBranch, IsSameBranches};
+ghost use Rattle.mu_unroll.specs.ConstantFolding.{IsSameBranches};
 ghost use Rattle.mu_unroll.specs.VariableTables.{meant_at};
 
 use crate::constant_folding::fold_expression;
@@ -19,35 +19,21 @@ pub fn fold_branches(
     branches: &[Branch],
 ) -> Result<Vec<Branch>, AllocError>
     ensures { IfOk result
-        (λ copy. IsSameBranches (meant_at declared.now) (map branch copy.items) (map branch branches.now)) }
+        (λ copy. IsSameBranches (meant_at declared.now) (map branch copy.items)
+        (map branch branches.now)) }
 {
     let mut all = Vec::new(alloc);
     for one in branches {
-        let copy = fold_branch(alloc, declared, one)?;
-        all.push(copy)?;
-    }
-    Ok(all)
-}
-
-// Returns a copy of a branch with short constant expressions.
-fn fold_branch(
-    alloc: Global,
-    declared: &BTreeMap<&[u8], NameDenotation>,
-    one: &Branch,
-) -> Result<Branch, AllocError>
-    ensures { IfOk result
-        (λ copy. IsSameBranch (meant_at declared.now) (branch copy) (branch one.now)) }
-{
-    let left = fold_expression(alloc, declared, &one.cond.left)?;
-    let right = fold_expression(alloc, declared, &one.cond.right)?;
-    let body = fold_items::<FlatStatement, Statement>(alloc, declared, &one.body)?;
-    Ok(Branch {
-        cond: Cond {
+        let left = fold_expression(alloc, declared, &one.cond.left)?;
+        let right = fold_expression(alloc, declared, &one.cond.right)?;
+        let body = fold_items::<FlatStatement, Statement>(alloc, declared, &one.body)?;
+        let cond = Cond {
             left,
             rel: one.cond.rel,
             right,
             at: one.cond.at,
-        },
-        body,
-    })
+        };
+        all.push(Branch { cond, body })?;
+    }
+    Ok(all)
 }

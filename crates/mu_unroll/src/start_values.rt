@@ -63,7 +63,8 @@ impl Unroll<FlatVar> for Statement {
         }
     }
 
-    ghost unrolls_loop = { loop_in_rounds start_once statement (λ r ts. EachStatement r (statements_of ts)) statement_item
+    ghost unrolls_loop = { loop_in_rounds start_once statement
+        (λ r ts. EachStatement r (statements_of ts)) statement_item
         (λ r ts. ap (Each r) (statement_items_of ts)) };
 }
 

@@ -4,7 +4,7 @@
 ghost use Rattle.std.specs.Prelude.{◌≡◌, List, map, Ok, IfOk, IfErr, OnOk};
 ghost use Rattle.std.proofs.Common.{ap};
 ghost use Rattle.mu_unroll.specs.Prelude.{FlatAction, FlatBranchTree, FlatEquationTree, EachClause, EachEquation, EachStatement, clauses_of, equations_of, Each, clause_item, clause_items_of, equation_item, equation_items_of, statement_item, statement_items_of, variable_limit, expression, reference, flat_action, flat_branch, flat_clause, flat_equation, flat_model, flat_variable, IsFlatModel, target_role, branch, clause, equation, model, statement, statements_of, IsNumbered};
-ghost use Rattle.mu_unroll.specs.Words.{loop_in_rounds, clause_once, equation_once, statement_once, HasSameNames, progress_of, IsFault, ArePlaced, denoted, meant_at, assign_to, one_action, one_equation, restart_of, one_clause, unrolled, unrolled_branch, unrolled_branches, unrolled_clause, unrolled_equation, unrolled_statement, unrolled_with, listed, IsWellFormed};
+ghost use Rattle.mu_unroll.specs.Words.{loop_in_rounds, clause_once, equation_once, statement_once, HasSameNames, progress_of, IsFault, ArePlaced, denoted, meant_at, one_equation, one_statement, one_clause, unrolled, unrolled_branch, unrolled_branches, unrolled_clause, unrolled_equation, unrolled_statement, unrolled_with, listed, IsWellFormed};
 
 use crate::constant_folding::{fold_expression, fold_reference};
 use crate::environment::{Environment, NameDenotation};
@@ -54,8 +54,8 @@ fn unroll_with(
 ) -> Result<FlatModel, UnrollErr>
     requires { ArePlaced variable_limit (meant_at declared) }
     ensures ok { IfOk result
-        (λ flat. unrolled_with (meant_at declared.entry) (model m.now) (map flat_variable vars.items)
-        ≡ Ok (flat_model flat)) }
+        (λ flat. unrolled_with (meant_at declared.entry) (model m.now)
+        (map flat_variable vars.items) ≡ Ok (flat_model flat)) }
     ensures err { IfErr result
         (IsFault
         (unrolled_with (meant_at declared.entry) (model m.now) (map flat_variable vars.items))) }
@@ -139,7 +139,8 @@ impl Unroll<FlatEquation> for Equation {
         }
     }
 
-    ghost unrolls_loop = { loop_in_rounds equation_once equation (λ r ts. EachEquation r (equations_of ts)) equation_item
+    ghost unrolls_loop = { loop_in_rounds equation_once equation
+        (λ r ts. EachEquation r (equations_of ts)) equation_item
         (λ r ts. ap (Each r) (equation_items_of ts)) };
 }
 
@@ -223,7 +224,8 @@ impl Unroll<FlatClause> for Clause {
         }
     }
 
-    ghost unrolls_loop = { loop_in_rounds clause_once clause (λ r ts. EachClause r (clauses_of ts)) clause_item
+    ghost unrolls_loop = { loop_in_rounds clause_once clause
+        (λ r ts. EachClause r (clauses_of ts)) clause_item
         (λ r ts. ap (Each r) (clause_items_of ts)) };
 }
 
@@ -264,8 +266,8 @@ fn unroll_branches(
 ) -> Result<(), UnrollErr>
     requires placed { ArePlaced variable_limit (meant_at env.old.declared) }
     ensures ok { IfOk result
-        (λ _. unrolled_branches (meant_at env.old.declared) env.old.loops.items (map branch branches.now)
-        (progress_of flat_branch output.old)
+        (λ _. unrolled_branches (meant_at env.old.declared) env.old.loops.items
+        (map branch branches.now) (progress_of flat_branch output.old)
         ≡ Ok (progress_of flat_branch output.new)) }
     ensures err { IfErr result
         (IsFault
@@ -335,11 +337,11 @@ impl Unroll<FlatStatement> for Statement {
         output: &mut Output<FlatStatement>,
     ) -> Result<(), UnrollErr> {
         match self {
-            Statement::Set { target, value } => unroll_assignment(
-                alloc, env, target, value, output,
+            Statement::Set { target, value } => unroll_one_statement(
+                alloc, env, false, target, value, output,
             ),
-            Statement::Reinit { target, value } => unroll_restart(
-                alloc, env, target, value, output,
+            Statement::Reinit { target, value } => unroll_one_statement(
+                alloc, env, true, target, value, output,
             ),
             Statement::For { .. } => Ok(()),
         }
@@ -374,65 +376,39 @@ impl Unroll<FlatStatement> for Statement {
         }
     }
 
-    ghost unrolls_loop = { loop_in_rounds statement_once statement (λ r ts. EachStatement r (statements_of ts)) statement_item
+    ghost unrolls_loop = { loop_in_rounds statement_once statement
+        (λ r ts. EachStatement r (statements_of ts)) statement_item
         (λ r ts. ap (Each r) (statement_items_of ts)) };
 }
 
-// Appends one flat assignment.
-fn unroll_assignment(
+// Appends one flat `reinit` or assignment.
+fn unroll_one_statement(
     alloc: Global,
     env: &Environment,
+    restart: bool,
     target: &Ref,
     value: &Expr,
     output: &mut Output<FlatStatement>,
 ) -> Result<(), UnrollErr>
     requires { ArePlaced variable_limit (meant_at env.now.declared) }
     ensures ok { IfOk result
-        (λ _. one_action assign_to FlatRole.Discrete (denoted env.now) (reference target.now)
-        (expression value.now)
+        (λ _. one_statement restart (denoted env.now) (reference target.now) (expression value.now)
         (progress_of flat_action output.old)
         ≡ Ok (progress_of flat_action output.new)) }
     ensures err { IfErr result
         (IsFault
-        (one_action assign_to FlatRole.Discrete (denoted env.now) (reference target.now)
-        (expression value.now)
+        (one_statement restart (denoted env.now) (reference target.now) (expression value.now)
         (progress_of flat_action output.old))) }
 {
     let counted = count_expression(output.counts, value)?;
     let target = found(env, target)?;
     let value = flatten(alloc, env, true, value)?;
-    if let Some(var) = flattened_number_of_kind(FlatRole::Discrete, target) {
+    if restart {
+        if let Some(var) = flattened_number_of_kind(FlatRole::State, target) {
+            output.done.push(FlatStatement::FlatReinit { var, value })?;
+        }
+    } else if let Some(var) = flattened_number_of_kind(FlatRole::Discrete, target) {
         output.done.push(FlatStatement::FlatSet { var, value })?;
-    }
-    output.counts = counted;
-    Ok(())
-}
-
-// Appends one flat `reinit`.
-fn unroll_restart(
-    alloc: Global,
-    env: &Environment,
-    target: &Ref,
-    value: &Expr,
-    output: &mut Output<FlatStatement>,
-) -> Result<(), UnrollErr>
-    requires { ArePlaced variable_limit (meant_at env.now.declared) }
-    ensures ok { IfOk result
-        (λ _. one_action restart_of FlatRole.State (denoted env.now) (reference target.now)
-        (expression value.now)
-        (progress_of flat_action output.old)
-        ≡ Ok (progress_of flat_action output.new)) }
-    ensures err { IfErr result
-        (IsFault
-        (one_action restart_of FlatRole.State (denoted env.now) (reference target.now)
-        (expression value.now)
-        (progress_of flat_action output.old))) }
-{
-    let counted = count_expression(output.counts, value)?;
-    let target = found(env, target)?;
-    let value = flatten(alloc, env, true, value)?;
-    if let Some(var) = flattened_number_of_kind(FlatRole::State, target) {
-        output.done.push(FlatStatement::FlatReinit { var, value })?;
     }
     output.counts = counted;
     Ok(())

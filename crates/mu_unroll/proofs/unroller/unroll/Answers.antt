@@ -1,5 +1,5 @@
 use Rattle.mu_unroll.proofs.Common
-use Common.{◌^◌, ◌∙◌, ◌≡◌, ap, declared_in, false, flat_variable, map, meant_at, model, nat_lt}
+use Common.{◌^◌, ◌∙◌, ◌≡◌, ap, declared_in, flat_variable, map, meant_at, model, nat_lt}
 use Common.{scalar_count, scalars_in, sym, unrolled, unrolled_with}
 use Rattle.mu_unroll.proofs.Whole.{flat_given, lists_given, numbered_given, ok_same, whole_is}
 use Rattle.mu_unroll.proofs.unroller.unroll.Goals as goal
