@@ -7,7 +7,7 @@ from typing import IO, Optional, Type
 
 from .fault import Fault, read_bytes, unreadable
 
-IN_MEMORY = 1 << 23  # bytes that are held in memory before they go to a temporary file
+IN_MEMORY = 1 << 27  # bytes that are held in memory before they go to a temporary file
 
 
 class Output:

@@ -1,12 +1,10 @@
 """Finds the program `qss` and calls it."""
-import hashlib
 import os
 import shlex
 import shutil
 import subprocess
 import sys
 from argparse import ArgumentParser
-from importlib import metadata
 from typing import Any, Dict, Iterator, List, NamedTuple, Optional, Sequence
 
 from .fault import NO_FILE, Fault
@@ -80,6 +78,8 @@ def is_installed_proved() -> bool:
 
 def packaged_program() -> str:
     """The program that a wheel has put next to the tools, or nothing."""
+    from importlib import metadata
+
     try:
         files = metadata.files("qss-tools") or []
     except metadata.PackageNotFoundError:
@@ -146,6 +146,8 @@ def has_same_kit(program: str) -> bool:
 
 def digest_of(program: str) -> str:
     """The SHA-256 digest of a program."""
+    import hashlib
+
     with open(program, "rb") as file:
         return hashlib.sha256(file.read()).hexdigest()
 

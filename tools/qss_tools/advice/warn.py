@@ -4,7 +4,6 @@ import sys
 
 from ..fault import Fault
 from ..runs.rows import Run
-from .advise import warning_of
 
 
 def add_advice_option(parser: argparse.ArgumentParser) -> None:
@@ -16,6 +15,8 @@ def warn(args: argparse.Namespace, run: Run, tool: str) -> None:
     """Warns in one line if the settings of the model spoil its run."""
     if args.no_advice:
         return
+    from .advise import warning_of
+
     try:
         line = warning_of(run.model, run.program)
     except Fault:

@@ -6,14 +6,15 @@ are not a legitimate run with the quanta of the certificate, and have no band.
 """
 import math
 from argparse import ArgumentParser, Namespace
-from typing import Dict, List, Optional, Tuple
+from typing import TYPE_CHECKING, Dict, List, Optional, Tuple
 
 from ..fault import Fault, read_bytes
 from ..program import call
 from ..runs.rows import Run, exact
-from .affine import Affine
-from .conditions import Certificate, read_certificate
-from .settings import refusal
+
+if TYPE_CHECKING:
+    from .affine import Affine
+    from .conditions import Certificate
 
 HELP = "a certificate of the model, for the proved bounds around each state"
 PART_BITS = 6  # bounds in a table are written in 64ths of a level
@@ -27,6 +28,10 @@ def certified(args: Namespace, run: Run) -> "Optional[Certified]":
     """The bounds of the certificate that was asked for, or None. `qss certify` must accept it."""
     if args.certificate is None:
         return None
+    from .affine import Affine
+    from .conditions import read_certificate
+    from .settings import refusal
+
     why = refusal(run.flat)
     if why:
         raise Fault("%s has no certificate: %s" % (args.model, why))
@@ -48,7 +53,7 @@ def certified(args: Namespace, run: Run) -> "Optional[Certified]":
 class Certified:
     """An accepted certificate of the model of a run."""
 
-    def __init__(self, run: Run, system: Affine, certificate: Certificate) -> None:
+    def __init__(self, run: Run, system: "Affine", certificate: "Certificate") -> None:
         self.run, self.system, self.certificate = run, system, certificate
         self.bounds = dict(zip(system.names, certificate["E"]))
 

@@ -17,7 +17,7 @@ from ..runs.rows import Row, Rows, Run, add_run_options, lines_of
 from ..runs.steady import add_all_values_option, steady_rows
 from ..tables.table import overflow_text
 from ..tables.measurements import add_data_options
-from . import differences, dots, html_plot, mpl_plot
+from . import dots
 from .bands import bands_of
 from .curves import Curve, Marks, Path
 from .drawing import HEIGHT, Drawing, Panel
@@ -115,7 +115,9 @@ class Plot(Drawing):
         if self.kind not in ("svg", "png", "pdf", "html") or args.html and self.kind != "html":
             raise Fault(f"{path}: a picture is .svg, .png or .pdf, and a page is .html")
         if self.kind == "html":
-            html_plot.check_plotly()
+            from .html_plot import check_plotly
+
+            check_plotly()
         elif self.kind != "svg" and not has_matplotlib() and not shutil.which("gnuplot"):
             raise Fault(
                 f"{path}: a {self.kind.upper()} needs matplotlib or gnuplot, and {sys.executable} has no matplotlib; "
@@ -132,6 +134,8 @@ class Plot(Drawing):
         """Reads one run or two."""
         args = self.args
         if args.difference:
+            from . import differences
+
             differences.fill(self, self.begin, self.end)
             return
         self.follow(self.run, args, False)
@@ -219,7 +223,7 @@ class Plot(Drawing):
 
     def read_arrays(self, rows: Rows, takes: "Takes", is_own: bool) -> None:
         """Reads rows as arrays, and thins each curve as a whole."""
-        from ..runs import bulk, series
+        from ..runs import bulk, series, thinning
 
         run, end = rows.run, self.ticks(rows.run)[1]
         needed = {name for column in takes.columns for name in column.needs}
@@ -230,10 +234,11 @@ class Plot(Drawing):
         values.check_started(takes.columns)
         for column, curve in zip(takes.columns, takes.curves):
             ticks, numbers = values.floats(column)
-            is_held = not (isinstance(column, Column) and column.use_state)
-            if is_held:
-                ticks, numbers = series.held(ticks, numbers, rows.tick)
-            curve.set_points(series.thinned(ticks, numbers, (curve.begin, curve.end), curve.width), is_held)
+            window = curve.begin, curve.end
+            if isinstance(column, Column) and column.use_state:
+                curve.set_points(thinning.thinned(ticks, numbers, window, curve.width), False)
+            else:
+                curve.set_points(thinning.thinned_steps(ticks, numbers, rows.tick, window, curve.width), True)
         if takes.marks is not None:
             for label, fired in series.firings(record).items():
                 takes.marks.take_all(fired, label)
@@ -257,8 +262,12 @@ class Plot(Drawing):
             sys.stdout.write(text_of(panels, times, self))
             return
         if self.kind == "html":
+            from . import html_plot
+
             html_plot.draw(self, panels, times)
-        elif self.kind == "svg" and has_matplotlib() and not self.paths and not self.is_plain():
+        elif self.kind == "svg" and not self.paths and not self.is_plain() and has_matplotlib():
+            from . import mpl_plot
+
             mpl_plot.draw(self, panels, times)
         elif self.kind in ("png", "pdf"):
             draw_elsewhere(self, panels, times)
@@ -341,6 +350,8 @@ def has_matplotlib() -> bool:
 def draw_elsewhere(drawing: Drawing, panels: Sequence[Panel], times: Tuple[float, float]) -> None:
     """Draws by matplotlib, or else by gnuplot."""
     if has_matplotlib():
+        from . import mpl_plot
+
         mpl_plot.draw(drawing, panels, times)
         return
     series = []

@@ -1,7 +1,7 @@
 """Pictures as small SVG files, drawn without a package."""
+import html
 import math
 from typing import List, Optional, Sequence, Tuple
-from xml.sax.saxutils import escape
 
 from ..certificates.band import Tube
 from .bands import BANDS, NOTE
@@ -55,7 +55,7 @@ class Picture:
     def text(self, x: float, y: float, text: str, anchor: str = "start", size: int = 11, colour: str = "#222") -> None:
         self.parts.append(
             '<text x="%g" y="%g" text-anchor="%s" font-size="%d" fill="%s">%s</text>'
-            % (x, y, anchor, size, colour, escape(text))
+            % (x, y, anchor, size, colour, html.escape(text, quote=False))
         )
 
     def upright(self, x: float, y: float, text: str, room: float) -> None:
@@ -65,7 +65,7 @@ class Picture:
         text = text if len(text) <= most else text[: max(1, most - 2)] + ".."
         self.parts.append(
             '<text x="%g" y="%g" text-anchor="middle" font-size="%d" fill="#222"'
-            ' transform="rotate(-90 %g %g)">%s</text>' % (x, y, size, x, y, escape(text))
+            ' transform="rotate(-90 %g %g)">%s</text>' % (x, y, size, x, y, html.escape(text, quote=False))
         )
 
     def line(self, x1: float, y1: float, x2: float, y2: float, colour: str = "#ddd") -> None:

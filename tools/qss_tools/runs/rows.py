@@ -29,7 +29,8 @@ FOLLOWING = {
     "level": LATER,
     "slope": EVENTS,
 }
-BLOCK = 1 << 20  # bytes that are read at a time
+BLOCK = 1 << 20  # bytes that are read at a time, and that the program may write ahead of them
+SET_PIPE_SIZE = 1031  # F_SETPIPE_SZ of Linux, which the module fcntl has from Python 3.10 on
 SECOND_BITS = 6  # levels and states of a second-order run are counted 2^6 times finer
 
 Row = Tuple[int, str, str, Optional[int], Optional[int]]
@@ -203,6 +204,7 @@ def run_lines(args: argparse.Namespace, run: Run) -> Iterator[Lines]:
     arguments = ["run2" if args.order == 2 else "run", args.model, *options]
     with start(run.program, arguments, stdout=subprocess.PIPE, stderr=subprocess.PIPE) as process:
         assert process.stdout is not None and process.stderr is not None
+        widen(process.stdout)
         lines = Lines(process.stdout)
         if not lines.begin(1):
             line = process.stderr.read().decode("utf-8", "replace").strip()
@@ -213,6 +215,14 @@ def run_lines(args: argparse.Namespace, run: Run) -> Iterator[Lines]:
         except BaseException:
             process.kill()
             raise
+
+
+def widen(pipe: IO[bytes]) -> None:
+    """Makes a pipe hold a block, if the system allows it. So the program computes rows while others are read."""
+    with contextlib.suppress(ImportError, OSError):
+        from fcntl import fcntl
+
+        fcntl(pipe.fileno(), SET_PIPE_SIZE, BLOCK)
 
 
 class Rows:

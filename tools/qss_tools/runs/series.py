@@ -1,14 +1,16 @@
 """The values of variables over the ticks of a run, as arrays of numpy."""
-from typing import Any, Dict, List, NamedTuple, Optional, Sequence, Tuple
+from typing import Any, Dict, NamedTuple, Optional, Sequence, Tuple
 
 from ..arrays import load
-from .bulk import OVERFLOW, START, WHEN, Record
+from .bulk import OVERFLOW, REINIT, SLOPE, START, WHEN, Record
 from .columns import Algebraic, AnyColumn
 from ..fault import Fault
 from .rows import Rows, Run
 from .wide import Array, Wide
 
 np = load()
+
+NEAR = 4  # ticks for each tick of an array, so that all ticks are looked up in a table
 
 
 class Series(NamedTuple):
@@ -18,20 +20,17 @@ class Series(NamedTuple):
     values: Wide
 
 
-def series_of(record: Record, number: int, states: bool = False) -> Series:
-    """The levels of a variable, or the states of its own rows: the last one of each tick, where it is another one."""
-    places = record.of(number, states)
+def series_of(record: Record, places: Array, states: bool = False) -> Series:
+    """The levels of a variable from its rows, or the states: the last one of each tick, where it is another one."""
     ticks = record.ticks[places]
+    last = np.ones(len(ticks), dtype=bool)
+    np.not_equal(ticks[1:], ticks[:-1], out=last[:-1])
+    if not last.all():
+        ticks, places = ticks[last], places[last]
     if states:
         assert record.states is not None
-        values = record.states[places]
-    else:
-        values = Wide([record.levels[places]])
-    last = np.ones(len(ticks), dtype=bool)
-    last[:-1] = ticks[1:] != ticks[:-1]
-    if not last.all():
-        ticks, values = ticks[last], values[last]
-    return changes_of(Series(ticks, values))
+        return changes_of(Series(ticks, record.states[places]))
+    return changes_of(Series(ticks, Wide([record.levels[places]])))
 
 
 def changes_of(series: Series) -> Series:
@@ -74,12 +73,38 @@ def overflow_of(record: Record, run: Run) -> Optional[Tuple[int, str]]:
     return int(record.ticks[places[0]]), list(run.names)[int(record.names[places[0]])]
 
 
+class Places:
+    """The places of the rows of each variable that state a value of it."""
+
+    def __init__(self, record: Record) -> None:
+        kinds = record.kinds
+        unfit = (kinds == WHEN) | (kinds == SLOPE) | (kinds == OVERFLOW)
+        valued = np.flatnonzero(~unfit) if unfit.any() else None
+        names = record.names if valued is None else record.names[valued]
+        most = int(names.max()) + 1 if len(names) else 0
+        # (few bits are sorted faster)
+        order = np.argsort(names.astype(np.uint16) if most < 1 << 16 else names, kind="stable")
+        self.ends = np.cumsum(np.bincount(names, minlength=most)).tolist() if most else []
+        self.order = order if valued is None else valued[order]
+        self.is_set_anew = kinds == REINIT if (kinds == REINIT).any() else None
+
+    def of(self, number: int, with_state: bool) -> Array:
+        """The rows of a variable: those with a level or, of a state, those with the state."""
+        if number >= len(self.ends):
+            return self.order[:0]
+        found = self.order[self.ends[number - 1] if number else 0 : self.ends[number]]
+        if with_state or self.is_set_anew is None:
+            return found
+        return found[~self.is_set_anew[found]]
+
+
 class Values:
     """The series of the variables of a run, each computed once."""
 
     def __init__(self, rows: Rows, record: Record, all_values: bool) -> None:
         self.run, self.record, self.all_values = rows.run, record, all_values
         self.known: Dict[Tuple[int, bool], Series] = {}
+        self.places = Places(record)
         started = np.unique(record.names[record.kinds == START]).tolist()
         self.started = {list(rows.run.names)[number] for number in started}
         self.name = rows.name
@@ -94,7 +119,7 @@ class Values:
         number = self.run.names[name]
         found = self.known.get((number, states))
         if found is None:
-            found = series_of(self.record, number, states)
+            found = series_of(self.record, self.places.of(number, states), states)
             if number >= self.run.flat.states and not self.all_values:
                 found = steady(found)
             self.known[number, states] = found
@@ -106,7 +131,7 @@ class Values:
             return self.series(column.name, column.use_state)
         some = {name: self.series(name) for name in column.needs}
         ticks = merged([one.ticks for one in some.values()])
-        filled = {name: one.values[places_of(one, ticks)] for name, one in some.items()}
+        filled = {name: one.values[places_of(one.ticks, ticks)] for name, one in some.items()}
         total = Wide([np.zeros(len(ticks), dtype=np.int64)]) + column.constant
         for weight, names in column.terms:
             product: Any = weight
@@ -119,10 +144,10 @@ class Values:
         """The ticks and the values of a column in the model's units."""
         if not isinstance(column, Algebraic):
             found = self.exact(column)
-            return found.ticks, np.ldexp(found.values.floats(), -column.bits)
+            return found.ticks, found.values.floats() * 2.0**-column.bits
         some = {name: self.series(name) for name in column.needs}
         ticks = merged([one.ticks for one in some.values()])
-        filled = {name: one.values.floats()[places_of(one, ticks)] for name, one in some.items()}
+        filled = {name: one.values.floats()[places_of(one.ticks, ticks)] for name, one in some.items()}
         total = np.full(len(ticks), column.constant / column.below)
         for weight, names in column.terms:
             total += weight / column.below * np.prod([filled[name] for name in names], axis=0)
@@ -135,6 +160,12 @@ def merged(some: Sequence[Array]) -> Array:
         return some[0]
     if not some:
         return np.zeros(1, dtype=np.int64)
+    span = 1 + max((int(one[-1]) for one in some if len(one)), default=0)
+    if span <= NEAR * sum(map(len, some)):
+        present = np.zeros(span, dtype=bool)
+        for one in some:
+            present[one] = True
+        return np.flatnonzero(present)
     found = np.concatenate(some)
     found.sort(kind="stable")
     first = np.ones(len(found), dtype=bool)
@@ -142,64 +173,17 @@ def merged(some: Sequence[Array]) -> Array:
     return found[first]
 
 
-def places_of(series: Series, ticks: Array) -> Array:
-    """The place of the value that holds at each of these ticks, which contain those of the series, if they do."""
-    return np.maximum(np.searchsorted(series.ticks, ticks, "right") - 1, 0)
-
-
-# thinning
-
-
-def thinned(ticks: Array, values: Array, window: Tuple[float, float], columns: int) -> List[Tuple[float, float]]:
-    """Straight lines between points: within a window, of each column at most the first, the least, the greatest and the
-    last point.
-    """
-    ticks, values = clipped(ticks, values, *window)
-    begin, end = window
-    if len(ticks) > 4 * columns and end > begin:
-        keep = kept(((ticks - begin) * (columns / (end - begin))).astype(np.int64), values)
-        ticks, values = ticks[keep], values[keep]
-    return list(zip(ticks.tolist(), values.tolist()))
-
-
-def kept(places: Array, values: Array) -> Array:
-    """The points that are kept, given the column of each."""
-    starts = np.flatnonzero(np.diff(places, prepend=places[0] - 1))
-    counts = np.diff(starts, append=len(places))
-    keep = np.repeat(counts <= 4, counts)
-    keep[starts] = True
-    keep[starts + counts - 1] = True
-    group = np.repeat(np.arange(len(starts)), counts)
-    for best in (np.minimum.reduceat(values, starts), np.maximum.reduceat(values, starts)):
-        found = np.flatnonzero(values == best[group])
-        groups = group[found]
-        keep[found[np.diff(groups, prepend=-1) > 0]] = True
-    return keep
-
-
-def clipped(ticks: Array, values: Array, begin: float, end: float) -> Tuple[Array, Array]:
-    """The part of straight lines between two ticks."""
-    if not len(ticks):
-        return ticks, values
-    first = int(np.searchsorted(ticks, begin, "left"))
-    last = int(np.searchsorted(ticks, end, "right"))
-    head = [at(ticks, values, first, begin)] if 0 < first < len(ticks) and ticks[first] > begin else []
-    tail = [at(ticks, values, last, end)] if 0 < last < len(ticks) and ticks[last - 1] < end else []
-    inner, inside = ticks[first:last], values[first:last]
-    if head or tail:
-        inner = np.concatenate([[begin] * len(head), inner, [end] * len(tail)])
-        inside = np.concatenate([head, inside, tail])
-    return inner, inside
-
-
-def at(ticks: Array, values: Array, place: int, tick: float) -> Any:
-    """The value at a tick, on the line that ends at a place."""
-    begin, end = ticks[place - 1], ticks[place]
-    return values[place - 1] + (values[place] - values[place - 1]) * (tick - begin) / (end - begin)
-
-
-def held(ticks: Array, values: Array, last: float) -> Tuple[Array, Array]:
-    """Values that hold up to the next one, as straight lines, up to a last tick."""
-    across = np.repeat(np.asarray(ticks, dtype=np.float64), 2)
-    upward = np.repeat(np.asarray(values, dtype=np.float64), 2)
-    return np.append(across[1:], max(last, float(across[-1]))), upward
+def places_of(changes: Array, ticks: Array) -> Array:
+    """The place of the value that holds at each tick, if values change at these ticks. Both arrays are in order."""
+    if not len(ticks) or not len(changes):
+        return np.zeros(len(ticks), dtype=np.int64)
+    if NEAR * len(changes) < len(ticks):
+        firsts = np.append(np.searchsorted(ticks, changes), len(ticks))
+        firsts[0] = 0
+        return np.repeat(np.arange(len(changes)), np.diff(firsts))
+    span = int(ticks[-1]) + 1
+    if span > NEAR * len(ticks):
+        return np.maximum(np.searchsorted(changes, ticks, "right") - 1, 0)
+    present = np.zeros(span, dtype=bool)
+    present[changes[: np.searchsorted(changes, span)]] = True
+    return np.maximum(np.cumsum(present)[ticks] - 1, 0)

@@ -8,18 +8,17 @@ from ..runs.bulk import Record, record_of
 from ..runs.columns import Algebraic, AnyColumn
 from ..output import Output
 from ..runs.rows import Rows, exact
-from ..runs.series import Series, Values, merged, overflow_of
+from ..runs.series import Series, Values, merged, overflow_of, places_of
 from ..model.spelling import decimal_text
-from ..runs.wide import Array
+from ..runs.wide import Array, Wide
+from .decimals import decimals, trailing_zeros
 
 np = load()
 
 CHUNK = 1 << 14  # lines that are written at a time
-MOST_FRACTIONS = 14  # bits of a time whose fractions are looked up
+MOST_FRACTIONS = 12  # bits of a time whose fractions are looked up
 MOST_KNOWN = 1 << 21  # of numbers that are looked up
-COMMA, NEWLINE, MINUS, POINT, ZERO = 44, 10, 45, 46, 48
-FEW_TEXTS = 1000  # that are written one by one
-MOST_DIGITS = 18  # of a fraction, so that it fits into 64 bits
+COMMA, NEWLINE = 44, 10
 
 
 class Choice(NamedTuple):
@@ -88,7 +87,7 @@ class Table:
 
     def places(self, series: Series) -> Array:
         """The place of the value of each line."""
-        return np.maximum(np.searchsorted(series.ticks, self.ticks, "right") - 1, 0)
+        return places_of(series.ticks, self.ticks)
 
     def times(self) -> Array:
         """The times of the lines, as floats."""
@@ -120,23 +119,28 @@ class Table:
     # what is written
 
     def fields(self) -> List[Tuple[Array, Array]]:
-        """The fields of all lines: of each column its texts, and the place of the text of each line."""
-        found = [self.time_field(one) for one in (0, 1)] if self.steps is None else [self.step_field()]
+        """The fields of all lines after the time: of each its texts, and the place of the text of each line."""
+        found = []
         for column, series in zip(self.columns, self.series):
-            found.append((texts_of(column, series), self.places(series)))
+            texts, which = texts_of(column, series)
+            places = self.places(series)
+            found.append((texts, places if which is None else which[places]))
         if self.choice.events:
-            texts, places = self.event_texts()
-            found.append((np.array([text.encode() for text in texts]), places))
+            events, places = self.event_texts()
+            found.append((np.array([text.encode() for text in events]), places))
         return found
 
-    def time_field(self, part: int) -> Tuple[Array, Array]:
-        """The whole part or the fraction of the times."""
-        bits = self.run.units.time
-        numbers = self.ticks >> bits if part == 0 else self.ticks & ((1 << bits) - 1)
-        known, places = looked_up(numbers)
-        if part == 0:
-            return np.array([b"%d" % one for one in known] or [b""]), places
-        return np.array([exact(one, bits)[1:].encode() for one in known] or [b""]), places
+    def time_fields(self) -> List[Tuple[Array, Array]]:
+        """The times, or their whole parts and then their fractions."""
+        bits, ticks = self.run.units.time, self.ticks
+        if bits > MOST_FRACTIONS or not len(ticks) or int(ticks[-1] - ticks[0]) >> bits > len(ticks):
+            texts = decimals(Wide([ticks]), bits)
+            assert texts is not None  # (a tick has at most 32 bits)
+            return [(texts, np.arange(len(ticks)))]
+        first = int(ticks[0]) >> bits
+        whole = decimals(Wide([np.arange(first, (int(ticks[-1]) >> bits) + 1)]), 0)
+        parts = [exact(one, bits)[1:].encode() for one in range(1 << bits)]
+        return [(whole, (ticks >> bits) - first), (np.array(parts), ticks & ((1 << bits) - 1))]
 
     def step_field(self) -> Tuple[Array, Array]:
         assert self.steps is not None and self.choice.every is not None
@@ -147,22 +151,21 @@ class Table:
         """Writes all lines."""
         names = ["time"] + [column.name for column in self.columns] + ["events"] * self.choice.events
         output.write(",".join(names) + "\n")
-        fields = self.fields()
-        joined_to_next = 0 if self.steps is None else -1  # the two parts of a time have no comma between them
+        times = [self.step_field()] if self.steps is not None else self.time_fields()
+        fields = times + self.fields()
         width = sum(texts.dtype.itemsize + 1 for texts, _ in fields)
         for begin in range(0, len(self.ticks), CHUNK):
             chunk = slice(begin, begin + CHUNK)
             lines = np.zeros((len(self.ticks[chunk]), width), dtype=np.uint8)
             at = 0
-            for number, (texts, places) in enumerate(fields):
+            for number, (texts, places) in enumerate(fields, 1):
                 size = texts.dtype.itemsize
-                lines[:, at : at + size] = texts[places[chunk]].view(np.uint8).reshape(-1, size)
+                np.ndarray((len(lines),), texts.dtype, lines, at, (width,))[...] = texts[places[chunk]]
                 at += size
-                if number != joined_to_next:
-                    lines[:, at] = COMMA if number + 1 < len(fields) else NEWLINE
+                if number >= len(times):  # (the two parts of a time have no comma between them)
+                    lines[:, at] = COMMA if number < len(fields) else NEWLINE
                     at += 1
-            flat = lines.reshape(-1)
-            output.held.write(flat[flat != 0].tobytes())
+            output.write_bytes(lines.tobytes().translate(None, b"\0"))
 
     def floats(self) -> List[Tuple[str, Array]]:
         """The name and the values of each column, in the model's units."""
@@ -198,66 +201,36 @@ def firings_by_tick(record: Record) -> Dict[int, List[str]]:
     return found
 
 
-def looked_up(numbers: Array) -> Tuple[List[int], Array]:
-    """The numbers, each once or with others between them, and the place of each."""
+def looked_up(numbers: Array, most: int) -> Tuple[Optional[Array], Array]:
+    """The numbers, each once and in their order, and the place of each; none where they are too far apart for this."""
     if not len(numbers):
-        return [], numbers
+        return numbers, numbers
     shift = trailing_zeros(int(np.bitwise_or.reduce(numbers)))
     small = numbers >> shift
-    least, greatest = int(small.min()), int(small.max())
-    count = greatest - least + 1
-    if count <= MOST_KNOWN:
-        places = small - least
-        present = np.zeros(count, dtype=bool)
-        present[places] = True
-        order = np.cumsum(present) - 1
-        return ((np.flatnonzero(present) + least) << shift).tolist(), order[places]
-    known, places = np.unique(numbers, return_inverse=True)
-    return known.tolist(), places
+    least = int(small.min())
+    count = int(small.max()) - least + 1
+    if count > most:
+        return None, numbers
+    small -= least
+    present = np.zeros(count, dtype=bool)
+    present[small] = True
+    order = np.cumsum(present) - 1
+    return (np.flatnonzero(present) + least) << shift, order[small]
 
 
-def trailing_zeros(number: int) -> int:
-    return (number & -number).bit_length() - 1 if number else 0
-
-
-def texts_of(column: AnyColumn, series: Series) -> Array:
-    """The texts of the values of a column."""
-    if len(series.values.parts) > 1:
-        known, places = series.values.numbers(), None
-    else:
-        known, places = looked_up(series.values.parts[0])
-        if not isinstance(column, Algebraic) and len(known) > FEW_TEXTS:
-            found = decimals(np.array(known), column.bits)
-            if found is not None:
-                return found[places]
-    texts = np.array([text_of(column, number).encode() for number in known] or [b""])
-    return texts if places is None else texts[places]
-
-
-def decimals(numbers: Array, bits: int) -> Optional[Array]:
-    """The decimals of numbers times 2^-bits, with bytes 0 in place of digits that are left out, or None where the
-    fraction has too many digits.
-    """
-    shift = min(trailing_zeros(int(np.bitwise_or.reduce(numbers))), bits)
-    bits -= shift
-    if bits > MOST_DIGITS:
-        return None
-    sizes = np.abs(numbers >> shift)
-    whole, part = sizes >> bits, (sizes & ((1 << bits) - 1)) * 5**bits
-    width = len(str(int(whole.max())))
-    found = np.zeros((len(numbers), 2 + width + bits), dtype=np.uint8)
-    found[:, 0] = np.where(numbers < 0, MINUS, 0)
-    found[:, 1 + width] = np.where(part > 0, POINT, 0)
-    rest = part
-    is_zero = np.ones(len(numbers), dtype=bool)
-    for place in range(1 + width + bits, 1 + width, -1):
-        rest, digit = np.divmod(rest, 10)
-        is_zero &= digit == 0
-        found[:, place] = np.where(is_zero, 0, digit + ZERO)
-    for place in range(width, 0, -1):
-        found[:, place] = np.where((whole > 0) | (place == width), whole % 10 + ZERO, 0)
-        whole //= 10
-    return found.view("S%d" % found.shape[1]).ravel()
+def texts_of(column: AnyColumn, series: Series) -> Tuple[Array, Optional[Array]]:
+    """The texts of the values of a column, and the place of the text of each value, or None if each has its own."""
+    values, places = series.values, None
+    if len(values.parts) == 1:
+        is_computed = isinstance(column, Algebraic)
+        known, places = looked_up(values.parts[0], MOST_KNOWN if is_computed else min(MOST_KNOWN, len(values)))
+        if known is None and is_computed:
+            known, places = np.unique(values.parts[0], return_inverse=True)
+        values, places = (values, None) if known is None else (Wide([known]), places)
+    texts = None if isinstance(column, Algebraic) else decimals(values, column.bits)
+    if texts is None:
+        texts = np.array([text_of(column, number).encode() for number in values.numbers()] or [b""])
+    return texts, places
 
 
 def text_of(column: AnyColumn, number: int) -> str:

@@ -16,9 +16,7 @@ from ..fault import Fault, read_bytes
 from ..model.source import Source
 from ..model.units import NO_UNIT, SECONDS, checked_unit, time_unit, variable_units
 from ..runs.expressions import is_expression
-from ..runs.quadratics import check_name
 from ..runs.rows import Run
-from .measure import number_of
 
 WITH_UNIT = re.compile(r"^(.*?)\s*(?:\[([^][]*[^][\d\s][^][]*)\]|\(([^()]+)\))$")
 TIME_NAME = re.compile(r"^(time|t)(?:_(\w+))?$", re.IGNORECASE)
@@ -219,6 +217,9 @@ class Measurements:
 
     def _places(self, words: Sequence[str]) -> Dict[str, int]:
         """The place of the column of each variable."""
+        from ..runs.quadratics import check_name
+        from .measure import number_of
+
         names = [name for name, _ in self.cells.heads]
         flat = self.run.flat
         found: Dict[str, int] = {}
