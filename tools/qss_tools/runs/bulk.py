@@ -7,7 +7,7 @@ from typing import Collection, Dict, Iterator, List, NamedTuple, Optional, Seque
 
 from ..arrays import load
 from .rows import FOLLOWING, SECOND_BITS, Row, Rows, Run
-from .wide import Array, Wide, carried, joined_all
+from .wide import Array, Wide, joined_all, near
 
 np = load()
 
@@ -16,7 +16,9 @@ LEVEL, WHEN, SET, REINIT, SLOPE, START, END, OVERFLOW = range(8)
 PAD = 8  # bytes before and after a block, so that each load of eight bytes is within the buffer
 COMMA, NEWLINE, MINUS, ZERO, NINE = 44, 10, 45, 48, 57
 MOST_DIGITS = 32  # of a number: of a state 27
+MOST_TICK_DIGITS = 16  # of a tick: of a run 10
 FEW_NAMES = 12  # are found one by one
+FEW = 8  # one row of so many is rare
 NONE = -(1 << 31)  # the number of a name that is not known
 
 
@@ -31,14 +33,6 @@ class Record(NamedTuple):
     levels: Array
     states: Optional[Wide]
     labels: List[str]
-
-    def of(self, number: int, with_state: bool = False) -> Array:
-        """The places of the rows that state a value of a variable: its level or, of a state, the state."""
-        kinds = self.kinds
-        unfit = (kinds == WHEN) | (kinds == SLOPE) | (kinds == OVERFLOW)
-        if not with_state:
-            unfit |= kinds == REINIT
-        return np.flatnonzero((self.names == number) & ~unfit)
 
 
 class Fields(NamedTuple):
@@ -69,6 +63,8 @@ class Format:
         self.upper = np.array([one & 0x0F0F0F0F0F0F0F0F for one in kept], dtype=np.uint64)
         self.lower = np.array([ones >> (8 * (8 - n)) if n else 0 for n in range(9)], dtype=np.uint64)
         self.kinds = np.array([int.from_bytes(kind.encode(), "little") for kind in KINDS], dtype=np.uint64)
+        self.order_of_kinds = np.argsort(self.kinds).astype(np.uint8)
+        self.sorted_kinds = self.kinds[self.order_of_kinds]
         follows = [[later in FOLLOWING[kind] for later in KINDS] for kind in KINDS]
         self.follows = np.array(follows, dtype=bool).ravel()
         self.run = run
@@ -87,16 +83,15 @@ class Format:
         if 5 * count != len(places) or not count:
             return None
         ends = [np.ascontiguousarray(one) for one in places.reshape(-1, 5).T]
-        # (as many newlines as lines, each at its place, and no other separator than commas)
-        if np.count_nonzero(raw == NEWLINE) != count + 2 * PAD or np.count_nonzero(raw == COMMA) != 4 * count:
-            return None
-        if (raw[ends[4]] != NEWLINE).any():
+        # (a newline ends each line, and no other byte is below a comma)
+        if (raw[ends[4]] != NEWLINE).any() or np.count_nonzero(raw < COMMA) != count + 2 * PAD:
             return None
         first = np.empty_like(ends[0])
         first[0] = PAD
         np.add(ends[4][:-1], 1, out=first[1:])
         words = np.ndarray((len(raw) - 7,), "<u8", raw, strides=(1,))
-        others = np.count_nonzero(raw < ZERO) + np.count_nonzero(raw > NINE) - len(places) - 2 * PAD
+        digits = raw - np.uint8(ZERO)
+        others = np.count_nonzero(digits > NINE - ZERO) - len(places) - 2 * PAD
         return Fields(raw, words, ends, [first] + [end + 1 for end in ends[:4]], others)
 
     def text(self, fields: Fields, column: int) -> Tuple[Array, Array]:
@@ -106,6 +101,13 @@ class Format:
 
     def chunk(self, fields: Fields, ends: Array, digits: Array, place: int) -> Array:
         """The number of the eight digits before the last 8 * place ones, or of fewer. Each sign is a digit."""
+        if place:
+            longer = np.flatnonzero(digits > 8 * place)
+            if FEW * len(longer) < len(digits):
+                found = np.zeros(len(digits), dtype=np.int64)
+                if len(longer):
+                    found[longer] = self.chunk(fields, ends[longer], digits[longer], place)
+                return found
         masks = self.upper[MOST_DIGITS - 8 * place :]
         found = fields.words[ends - 8 * (place + 1)]
         found &= masks[digits]
@@ -119,34 +121,60 @@ class Format:
         found >>= np.uint64(32)
         return found.view(np.int64)
 
+    def ticks(self, fields: Fields) -> Optional[Array]:
+        """The numbers of the first column, or None where one has no digit or too many. A sign is no digit."""
+        digits = fields.ends[0] - fields.starts[0]
+        most = int(digits.max())
+        if most > MOST_TICK_DIGITS or not digits.all():
+            return None
+        found = self.chunk(fields, fields.ends[0], digits, 0)
+        return found if most <= 8 else found + 10**8 * self.chunk(fields, fields.ends[0], digits, 1)
+
     def numbers(self, fields: Fields, column: int, places: Optional[Array] = None) -> Optional[Numbers]:
         """The whole numbers of a column, or of some rows, or None where one has too many digits or only a sign."""
         starts, ends = fields.starts[column], fields.ends[column]
         if places is not None:
             starts, ends = starts[places], ends[places]
-        lengths = ends - starts
+        digits = ends - starts
+        given = digits > 0
         negative = fields.raw[starts] == MINUS
-        digits = lengths - negative
+        signs = np.count_nonzero(negative)
+        if signs:
+            digits -= negative
         most = int(digits.max())
-        if most > MOST_DIGITS or (negative & (digits == 0)).any():
+        if most > MOST_DIGITS or signs and (negative & (digits == 0)).any():
             return None
         chunks = [self.chunk(fields, ends, digits, place) for place in range(max(1, -(-most // 8)))]
-        signs = np.count_nonzero(negative)
-        return Numbers(from_chunks(chunks, negative if signs else None), lengths > 0, signs)
+        return Numbers(from_chunks(chunks, negative if signs else None), given, signs)
 
     def events(self, fields: Fields) -> Optional[Array]:
         """The places of the events in KINDS, or None where there is another one."""
         texts, lengths = self.text(fields, 1)
-        found = np.full(len(texts), 255, dtype=np.uint8)
-        for place, key in enumerate(self.kinds):
-            found[texts == key] = place
-        return None if (found == 255).any() or int(lengths.max()) > 8 else found
+        found = np.zeros(len(texts), dtype=np.uint8)
+        others = np.flatnonzero(texts != self.kinds[LEVEL])
+        if len(others):
+            if int(lengths.max()) > 8:
+                return None
+            where = np.searchsorted(self.sorted_kinds, texts[others])
+            kinds = self.order_of_kinds[np.minimum(where, len(KINDS) - 1)]
+            if (self.kinds[kinds] != texts[others]).any():
+                return None
+            found[others] = kinds
+        return found
 
     def others_of(self, kinds: Array, names: Array) -> int:
         """How many bytes of the events and of the names of variables are no digits."""
         counts = np.bincount(kinds, minlength=len(KINDS))
         known = np.bincount(names[names >= 0], minlength=len(self.others))
         return sum(int(count) * len(kind) for count, kind in zip(counts, KINDS)) + int(np.dot(known, self.others))
+
+    def others_fit(self, kinds: Array, names: Array, has_level: Array, has_state: Array) -> bool:
+        """Whether rows have the names, levels and states of their kinds."""
+        is_when = kinds == WHEN
+        if ((names == NONE) & ~is_when).any() or (has_level != self.has_level[kinds]).any():
+            return False
+        is_state = self.is_state[np.where(is_when, -1, names)]
+        return bool((has_state == (self.has_state[kinds] & is_state)).all())
 
     def signs(self, fields: Fields, column: int) -> Tuple[Array, int]:
         """Whether each field of a column is not empty, and how many begin with a sign."""
@@ -156,21 +184,18 @@ class Format:
 
 def from_chunks(chunks: List[Array], negative: Optional[Array]) -> Wide:
     """Numbers from their digits, eight at a time, and their signs."""
-    low = chunks[0] if len(chunks) == 1 else chunks[0] + chunks[1] * 10**8
+    low = chunks[0]
+    if len(chunks) > 1:
+        low += chunks[1] * 10**8
+    sign = None if negative is None else 1 - 2 * negative.astype(np.int64)
     if len(chunks) <= 2:
-        total = Wide([low])
-    else:
-        high = chunks[2] if len(chunks) == 3 else chunks[2] + chunks[3] * 10**8
-        if int(high.max()) < 400:
-            total = Wide([low + high * 10**16])
-        else:
-            total = (Wide([high]) * 10**16 + Wide([low])).joined()
-    if negative is None:
-        return total
-    sign = 1 - 2 * negative.astype(np.int64)
-    if len(total.parts) == 1:
-        return Wide([total.parts[0] * sign])
-    return carried([part * sign for part in total.parts])
+        return Wide([low if sign is None else low * sign])
+    high = chunks[2] if len(chunks) == 3 else chunks[2] + chunks[3] * 10**8
+    about = high * 1e16 + low
+    low += high * 10**16  # (modulo 2^64)
+    if sign is None:
+        return near(low, about)
+    return near(low * sign, about * sign)
 
 
 def count_others(text: str) -> int:
@@ -255,10 +280,12 @@ class Reader:
         return self.joined()
 
     def keep(self, record: Record) -> None:
-        """Keeps what is wanted of a block."""
+        """Keeps what is wanted of a block, or all of it where nearly all is wanted."""
+        chosen = None
         if self.wanted is not None:
             is_named = (record.kinds != WHEN) & (record.kinds != OVERFLOW)
             chosen = ~is_named | self.wanted[np.where(is_named, record.names, 0)]
+        if chosen is not None and FEW * np.count_nonzero(chosen) < (FEW - 1) * len(chosen):
             record = Record(
                 record.ticks[chosen],
                 record.kinds[chosen],
@@ -288,12 +315,12 @@ class Reader:
         fields = form.fields(block)
         if fields is None:
             return None
-        ticks, levels = form.numbers(fields, 0), form.numbers(fields, 3)
+        ticks, levels = form.ticks(fields), form.numbers(fields, 3)
         all_states = self.with_states and not self.rows.trusted
         states = form.numbers(fields, 4) if all_states else None
         if ticks is None or levels is None or all_states and states is None:
             return None
-        if not ticks.given.all() or len(ticks.values.parts) > 1 or len(levels.values.parts) > 1:
+        if len(levels.values.parts) > 1:
             return None
         has_state, signs = (states.given, states.signs) if states else form.signs(fields, 4)
         kinds, names = form.events(fields), form.names.find(form, fields)
@@ -302,9 +329,9 @@ class Reader:
         kept = states.values if states else self.reinitialized(fields, kinds)
         if self.with_states and kept is None:
             return None
-        record = Record(ticks.values.parts[0], kinds, names, levels.values.parts[0], kept, [])
+        record = Record(ticks, kinds, names, levels.values.parts[0], kept, [])
         others = form.others_of(kinds, names) + self.name_branches(fields, record)
-        if fields.others != others + ticks.signs + levels.signs + signs:
+        if fields.others != others + levels.signs + signs:
             return None
         if not self.fits(record, levels.given, has_state) or not self.starts_fit(record, fields):
             return None
@@ -335,17 +362,23 @@ class Reader:
         """Whether the rows of a block are valid, and in order."""
         form, rows, run = self.form, self.rows, self.run
         ticks, kinds, names = record.ticks, record.kinds, record.names
-        is_when = kinds == WHEN
-        if ((names == NONE) & ~is_when).any() or int(ticks[0]) < rows.tick or (ticks[1:] < ticks[:-1]).any():
+        if int(ticks[0]) < rows.tick or (ticks[1:] < ticks[:-1]).any():
             return False
-        before = np.empty_like(kinds)
-        before[0] = KINDS.index(rows.event)
-        before[1:] = kinds[:-1]
-        if not form.follows[before * np.uint8(8) + kinds].all():
+        # nearly all rows are of kind `level`: they have a level and the state of a state, and any row may be between
+        is_other = kinds != LEVEL
+        plain = names.view(np.uint32) < run.flat.states
+        plain &= has_level
+        plain &= has_state
+        plain |= is_other
+        others = np.flatnonzero(is_other)
+        if not plain.all() or not form.others_fit(kinds[others], names[others], has_level[others], has_state[others]):
             return False
-        if (has_level != form.has_level[kinds]).any():
+        after = np.minimum(others + 1, len(kinds) - 1)
+        if not (form.follows[kinds[others - 1] * np.uint8(8) + kinds[others]] | (others == 0)).all():
             return False
-        if (has_state != (form.has_state[kinds] & form.is_state[np.where(is_when, -1, names)])).any():
+        if not (form.follows[kinds[others] * np.uint8(8) + kinds[after]] | (after == others)).all():
+            return False
+        if not form.follows[KINDS.index(rows.event) * 8 + int(kinds[0])]:
             return False
         first = int(np.searchsorted(ticks, 1))
         if (kinds[first:] == START).any() or np.isin(kinds[:first], (LEVEL, WHEN, SET, REINIT)).any():

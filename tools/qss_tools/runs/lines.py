@@ -8,7 +8,7 @@ from .machines import Machine, nearest
 from .rows import Rows, Run
 from .series import Series, changes_of, overflow_of, steady
 from .trajectories import Combination, Exact, SlopeRow, Trajectory, machine_of, off_trajectory, with_sums
-from .wide import Array, Wide
+from .wide import SMALL, Array, Wide, running
 
 np = load()
 
@@ -133,34 +133,30 @@ class Follower:
         slopes = events.slopes(row, machine)
         ticks = events.ticks
         # (the first event is the start)
-        moves = slopes[:-1] * Wide([np.diff(ticks)])
-        start = Wide.of([machine.starts[number]])
-        sums = (start + moves.summed()) if len(moves) else Wide([np.zeros(0, dtype=np.int64)])
-        before = joined([start, sums])
-        jumped = events.is_own & (events.kinds == REINIT)
-        values = before
+        before = running(machine.starts[number], slopes[:-1] * Wide([np.diff(ticks)]))
+        values, jumped = before, events.kinds == REINIT
         if jumped.any():
             values, before = events.with_jumps(before, jumped)
         if not self.trusted:
             self.check(events, before, number)
-        changed = jumped
+        changed = np.append(True, jumped)
         for part in slopes.parts:
             changed[1:] |= part[1:] != part[:-1]
-        changed[0] = True
         # the last event of each tick, if one of its events changes the slope or the value
         ends = np.append(ticks[1:] != ticks[:-1], True)
-        groups = np.cumsum(np.append([0], ends[:-1]))
-        any_changed = np.bincount(groups, weights=changed, minlength=int(groups[-1]) + 1) > 0
-        kept = np.flatnonzero(ends)[any_changed]
+        if ends.all():
+            kept = np.flatnonzero(changed)
+        else:
+            kept = np.flatnonzero(ends)
+            kept = kept[np.diff(np.cumsum(changed)[kept], prepend=0) > 0]
         return ticks[kept], values[kept].joined(), slopes[kept].joined()
 
     def check(self, events: "Events", before: Wide, number: int) -> None:
         """Each state that a row states is on its trajectory."""
-        own = np.flatnonzero(events.is_own & ((events.kinds == LEVEL) | (events.kinds == END)))
-        assert events.states is not None
-        wrong = ~before[own].equals(events.states[own])
+        wrong = ~before[1:].equals(events.states)
+        wrong &= (events.names == number) & ((events.kinds == LEVEL) | (events.kinds == END))
         if wrong.any():
-            tick = int(events.ticks[own[np.flatnonzero(wrong)[0]]])
+            tick = int(events.ticks[1:][wrong][0])
             raise off_trajectory(self.run, self.name, tick, self.run.flat.variables[number].name)
 
 
@@ -171,48 +167,56 @@ def joined(some: Sequence[Wide]) -> Wide:
 
 
 class Events:
-    """The rows that change the slope of a state, and its own ones, after a first event for the start."""
+    """The rows that change the slope of a state, and its own ones. The ticks begin with that of the start."""
 
     def __init__(self, record: Record, reads: Any, number: int, levels: Sequence[int]) -> None:
-        is_read = np.zeros(len(levels) + 1, dtype=bool)
-        is_read[list(reads)] = True
         kinds, names = record.kinds, record.names
+        # (the number of a row of a branch is not that of a variable)
         is_level = (kinds == LEVEL) | (kinds == SET)
-        is_own = (names == number) & ((kinds == REINIT) | (kinds == END) | (kinds == LEVEL))
-        safe = np.where(is_level, names, -1)
-        places = np.flatnonzero((is_level & is_read[safe]) | is_own)
-        self.ticks = np.append([0], record.ticks[places])
-        self.kinds = np.append(np.array([255], dtype=np.uint8), kinds[places])
-        self.names = np.append([-1], names[places])
-        self.is_level = np.append([False], is_level[places])
-        self.is_own = np.append([False], is_own[places])
-        self.levels = np.append([0], record.levels[places])
+        is_read = np.zeros(max(len(levels), int(names.max()) + 1 if len(names) else 0) + 1, dtype=bool)
+        is_read[list(reads)] = True
+        chosen = is_read[names] & is_level
+        chosen |= (names == number) & ((kinds == LEVEL) | (kinds == REINIT) | (kinds == END))
+        places = slice(None) if chosen.all() else np.flatnonzero(chosen)
+        self.ticks = np.append(0, record.ticks[places])
+        self.kinds, self.names, self.levels = kinds[places], names[places], record.levels[places]
+        self.is_level = is_level[places]
         assert record.states is not None
-        self.states = joined([Wide([np.zeros(1, dtype=np.int64)]), record.states[places]])
+        self.states = record.states[places]
         self.first = levels
 
     def filled(self, number: int) -> Array:
-        """The level of a variable after each event."""
+        """The level of a variable at the start and after each event."""
         places = np.flatnonzero((self.names == number) & self.is_level)
-        counts = np.diff(np.concatenate([[0], places, [len(self.ticks)]]))
+        counts = np.diff(places, prepend=-1, append=len(self.names))
         return np.repeat(np.append([self.first[number]], self.levels[places]), counts)
 
     def slopes(self, row: SlopeRow, machine: Machine) -> Wide:
-        """The slope after each event."""
+        """The slope at the start and after each event."""
         gains = dict(row.row.states)
         switched = sorted({state for _, state, _ in row.row.products})
         fixed = [(state, gain) for state, gain in gains.items() if state not in switched]
         fixed += [(machine.states + place, gain) for place, gain in row.row.discretes]
-        total = Wide([np.zeros(len(self.ticks), dtype=np.int64)]) + row.row.constant
-        for number, gain in fixed:
-            total = total + Wide([self.filled(number)]) * gain
+        levels = Wide([self.levels]).bound() | max(map(abs, self.first), default=0)
+        weights = sum(abs(gain) for _, gain in fixed)
+        of_switched = []
         for state in switched:
             gain_of = self.switched_gain(row, machine, state, gains.get(state, 0))
-            total = total + Wide([self.filled(state)]) * Wide([gain_of])
+            weights += Wide([gain_of]).bound()
+            of_switched.append((state, gain_of))
+        if (weights * levels + abs(row.row.constant)).bit_length() <= SMALL:
+            found = np.full(len(self.ticks), row.row.constant, dtype=np.int64)
+            for number, factor in fixed + of_switched:
+                found += self.filled(number) * factor
+            return Wide([found])
+        total = Wide([np.zeros(len(self.ticks), dtype=np.int64)]) + row.row.constant
+        for number, factor in fixed + of_switched:
+            weight = Wide([factor]) if isinstance(factor, np.ndarray) else factor
+            total = total + Wide([self.filled(number)]) * weight
         return total.trimmed()
 
     def switched_gain(self, row: SlopeRow, machine: Machine, state: int, base: int) -> Array:
-        """The mode coefficient of a state after each event."""
+        """The mode coefficient of a state at the start and after each event."""
         terms = [(discrete, weight) for discrete, one, weight in row.row.products if one == state]
         which, values = np.zeros(len(self.ticks), dtype=np.int64), []
         for discrete, _ in terms:
@@ -230,10 +234,10 @@ class Events:
         return np.array(found, dtype=np.int64)[places]
 
     def with_jumps(self, before: Wide, jumped: Array) -> Tuple[Wide, Wide]:
-        """The values after each event, and just before it, where the state is set at some events."""
-        places = np.flatnonzero(jumped)
+        """The values at the start and after each event, and those just before it, where the state is set at some."""
+        places = np.flatnonzero(jumped) + 1
         counts = np.diff(np.concatenate([[0], places, [len(self.ticks)]]))
-        shifts = self.states[places] - before[places]
+        shifts = self.states[places - 1] - before[places]
         after = joined([Wide([np.zeros(1, dtype=np.int64)]), shifts])
         earlier = np.diff(np.concatenate([[0], places + 1, [len(self.ticks)]]))
         return before + after.repeated(counts), before + after.repeated(earlier)

@@ -187,14 +187,48 @@ class Wide:
 
     def equals(self, other: "Wide") -> Array:
         """Whether each number is the same as another one."""
-        difference = self - other
-        found = difference.parts[0] == 0
-        for part in difference.parts[1:]:
-            found &= part == 0
+        if len(self.parts) == len(other.parts) == 1:
+            return self.parts[0] == other.parts[0]
+        ones, others = self.split(), other.split()
+        count = max(len(ones), len(others))
+        found = part_of(ones, 0, count) == part_of(others, 0, count)
+        for place in range(1, count):
+            found &= part_of(ones, place, count) == part_of(others, place, count)
         return found
 
     def repeated(self, counts: Array) -> "Wide":
         return Wide([np.repeat(part, counts) for part in self.parts])
+
+
+def near(rests: Array, about: Array) -> Wide:
+    """The numbers that are `rests` modulo 2^64, from floats that are less than 2^62 away from them."""
+    if not len(rests):
+        return Wide([rests])
+    if max(float(about.max()), -float(about.min())) < 2.0 ** (SMALL - 1):
+        return Wide([rests])
+    turns = about - rests
+    turns *= 2.0**-64
+    top = np.rint(turns, out=turns).astype(np.int64)
+    top <<= 64 - 2 * BITS
+    top += rests >> (2 * BITS)
+    middle = rests >> BITS
+    middle &= MASK
+    return Wide([rests & MASK, middle, top])
+
+
+def running(start: int, steps: Wide) -> Wide:
+    """A start, and the sums of it and of the steps up to each one."""
+    if len(steps.parts) == 1:
+        about = np.empty(len(steps) + 1)
+        about[0], about[1:] = start, steps.parts[0]
+        about = np.cumsum(about, out=about)
+        # (each sum is rounded, by at most 2^-53 of it)
+        if len(about) * max(float(about.max()), -float(about.min())) < 2.0**112:
+            rests = np.empty(len(steps) + 1, dtype=np.int64)
+            rests[0], rests[1:] = (start + (1 << 63)) % (1 << 64) - (1 << 63), steps.parts[0]
+            return near(np.cumsum(rests, out=rests), about)
+    first = Wide.of([start])
+    return joined_all([first, first + steps.summed()]) if len(steps) else first
 
 
 def as_wide(number: Union[Wide, int]) -> Wide:
