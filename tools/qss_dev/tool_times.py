@@ -17,14 +17,21 @@ prints these rows and `pandas.read_csv` that reads them.
   tools/tool-times                 the least of three measurements, each in a process of its own
   tools/tool-times --repeat 5      of five
   tools/tool-times --check         status 1 if one takes longer than it may on an idle machine
+  tools/tool-times --check --by-ratio      the same, for the ratio of its processor time to that of pandas.read_csv
 
-Seconds are those of a clock, and of processors (user and system). On a busy machine the former are too large.
-Status: 0 all was measured, 1 with --check: a time is too long, 2 a fault."""
+Each line has the seconds of a clock and those of processors (user and system), each with its ratio to the seconds of
+`pandas.read_csv` in the same call of tool-times. Then it has the greatest time allowed, and the same as a ratio. The
+allowed times are for a machine on which `pandas.read_csv` reads a million rows in 0.3 s. On a slower machine compare
+the ratios. On a busy machine the seconds of the clock are too large.
+Status: 0 all was measured, 1 with --check: a time or a ratio is too large, 2 a fault."""
+
+REFERENCE = 0.3  # seconds of pandas.read_csv on the machine for which the allowed times are
 
 MODEL = os.path.join(ROOT, "examples", "buck_ccm.mo")
 VALUES = ("QSS_TickBits=8", "QSS_Quantum=1/2048")  # so that the run has a million rows
 MEASURES = "mean(iL) rms(iL) min(iL) max(iL) ripple(uC) final(uC) at(uC,t=3000) period(s) duty(s) integral(uC)"
 SWEEP = ("--set", "R=10:16:2", "--measure", "mean(uC) ripple(iL)", "--jobs", "1")
+READ = "pandas.read_csv of the rows"
 # What runs in a process of its own, by Python: it prints its seconds.
 IN_PYTHON = """
 import sys, time
@@ -46,27 +53,49 @@ class Time(NamedTuple):
 
 
 class Line(NamedTuple):
-    """What was measured, its time, and how long it may take."""
+    """What was measured, its time, and how long it may take: in seconds, and as a ratio where only a ratio is given."""
 
     what: str
     time: Time
     most: Optional[float]
+    most_ratio: Optional[float] = None
+
+    @property
+    def allowed(self) -> float:
+        """The greatest ratio to the time of `pandas.read_csv`."""
+        return self.most_ratio or (self.most or 0.0) / REFERENCE
+
+    def text(self, read: Time) -> str:
+        """The line, with ratios to the time of `pandas.read_csv`."""
+        clock, used = self.time
+        text = "%-46s %6.2f s %6.2f   %6.2f s %6.2f" % (self.what, clock, clock / read.clock, used, used / read.used)
+        return text if self.most is None else text + "   at most %.2f s %5.2f" % (self.most, self.allowed)
+
+    def is_late(self, read: Time, by_ratio: bool) -> bool:
+        """Whether the time, or the ratio of the processor times, is too large."""
+        if self.most is None:
+            return False
+        return self.time.used / read.used > self.allowed if by_ratio else self.time.clock > self.most
 
 
 def tool(arguments: Sequence[str]) -> int:
     parser = Arguments(prog="tool-times", description=ABOUT)
     parser.add_argument("--repeat", type=int, default=3, metavar="N", help="how often each is measured (default: 3)")
     parser.add_argument("--check", action="store_true", help="end with status 1 if a time is too long")
+    parser.add_argument("--by-ratio", action="store_true", help="with --check: compare ratios in place of seconds")
     add_program_option(parser)
     args = parser.parse_args(arguments)
     if not 1 <= args.repeat <= 100:
         raise Fault("--repeat: from 1 to 100")
+    if args.by_ratio and not args.check:
+        raise Fault("--by-ratio goes with --check")
     with tempfile.TemporaryDirectory(prefix="qss-") as folder:
         lines = Measured(folder, find_program(args.program), args.repeat).lines()
+    read = next(line.time for line in lines if line.what == READ)
+    print("%-46s %8s %6s   %8s %6s" % ("", "clock", "ratio", "processor", "ratio"))
     for line in lines:
-        most = "" if line.most is None else "at most %.2f" % line.most
-        print(("%-46s %6.2f s %6.2f s   %s" % (line.what, line.time.clock, line.time.used, most)).rstrip())
-    late = any(line.most is not None and line.time.clock > line.most for line in lines)
+        print(line.text(read))
+    late = any(line.is_late(read, args.by_ratio) for line in lines)
     return WARNED if args.check and late else FINE
 
 
@@ -86,8 +115,8 @@ class Measured:
         """All measurements."""
         found = [Line("the program, %d rows" % self.count, self.least(self.by_program), None)]
         read = self.in_python("pandas.read_csv(sys.argv[3])")
-        found.append(Line("pandas.read_csv of the rows", read, None))
-        found.append(Line("frame()", self.in_python("run.frame()"), 2 * read.clock))
+        found.append(Line(READ, read, None))
+        found.append(Line("frame()", self.in_python("run.frame()"), 2 * read.clock, 2.0))
         found.append(Line("measure() of ten measures", self.in_python("run.measure(%r)" % MEASURES), 0.3))
         pictures: Dict[str, float] = {"svg": 1.0, "png": 1.0, "html": 1.5}
         for kind, most in pictures.items():

@@ -1,6 +1,7 @@
 """Interactive pictures: one self-contained page by plotly, with a panel for each label and a common time axis."""
 from typing import Any, List, Mapping, Sequence, Tuple
 
+from ..arrays import load
 from ..fault import Fault
 from ..output import Output
 from .bands import NOTE, Band, bands_of
@@ -39,6 +40,12 @@ def drawn_points(curve: Curve, times: Tuple[float, float]) -> List[Tuple[float, 
             points.append((shortened(time - (time - begin) * HELD_END), held))
         points.append((time, value))
     return points
+
+
+def as_array(numbers: List[float]) -> Any:
+    """Numbers as an array where numpy is there: plotly looks at each element of a list."""
+    numpy = load()
+    return numbers if numpy is None else numpy.array(numbers)
 
 
 def draw(drawing: Drawing, panels: Sequence[Panel], times: Tuple[float, float]) -> None:
@@ -93,8 +100,8 @@ def add_panel(
         line = {"color": COLOURS[place % len(COLOURS)], "width": 1.3, "dash": "dash" if dashed else "solid"}
         line["shape"] = "hv" if getattr(curve, "is_held", False) else "linear"
         trace = graph_objects.Scatter(
-            x=[time for time, _ in points],
-            y=[shortened(value) for _, value in points],
+            x=as_array([time for time, _ in points]),
+            y=as_array([shortened(value) for _, value in points]),
             name=curve.label,
             mode="markers" if curve.is_dotted else "lines",
             line=line,
@@ -114,8 +121,8 @@ def add_band(figure: Any, graph_objects: Any, row: int, band: Band) -> None:
     for edge, fill in ((band.lower, None), (band.upper, "tonexty")):
         figure.add_trace(
             graph_objects.Scatter(
-                x=[shortened(time) for time in band.times],
-                y=[shortened(value) for value in edge],
+                x=as_array([shortened(time) for time in band.times]),
+                y=as_array([shortened(value) for value in edge]),
                 mode="lines",
                 line={"width": 0},
                 fill=fill,
@@ -141,7 +148,7 @@ def add_firings(
     for place, label in enumerate(sorted(firings)):
         figure.add_trace(
             graph_objects.Scatter(
-                x=[shortened(times[0] + (tick - marks.begin) * share) for tick in firings[label]],
+                x=as_array([shortened(times[0] + (tick - marks.begin) * share) for tick in firings[label]]),
                 y=[label] * len(firings[label]),
                 name="branch " + label,
                 mode="markers",

@@ -5,7 +5,6 @@ import os
 import tempfile
 from typing import Dict, List, NamedTuple, Optional, Sequence, Union
 
-from ..advice.explain import explain
 from ..fault import Fault, read_bytes
 from ..model.changes import changed_text
 from ..model.grammar import SyntaxFault
@@ -79,6 +78,8 @@ def explained(path: str, line: str) -> str:
     """Why a model is refused, in words; another line as it is."""
     if not line.startswith("refused: ") or not os.path.isfile(path):
         return line
+    from ..advice.explain import explain
+
     source = Source(path, read_bytes(path))
     try:
         story = explain(source, line)
