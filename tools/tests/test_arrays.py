@@ -1,4 +1,5 @@
 """Rows as arrays: the same rows, measures and tables as without numpy, and numbers of any size."""
+import bisect
 import cmath
 import itertools
 import math
@@ -8,6 +9,7 @@ import re
 import shutil
 import subprocess
 import unittest
+from fractions import Fraction
 from unittest import mock
 
 from models import BALL, BALL_ROWS, GROWING, GROWING_ROWS, HEADER, LINE, LINE_ROWS, SWITCHED, SWITCHED_ROWS
@@ -20,7 +22,10 @@ from qss_tools.fault import Fault
 from qss_tools.runs.curves import trajectories
 from qss_tools.runs.expressions import split_outside
 from qss_tools.runs.rows import Lines, Rows, Run, ordered
+from qss_tools.runs.series import merged, places_of
 from qss_tools.runs.steady import short_places
+from qss_tools.runs.thinning import held, thinned, thinned_steps
+from qss_tools.runs.wide import Wide, running
 
 HAS_NUMPY = arrays.load() is not None
 WITHOUT = {"QSS_NUMPY": "0"}
@@ -115,6 +120,56 @@ class Numbers(unittest.TestCase):
 
 
 @unittest.skipUnless(HAS_NUMPY, "numpy is not installed")
+@unittest.skipUnless(HAS_NUMPY, "numpy is not installed")
+class Vectorised(unittest.TestCase):
+    """What is computed for whole arrays, compared with whole numbers and sequences of Python."""
+
+    def setUp(self):
+        self.random = random.Random(5)
+
+    def number(self, bits):
+        return self.random.choice((1, -1)) * self.random.getrandbits(bits)
+
+    def test_decimals(self):
+        from qss_tools.tables.decimals import decimals
+
+        for bits, size in itertools.product((0, 1, 8, 20, 49, 50, 60, 88), (1, 20, 43, 61, 64, 88)):
+            numbers = [0, *(self.number(size) >> 3 << 3 for _ in range(30))]
+            found = decimals(Wide.of(numbers), bits)
+            if found is None:
+                self.assertGreater(size - bits, 59)
+                continue
+            texts = [text.tobytes().replace(b"\0", b"").decode() for text in found]
+            self.assertEqual([Fraction(text) * 2**bits for text in texts], numbers)
+            self.assertFalse([text for text in texts if re.search(r"\.$|\.\d*0$|^-?0\d|^-?\.", text)])
+
+    def test_running_sums(self):
+        for start, size in itertools.product((0, -5, 2**63, -(2**87)), (1, 40, 61, 80)):
+            steps = [self.number(size) for _ in range(50)]
+            sums = list(itertools.accumulate(steps, initial=start))
+            found = running(start, Wide.of(steps))
+            self.assertEqual(found.numbers(), sums)
+            self.assertTrue(found.equals(Wide.of(sums)).all())
+            self.assertEqual(found.equals(Wide.of([*sums[:-1], sums[-1] + 2**64])).tolist(), [True] * 50 + [False])
+
+    def test_places(self):
+        np = arrays.load()
+        for count, span, times in itertools.product((1, 40), (50, 100000), (0, 3, 400)):
+            changes = np.unique(np.array([0, *(self.random.randrange(span) for _ in range(count))]))
+            ticks = np.array(sorted(self.random.randrange(span + 9) for _ in range(times)), dtype=np.int64)
+            expected = [max(bisect.bisect_right(changes.tolist(), tick) - 1, 0) for tick in ticks.tolist()]
+            self.assertEqual(places_of(changes, ticks).tolist(), expected)
+            self.assertEqual(merged([changes, ticks]).tolist(), sorted({*changes.tolist(), *ticks.tolist()}))
+
+    def test_steps_are_thinned_as_lines(self):
+        np = arrays.load()
+        for columns, window in itertools.product((3, 40), ((0.0, 5005.0), (1000.5, 4000.25), (4990.0, 6000.0))):
+            ticks = np.array(sorted(self.random.sample(range(1, 5000), 2000)))
+            values = np.array([float(self.random.randrange(9)) for _ in ticks])
+            expected = thinned(*held(ticks, values, 5005), window, columns)
+            self.assertEqual(thinned_steps(ticks, values, 5005, window, columns), expected)
+
+
 class Reading(InFolder):
     def record(self, text, rows):
         from qss_tools.runs.bulk import KINDS, record_of
