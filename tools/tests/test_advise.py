@@ -115,6 +115,11 @@ class Findings(unittest.TestCase):
             [],
         )
 
+    def test_a_number_with_a_comma(self):
+        text = "model m Real x(start = 4,5); equation der(x) = -x; annotation(experiment(StopTime = 10,000)); end m;"
+        self.assert_told(text, "4,5 is read as 4 (a decimal point is '.': write 4.5 for 4,5)")
+        self.assert_told(text, "10,000 is read as 10 (a decimal point is '.': write 10.000 or 10000 for 10,000)")
+
     def test_what_is_rounded(self):
         self.assert_told(
             "model m Real x(start = 1); equation der(x) = -0.001*x; annotation(experiment(QSS_CoefBits = 12)); end m;",

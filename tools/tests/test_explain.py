@@ -11,6 +11,7 @@ from support import ROOT, STAND_IN, InFolder, run
 from qss_tools.advice.certificate_story import keyword_of
 from qss_tools.advice.explain import explain
 from qss_tools.fault import Fault
+from qss_tools.model.commas import commas_of
 from qss_tools.model.source import Source
 
 # A source and the line of its refusal, as the tests of the program's own crates hold them.
@@ -232,6 +233,46 @@ class Tool(InFolder):
         self.assertEqual(run("qss-explain", model, "--set", "R=2", "--program", STAND_IN), (0, "", ""))
         words = "--set", "R=2", "--line", "refused: affine 3 57 2", "--program", STAND_IN
         self.assert_fault(run("qss-explain", model, *words), "--set goes with none of")
+
+    def test_a_comma_in_a_number_that_is_accepted(self):
+        """The program reads 4 for 4,5. Whether 1,000 has a decimal comma is not certain, so it is not changed."""
+        text = "model m Real x(start = 4,5, min = 0); equation der(x) = 1; annotation(experiment(StopTime = %s)); end m;"
+        model, new = self.file("m.mo", text % "1,000"), os.path.join(self.folder, "new.mo")
+        status, out, err = run("qss-explain", model, "--apply", new, "--program", STAND_IN)
+        self.assertEqual((status, err), (1, new + ": 1 of 2 mistakes are mended\n"))
+        places = [text.index("4,5") + 1, text.index("%s") + 1]
+        found = [line for line in out.splitlines() if line.startswith(model)]
+        self.assertEqual(
+            found,
+            [
+                "%s:1:%d: 4,5 is read as 4 (a decimal point is '.': write 4.5 for 4,5)" % (model, places[0]),
+                "%s:1:%d: 1,000 is read as 1 (a decimal point is '.': write 1.000 or 1000 for 1,000)"
+                % (model, places[1]),
+            ],
+        )
+        with open(new, encoding="utf-8") as file:
+            self.assertEqual(file.read(), (text % "1,000").replace("4,5", "4.5"))
+
+    def test_which_numbers_with_commas_are_certain(self):
+        for written, certain, others in (
+            ("4,5", "4.5", None),
+            ("0,125", "0.125", None),
+            ("1,5e-3", "1.5e-3", None),
+            ("10,000", None, "10000"),
+            ("4, 5", None, None),
+            ("1,000,000", None, "1000000"),
+            ("1.5,5", None, None),
+        ):
+            with self.subTest(written):
+                text = "model m Real x(start = -%s, max = 9); equation der(x) = {1}; end m;" % written
+                source = Source("m.mo", text.replace("{1}", "1").encode())
+                (one,) = commas_of(source)
+                self.assertEqual((one.begin, one.end), (text.index(written), text.index(written) + len(written)))
+                self.assertEqual((one.certain, one.grouped), (certain, others))
+        drawing = "annotation(Icon(extent = {{-100,-100},{100,100}}), experiment(StopTime = 1))"
+        for more in (drawing, "annotation(experiment(StopTime = 1, Tolerance = 1e-6))"):
+            source = Source("m.mo", ("model m Real x(start = 4); equation der(x) = 1; %s; end m;" % more).encode())
+            self.assertEqual(commas_of(source), [])
 
     def test_the_way_to_the_place_can_be_executed(self):
         """The refusal of a changed model names the command that explains it."""

@@ -228,6 +228,17 @@ class Marks(Served):
         self.assertNotIn("QSS_Tickbits = 20))", self.client.text)
         self.assertEqual(errors(self.client.seen()), [])
 
+    def test_a_number_with_a_comma(self):
+        text = "model m\n  Real x(start = 4,5);\nequation\n  der(x) = -x;\nend m;\n"
+        self.client.open(URI, text)
+        warned = self.client.seen(lambda marks: any(one["severity"] == 2 for one in marks))
+        (mark,) = [one for one in warned if "4,5 is read as 4 " in one["message"]]
+        self.assertEqual((place(mark), mark["range"]["end"]["character"]), ("2:18", 20))
+        actions = self.client.actions(mark["range"])
+        self.assertTrue(actions["Write '4.5'"]["isPreferred"])
+        self.client.apply(actions["Write '4.5'"]["edit"]["changes"][URI])
+        self.assertEqual(self.client.text, text.replace("4,5", "4.5"))
+
     def test_mutated_texts(self):
         seed = random.Random(1)
         self.client.open(URI, SEVEN)

@@ -10,6 +10,7 @@ from typing import Callable, Dict, List, NamedTuple, Optional, Sequence
 
 from ..fault import FINE, WARNED, Arguments, Fault, read_bytes, run_tool
 from ..model.changes import add_set_option, assignments, changed_text, shown
+from ..model.commas import commas_of
 from ..model.flat import ALGEBRAIC, DISCRETE, PARAMETER, STATE, Flat, Meaningless, roles_of
 from ..model.grammar import Model, SyntaxFault, parse
 from ..model.source import LONGEST, Source, Token
@@ -368,8 +369,9 @@ ABOUT = """Why the program refused a model or a run overflowed, with the place i
 
 A line on standard input is explained. Where there is none, the model is run. Lines of the form 'qss: ..' are skipped.
 If the fix of a mistake is certain, the next mistake is explained too, as far as the program finds it after this fix.
+A number with a comma, as in start = 4,5, is explained although the program accepts it.
 With --json each mistake is an object: its place, its sentence, its fixes, and the edits of a certain fix.
-Status: 0 the run or the check succeeded, 1 a line was explained, 2 a fault of this tool."""
+Status: 0 the run or the check succeeded, 1 something was explained, 2 a fault of this tool."""
 
 
 def tool(arguments: Sequence[str]) -> int:
@@ -468,7 +470,7 @@ MOST_MISTAKES = 50
 def mistakes_of(source: Source, line: str, again: Optional[Callable[[bytes], str]]) -> "tuple[List[Mistake], bytes]":
     """The mistakes of a source from this line on, as far as fixes are certain, and the source with these fixes.
 
-    `again` runs a text and returns the program's line; without it there is one mistake.
+    `again` runs a text and returns the program's line; without it only the line is explained.
     """
     found: List[Mistake] = []
     before: List[edits.Edits] = []
@@ -482,7 +484,18 @@ def mistakes_of(source: Source, line: str, again: Optional[Callable[[bytes], str
         before.append(some)
         here = Source(source.name, edits.applied(here.data, some))
         line = again(here.data)
-    return found, here.data
+    silent = [] if again is None else comma_mistakes(here, before)
+    return found + silent, edits.applied(here.data, [edit for one in silent for edit in one.edits or ()])
+
+
+def comma_mistakes(here: Source, before: Sequence[edits.Edits]) -> List[Mistake]:
+    """Numbers with commas that the program accepts, and of which it reads only a part."""
+    found = []
+    for one in commas_of(here):
+        some = None if one.certain is None else [edits.Edit(one.begin, one.end, one.certain)]
+        story = Story(one.begin, one.sentence(), width=one.end - one.begin)
+        found.append(Mistake("", story, here, some, tuple(before)))
+    return found
 
 
 def line_of_text(args: argparse.Namespace, data: bytes) -> str:

@@ -4,6 +4,7 @@ import math
 from fractions import Fraction
 from typing import Iterator, List, Optional
 
+from ..model.commas import comma_numbers
 from ..model.flat import STATE, Flat, Row
 from ..model.grammar import Name, Pre, Sum
 from ..model.source import SETTINGS
@@ -59,6 +60,7 @@ def findings(flat: Flat, trial: Trial) -> List[Finding]:
     """All that is to be said, the graver first, each kind cut to a few."""
     found = []
     for look in (
+        numbers_with_commas,
         misspelt,
         never_fires,
         idle_branches,
@@ -84,6 +86,12 @@ def findings(flat: Flat, trial: Trial) -> List[Finding]:
         if len(some) > MOST_OF_A_KIND:
             found.append(Finding(None, "and %d more of this kind" % (len(some) - MOST_OF_A_KIND), None, some[-1].grave))
     return found
+
+
+def numbers_with_commas(flat: Flat, trial: Trial) -> Iterator[Finding]:
+    """Numbers with a comma in brackets, of which only the part before the comma counts."""
+    for one in comma_numbers(flat.model):
+        yield Finding(one.begin, one.sentence(), None, True)
 
 
 def misspelt(flat: Flat, trial: Trial) -> Iterator[Finding]:

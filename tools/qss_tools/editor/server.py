@@ -10,6 +10,7 @@ from dataclasses import dataclass, field
 from typing import Any, Callable, Dict, List, Optional, Sequence
 
 from ..fault import FINE, Arguments, Fault, run_tool
+from ..model.commas import commas_of
 from ..model.source import SETTINGS, WORDS
 from ..program import add_program_option, find_program
 from . import words
@@ -267,6 +268,11 @@ def warning_of(text: Text, finding: Json) -> Problem:
     meant = re.match(r"write '?(\w+)'?\Z", way)
     if meant and finding["at"] is not None and "ignored" in finding["sentence"]:
         fixes.append(fix(f"Write '{meant.group(1)}'", at, at + width, meant.group(1)))
+    for one in commas_of(text.source) if "is read as" in finding["sentence"] else ():
+        if one.begin == finding["at"]:
+            width = one.end - one.begin
+            meanings = [each for each in (one.decimal, one.grouped) if each]
+            fixes += [fix(f"Write '{each}'", at, at + width, each, each == one.certain) for each in meanings]
     return Problem(at, at + width, finding["sentence"], [way] if way else [], "", fixes, finding["grave"])
 
 

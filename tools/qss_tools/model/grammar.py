@@ -29,7 +29,8 @@ Condition = namedtuple("Condition", "left relation right sign at span")
 Branch = namedtuple("Branch", "condition body")
 Clause = namedtuple("Clause", "branches at")
 Setting = namedtuple("Setting", "name value at span")
-ReadOver = namedtuple("ReadOver", "where text at")  # an item of an annotation that has no effect
+# An item of an annotation that has no effect. `before` is the token before the comma that is before it, or None.
+ReadOver = namedtuple("ReadOver", "where text at before")
 
 
 class SyntaxFault(Exception):
@@ -227,7 +228,8 @@ class Parser:
 
     def read_over(self, found: Model, where: str) -> None:
         at = self.at()
-        found.read_over.append(ReadOver(where, self.skip_item(), at))
+        before = self.tokens[self.next - 2] if self.tokens[self.next - 1].text == "," else None
+        found.read_over.append(ReadOver(where, self.skip_item(), at, before))
 
     def annotation(self, found: Model, component: Optional[str]) -> Tuple[Optional[Expression], Optional[Span]]:
         """The annotation of a component, whose quantum and its span are given back, or of the model."""
