@@ -236,7 +236,9 @@ class Tool(InFolder):
 
     def test_a_comma_in_a_number_that_is_accepted(self):
         """The program reads 4 for 4,5. Whether 1,000 has a decimal comma is not certain, so it is not changed."""
-        text = "model m Real x(start = 4,5, min = 0); equation der(x) = 1; annotation(experiment(StopTime = %s)); end m;"
+        text = (
+            "model m Real x(start = 4,5, min = 0); equation der(x) = 1; annotation(experiment(StopTime = %s)); end m;"
+        )
         model, new = self.file("m.mo", text % "1,000"), os.path.join(self.folder, "new.mo")
         status, out, err = run("qss-explain", model, "--apply", new, "--program", STAND_IN)
         self.assertEqual((status, err), (1, new + ": 1 of 2 mistakes are mended\n"))

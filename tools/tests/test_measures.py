@@ -191,6 +191,28 @@ class Runs(InFolder):
         self.assertTrue(header.startswith('mean(y),min(y),max(y),"ripple(y, from=0.5, to=1)",integral(y)'))
         self.assertEqual(values, "0.05,-0.875,1,1.25,0.0625,-2.5,-7.5,1.875,-3.125,1.875")
 
+    def test_parameters_in_expressions(self):
+        """mean(y) is 0.05, and y is 1, 1, 1/2, -1, -1/2 and -1/2 at the six ticks. No equation has a parameter."""
+        text = BALL.replace("Real y", "parameter Real m = 0.5, k = 2*m + 3; Real y")
+        ball, rows = self.file("ball.mo", text), self.file("ball.csv", BALL_ROWS)
+        words = "--csv", "--program", STAND_IN, "--no-advice"
+        asked = "mean(m*y) mean(y/m) mean(k) mean(k - 1) max(k*y + m)"
+        for more, wanted in (((), "0.025,0.1,4,3,4.5"), (("--set", "m=2"), "0.1,0.025,7,6,9")):
+            status, out, err = run("qss-measure", ball, rows, asked, *more, *words)
+            self.assertEqual((status, err, out.split("\n")[1]), (0, "", wanted))
+        status, out, err = run("qss-table", ball, rows, "--names", "k*y,m,y/m", "--every", "0.5", *words[1:])
+        self.assertEqual((status, err), (0, ""))
+        self.assertEqual(out, "time,k*y,m,y/m\n0,4,0.5,2\n0.5,1,0.5,0.5\n1,-2,0.5,-1\n")
+        for asked, part in (
+            ("mean(Y)", "has no variable 'Y' (did you mean 'y'?); it has the variables y, v and the parameters m, k"),
+            ("mean(2*Y)", "has no variable 'Y' (did you mean 'y'?)"),
+            ("mean(2*K)", "has no variable 'K' (did you mean 'k'?)"),
+            ("mean(y/(k - 4))", "a divisor is a number or a parameter, and not 0"),
+        ):
+            self.assert_fault(run("qss-measure", ball, rows, asked, *words), part)
+        found = run("qss-plot", ball, rows, "--names", "k*Y", "--text", *words[1:])
+        self.assert_fault(found, "has no variable 'Y' (did you mean 'y'?)")
+
     def test_mean_square_of_a_ball(self):
         ball = self.file("ball.mo", BALL)
         self.file("ball.mo.rows", BALL_ROWS)

@@ -1,5 +1,4 @@
 """The columns of a table or a picture: which variables are shown, and their values at a tick."""
-import difflib
 import fnmatch
 import re
 from fractions import Fraction
@@ -9,7 +8,7 @@ from typing import Dict, List, NamedTuple, Optional, Sequence, Set, Tuple, Union
 from ..fault import Fault
 from ..model.flat import ALGEBRAIC, DISCRETE, STATE, Flat, Meaningless
 from ..model.spelling import decimal_text
-from .expressions import is_expression, level_terms, split_outside
+from .expressions import is_computed, level_terms, no_variable, split_outside
 from .rows import Run, exact
 
 RANGE = re.compile(r"^(\w+)\[(\d+):(\d+)\]$")
@@ -27,12 +26,7 @@ def chosen(run: Run, patterns: Optional[str]) -> List[int]:
     for pattern in patterns.split(","):
         some = matching(flat, pattern.strip())
         if not some:
-            near = difflib.get_close_matches(pattern, [one.declaration.name for one in flat.variables], 1, 0.5)
-            names = dict.fromkeys(one.declaration.name for one in flat.variables)
-            raise Fault(
-                "%s has no variable '%s'%s; it has %s"
-                % (run.model, pattern, " (did you mean '%s'?)" % near[0] if near else "", ", ".join(names))
-            )
+            raise no_variable(run, pattern.strip())
         found += [number for number in some if number not in found]
     return found
 
@@ -196,7 +190,7 @@ def columns_of(run: Run, patterns: Optional[str], states: bool = False) -> List[
     if patterns is not None:
         parts = [*split_outside(patterns, ",")]
     for part in parts:
-        if part is not None and is_expression(part) and not matching(run.flat, part):
+        if part is not None and is_computed(run, part) and not matching(run.flat, part):
             found.append(Expression(run, part))
             continue
         for number in chosen(run, part):

@@ -1,9 +1,10 @@
-"""Expressions of variables, as 'uC*iL' or '(uC - u0)/2': sums of products, with exact coefficients.
+"""Expressions of variables and parameters, as 'uC*iL' or '(uC - u0)/R': sums of products, with exact coefficients.
 
 A sum of variables is a piecewise linear function of time, and so is a product of a variable with discrete ones. A
 product of two variables that move is piecewise quadratic: its mean and its integral are exact too.
 """
 import ast
+import difflib
 import re
 from fractions import Fraction
 from math import lcm
@@ -16,6 +17,8 @@ from .rows import Run
 IS_EXPRESSION = re.compile(r"[-+*/()]")
 LONGEST = 1000  # letters
 MOST_TERMS = 1000
+MOST_NAMES = 12  # in a fault
+CLOSE = 0.5  # the likeness of names that are taken for one another
 
 Key = Tuple[int, ...]  # the numbers of the variables of a product, in their order
 Terms = Dict[Key, Fraction]
@@ -24,6 +27,28 @@ Terms = Dict[Key, Fraction]
 def is_expression(text: str) -> bool:
     """Whether a text is no name."""
     return bool(IS_EXPRESSION.search(text))
+
+
+def is_computed(run: Run, text: str) -> bool:
+    """Whether a text is an expression or the name of a parameter, and no variable."""
+    return is_expression(text) or text in run.flat.parameters
+
+
+def no_variable(run: Run, name: str) -> Fault:
+    """The fault of a name that is no variable."""
+    if name in run.flat.parameters:
+        return Fault("'%s' is a parameter of %s and no variable" % (name, run.model))
+    names = list(dict.fromkeys(one.declaration.name for one in run.flat.variables))
+    known = names + list(run.flat.parameters)
+    near = [one for one in known if one.lower() == name.lower()] or difflib.get_close_matches(name, known, 1, CLOSE)
+    meant = " (did you mean '%s'?)" % near[0] if near else ""
+    has = ["%s %s" % (kind, listed(some)) for kind, some in (("variables", names), ("parameters", known[len(names) :]))]
+    return Fault("%s has no variable '%s'%s; it has the %s" % (run.model, name, meant, " and the ".join(has)))
+
+
+def listed(names: List[str]) -> str:
+    """Some names for a fault."""
+    return (", ".join(names[:MOST_NAMES]) + (", .." if len(names) > MOST_NAMES else "")) or "(none)"
 
 
 def split_outside(text: str, sign: str) -> List[str]:
@@ -69,7 +94,7 @@ class Reader:
             return {(): Fraction(ast.get_source_segment(self.text.strip(), tree) or str(tree.value))}
         if isinstance(tree, (ast.Name, ast.Subscript)):
             return self.variable(tree)
-        raise self.fault("an expression has variables, numbers, + - * / and parentheses")
+        raise self.fault("an expression has variables, parameters, numbers, + - * / and parentheses")
 
     def both(self, tree: ast.BinOp) -> Terms:
         """The terms of a sum, a difference, a product or a quotient."""
@@ -83,9 +108,9 @@ class Reader:
         if isinstance(tree.op, ast.Div):
             by = other.get((), Fraction(0))
             if set(other) - {()} or not by:
-                raise self.fault("a divisor is a number other than 0")
+                raise self.fault("a divisor is a number or a parameter, and not 0")
             return {key: value / by for key, value in one.items()}
-        raise self.fault("an expression has variables, numbers, + - * / and parentheses")
+        raise self.fault("an expression has variables, parameters, numbers, + - * / and parentheses")
 
     def product(self, one: Terms, other: Terms) -> Terms:
         if len(one) * len(other) > MOST_TERMS:
@@ -98,14 +123,15 @@ class Reader:
         return found
 
     def variable(self, tree: Any) -> Terms:
-        """A variable, or the sum that an algebraic one stands for."""
+        """A variable, or the sum that an algebraic one stands for, or the value of a parameter."""
         flat = self.run.flat
         name = ast.get_source_segment(self.text.strip(), tree) or ""
         name = name.replace(" ", "")
+        if name in flat.parameters:
+            return {(): flat.parameters[name]}
         number = flat.numbers.get(name)
         if number is None:
-            known = ", ".join(one.name for one in flat.variables[:12])
-            raise Fault("%s has no variable '%s' (variables: %s)" % (self.run.model, name, known))
+            raise no_variable(self.run, name)
         if number < flat.states + flat.discretes:
             return {(number,): Fraction(1)}
         try:

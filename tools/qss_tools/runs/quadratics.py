@@ -4,7 +4,7 @@ from typing import Any, Callable, Dict, List, Mapping, Sequence, Set, Tuple, Uni
 
 from ..arrays import load
 from ..fault import Fault
-from .expressions import Key, Terms, degree, denominator, is_expression, states_in, terms_of, variables_of
+from .expressions import Key, Terms, degree, denominator, is_computed, states_in, terms_of, variables_of
 from .measures import Request, measured, window_of
 from .rows import Run
 from .trajectories import Combination, Exact, Trajectory
@@ -138,7 +138,7 @@ def lines_of_names(
         return place
 
     for name in names:
-        if not is_expression(name):
+        if not is_computed(run, name):
             plans[name] = number_of(run, name), []
             numbers.append(plans[name][0])
             continue
@@ -166,8 +166,8 @@ def check_degree(run: Run, name: str, terms: Terms) -> None:
 
 
 def check_name(run: Run, name: str, number_of: Callable[[Run, str], int]) -> None:
-    """A variable or an expression can be measured."""
-    if is_expression(name):
+    """A variable, a parameter or an expression can be measured."""
+    if is_computed(run, name):
         terms = terms_of(run, name)
         check_degree(run, name, terms)
         variables_of(terms)

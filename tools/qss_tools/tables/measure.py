@@ -10,6 +10,7 @@ from ..model.source import Source
 from ..model.units import checked_unit, variable_units, written_time_unit
 from ..output import Output
 from ..runs.columns import matching
+from ..runs.expressions import no_variable
 from ..runs.measures import MEASURES, TIME, VALUE, Request, requests
 from ..runs.quadratics import Line, check_name, lines_of_names, value_of
 from ..runs.rows import Rows, Run, add_run_options, lines_of, run_of
@@ -25,8 +26,8 @@ computed from the rows and the model.
   tools/qss-measure MODEL 'rise(y) overshoot(y)' --set R=10      runs the model with another value of R
   tools/qss-measure MODEL 'duty(s) period(s) thd(u, f=50)' --csv
 
-Measures, each of a state, a discrete variable, an algebraic variable or an expression of them, as mean(uC*iL) or
-rms(uC - u0). Of a product of two states there are mean, integral, at, start and final:
+Measures, each of a state, a discrete variable, an algebraic variable or an expression of them and of parameters, as
+mean(uC*iL), rms(uC - u0) or mean(Vin*s*iL). Parameters have the values of --set. Of a product of two states there are mean, integral, at, start and final:
   mean, rms, min, max, ripple (max - min), start, final, at(x, t=), integral
   rise        time from 10 % to 90 % of the step from the first value to the last (low=, high=, initial=, final=)
   overshoot   how far the value passes the last one, relative to the step (initial=, final=)
@@ -50,15 +51,11 @@ Overflow = Optional[Tuple[int, str]]  # of a run: its tick and the name of the v
 def number_of(run: Run, name: str) -> int:
     """The number of the one variable with this name."""
     found = matching(run.flat, name)
-    if len(found) != 1:
+    if not found:
+        raise no_variable(run, name)
+    if len(found) > 1:
         some = ", ".join(run.flat.variables[number].name for number in found[:3])
-        known = ", ".join(one.name for one in run.flat.variables[:12])
-        raise Fault(
-            "'%s' is more than one variable of %s: %s .." % (name, run.model, some)
-            if found
-            else "%s has no variable '%s' (variables: %s%s)"
-            % (run.model, name, known, ", .." if len(run.flat.variables) > 12 else "")
-        )
+        raise Fault("'%s' is more than one variable of %s: %s .." % (name, run.model, some))
     return found[0]
 
 

@@ -48,7 +48,7 @@ def parser_of() -> Arguments:
     parser.add_argument(
         "--names",
         metavar="LIST",
-        help="names, arrays, u[2:5], patterns with * or expressions, as uC*iL, with commas between them",
+        help="names, arrays, u[2:5], patterns with * or expressions, as uC*iL or Vin*iL, with commas between them",
     )
     parser.add_argument("--every", metavar="STEP", help="only the values at each multiple of this time")
     parser.add_argument("--from", dest="begin", metavar="TIME", help="write from this time on")
