@@ -16,8 +16,10 @@ from fractions import Fraction
 from typing import Any, ContextManager, Dict, Iterable, List, Mapping, NamedTuple, Optional, Sequence, Tuple, Union
 
 from .arrays import load
-from .fault import Fault
+from .fault import Fault, read_bytes
 from .model.changes import shown, value_text, write_changed
+from .model.source import Source
+from .model.units import NO_UNIT, time_unit
 from .plot import plot
 from .plot.differences import Difference
 from .program import OVERFLOWED, canonical_text, find_program
@@ -171,7 +173,7 @@ class Simulation:
             numbers = chosen(self.run, None)
         else:
             numbers = [number_of(self.run, name) for name in ([names] if isinstance(names, str) else names)]
-        return [Signal(line) for line in self._trajectories(numbers, all_values)]
+        return [Signal(line, unit_of(self.model)) for line in self._trajectories(numbers, all_values)]
 
     def _trajectories(
         self, numbers: Sequence[int], all_values: bool, sums: Optional[Mapping[int, Combination]] = None
@@ -186,7 +188,7 @@ class Simulation:
 
     def measure(self, text: str, all_values: bool = False) -> Union[float, Dict[str, float]]:
         """The value of a measure, as 'mean(iL)', or a dictionary of those of several."""
-        asked = requests(text)
+        asked = requests(text, unit_of(self.model))
         names = list(dict.fromkeys(one.variable for one in asked))
 
         def compute(numbers: List[int], sums: Dict[int, Combination]) -> List[Trajectory]:
@@ -242,8 +244,8 @@ class Simulation:
 class Signal:
     """A variable over time: exact, piecewise linear, with jumps."""
 
-    def __init__(self, line: Trajectory) -> None:
-        self.line, self.name = line, line.name
+    def __init__(self, line: Trajectory, unit: str = NO_UNIT) -> None:
+        self.line, self.name, self.time_unit = line, line.name, unit
 
     def points(self) -> List[Tuple[float, float]]:
         """The points (time, value) of the curve, as floats; two have the same time where it jumps."""
@@ -274,7 +276,7 @@ class Signal:
             "%s=%s" % ({"begin": "from", "end": "to"}.get(option, option), value_text(value).replace(" ", ""))
             for option, value in options.items()
         ]
-        return float(measured(requests("%s(%s)" % (name, ", ".join(parts)))[0], self.line))
+        return float(measured(requests("%s(%s)" % (name, ", ".join(parts)), self.time_unit)[0], self.line))
 
 
 def array_kind() -> Any:
@@ -327,14 +329,16 @@ def sweep(model: FilePath, measure: Union[str, Iterable[str]], set: Mapping[str,
     how = SweepOptions(**options)
     program, model = find_program(how.program), os.fspath(model)
     texts = measure if isinstance(measure, str) else " ".join(measure)
-    asked, text = requests(texts), canonical_text(program, model)
+    unit, text = unit_of(model), canonical_text(program, model)
+    asked = requests(texts, unit)
     run = Run(model, program)
     for one in asked:
         check_name(run, one.variable, number_of)
     words = ["%s=%s" % (name, values_text(values)) for name, values in set.items()]
     points = Points(words, how.samples, how.seed)
     rows = list(points)
-    work = (Job(program, model, text, dict(zip(points.names, row)), texts, how.rule, how.relative) for row in rows)
+    with_values = (dict(zip(points.names, row)) for row in rows)
+    work = (Job(program, model, text, values, texts, how.rule, how.relative, unit) for values in with_values)
     count = how.jobs or min(processors(), len(rows))
     outcomes = by_processes(work, count) if how.dask is None else by_dask(work, how.dask, program)
     found = [
@@ -350,6 +354,11 @@ def sweep(model: FilePath, measure: Union[str, Iterable[str]], set: Mapping[str,
     except ImportError:
         return found
     return pandas.DataFrame(found)
+
+
+def unit_of(model: str) -> str:
+    """The unit of time of a model."""
+    return time_unit(Source(model, read_bytes(model)))
 
 
 def values_text(values: Any) -> str:

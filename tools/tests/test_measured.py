@@ -11,7 +11,8 @@ from support import PROGRAM, ROOT, STAND_IN, InFolder, python_with, run, run_by
 
 from qss_tools.fault import Fault
 from qss_tools.runs.rows import Run
-from qss_tools.tables.measurements import Measurements, cells_of, named, time_of, unit_factor
+from qss_tools.model.units import time_of
+from qss_tools.tables.measurements import Measurements, cells_of, named, unit_factor
 
 SVG = "{http://www.w3.org/2000/svg}"
 

@@ -2,12 +2,11 @@
 import re
 from typing import Callable, Dict, Iterator, List, NamedTuple, Optional, Sequence, Tuple
 
+from ..model.number_hints import SUFFIXES
 from ..model.source import Source, Token
 from . import equations, naming
 
 REFUSED = re.compile(r"^refused: (\w+) (\d+)((?: \S+)*)$")
-# Suffixes of numbers in netlists. M is left out: some read it as mega, others as milli.
-SUFFIXES = {"f": -15, "p": -12, "n": -9, "u": -6, "m": -3, "k": 3, "K": 3, "meg": 6, "G": 9, "T": 12}
 CONSTANTS = {"pi": "3.14159265", "e": "2.71828183", "g_n": "9.80665"}
 # Words that a model has no use for.
 LEFT_OUT = ("protected", "public", "final", "encapsulated", "partial")

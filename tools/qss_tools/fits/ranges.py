@@ -9,7 +9,7 @@ from ..model.changes import ASSIGNMENT
 from ..model.flat import Flat
 from ..model.source import SETTINGS
 from ..sweeps.grids import rounded
-from ..tables.measurements import time_of
+from ..model.units import time_of
 
 DIGITS = 6  # significant ones of a value: a product of three is not yet too long for the language
 SHIFT = "shift"  # of the measured values in time

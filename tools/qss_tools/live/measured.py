@@ -68,7 +68,7 @@ class Measured:
         """The measures of a text, each with its value and unit or why it has none."""
         if not text.strip():
             return []
-        some = requests(text)
+        some = requests(text, self.units.time or "s")
         for one in some:
             check_name(self.done.run, one.variable, number_of)
         lines = self.lines(list(dict.fromkeys(one.variable for one in some)))

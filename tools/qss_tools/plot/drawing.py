@@ -7,7 +7,7 @@ from ..certificates.band import certified
 from ..fault import Fault, read_bytes
 from ..model.flat import ALGEBRAIC, Variable
 from ..model.source import Source
-from ..model.units import axis_label, variable_units
+from ..model.units import axis_label, checked_unit, plain_time, time_unit, variable_units
 from ..numeric.trial import time_like
 from ..runs.columns import AnyColumn, columns_of
 from ..runs.expressions import split_outside
@@ -36,6 +36,9 @@ class Drawing:
         if self.certified and (args.text or args.against):
             raise Fault("--certificate draws states over time, into a picture")
         self.width = TEXT_WIDTH if args.text else WIDTH
+        source = Source(args.source, read_bytes(args.source))
+        unit = checked_unit(args.unit) or time_unit(source)
+        args.begin, args.end = plain_time(args.begin, unit, "--from"), plain_time(args.end, unit, "--to")
         self.begin, self.end = window_of(args, self.run, "draw")
         self.labels = self.panel_names(self.run)
         for part in self.parts():
@@ -48,7 +51,7 @@ class Drawing:
         self.units = variable_units(args.source)
         self.title = args.title or self.run.flat.model.name
         self.height = args.height
-        self.axis = axis_label(Source(args.source, read_bytes(args.source)), args.unit)
+        self.axis = axis_label(source, args.unit)
 
     def panel_names(self, run: Run) -> List[str]:
         """The panels' patterns."""

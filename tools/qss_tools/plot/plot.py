@@ -68,7 +68,7 @@ def parser_of() -> Arguments:
     parser.add_argument("--over-model", metavar="MODEL", help="the model of the second run, if it is another one")
     add_certificate_option(parser)
     add_data_options(parser)
-    parser.add_argument("--from", dest="begin", metavar="TIME", help="draw from this time on")
+    parser.add_argument("--from", dest="begin", metavar="TIME", help="draw from this time on, as 4 or 9.5ms")
     parser.add_argument("--to", dest="end", metavar="TIME", help="draw up to this time")
     parser.add_argument("--unit", help="the model's unit of time, for the axis")
     parser.add_argument("--title", help="the title (default: the model's name)")

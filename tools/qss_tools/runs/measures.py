@@ -10,6 +10,8 @@ from fractions import Fraction
 from typing import Any, Dict, List, Optional, Sequence, Tuple
 
 from ..fault import Fault
+from ..model.number_hints import with_hint
+from ..model.units import time_of
 from .expressions import split_outside
 from .lines import ArrayTrajectory
 from .trajectories import Exact, Trajectory
@@ -18,7 +20,9 @@ from .windows import ArrayWindow
 
 HARMONICS = 40  # of a distortion, as in IEC 61000
 PART = re.compile(r"[\s,;]*([A-Za-z_]\w*)\s*\(")
-OPTION = re.compile(r"^(\w+)\s*=\s*(\S+)$")
+OPTION = re.compile(r"^(\w+)\s*=\s*(\S.*)$")
+TIMES = ("from", "to", "t")  # the options that are times
+NUMBER = re.compile(r"\d+(?:[eE][-+]?\d+)?$")
 
 Request = namedtuple("Request", "text name variable options")
 Request.__doc__ = "A measure that is asked for: its text, its name, a variable, and options by name."
@@ -267,8 +271,8 @@ MEASURES = {
 NEEDED = {"at": "t", "thd": "f", "harmonic": "f"}
 
 
-def requests(text: str) -> List[Request]:
-    """The measures that a text asks for, as 'mean(iL) ripple(uC, from=4)'."""
+def requests(text: str, unit: str = "s") -> List[Request]:
+    """The measures that a text asks for, as 'mean(iL) ripple(uC, from=4ms)'. The unit is the model's unit of time."""
     found: List[Request] = []
     at_place = 0
     while text[at_place:].strip(" \t\r\n,;"):
@@ -276,7 +280,7 @@ def requests(text: str) -> List[Request]:
         end = closing(text, match.end()) if match else None
         if match is None or end is None:
             raise Fault("'%s' is not a measure: write NAME(VARIABLE), as mean(iL)" % text[at_place:].strip(" \t\r\n,;"))
-        found.append(request(match.group(1), split_outside(text[match.end() : end], ",")))
+        found.append(request(match.group(1), split_outside(text[match.end() : end], ","), unit))
         at_place = end + 1
     if not found:
         raise Fault("no measure is given (measures: %s)" % ", ".join(MEASURES))
@@ -293,7 +297,7 @@ def closing(text: str, begin: int) -> Optional[int]:
     return None
 
 
-def request(name: str, parts: Sequence[str]) -> Request:
+def request(name: str, parts: Sequence[str], unit: str) -> Request:
     """One measure: its variable comes first, and then its options."""
     if name not in MEASURES:
         raise Fault("there is no measure '%s' (measures: %s)" % (name, ", ".join(MEASURES)))
@@ -305,16 +309,23 @@ def request(name: str, parts: Sequence[str]) -> Request:
         match = OPTION.match(part)
         allowed = ("from", "to") + MEASURES[name].options
         if match is None or match.group(1) not in allowed or match.group(1) in options:
-            raise Fault(
-                "%s: '%s' is not an option (options: %s)" % (name, part, ", ".join(one + "=" for one in allowed))
-            )
-        try:
-            options[match.group(1)] = Fraction(match.group(2))
-        except (ValueError, ZeroDivisionError) as error:
-            raise Fault("%s: '%s' is not a number" % (name, match.group(2))) from error
+            has = ", ".join(one + "=" for one in allowed)
+            comma = ": a decimal point is '.', and not ','" if NUMBER.match(part) and options else ""
+            raise Fault("%s: '%s' is not an option%s (options: %s)" % (name, part, comma, has))
+        options[match.group(1)] = option_value(name, match.group(1), match.group(2), unit)
     if NEEDED.get(name, "from") not in options and name in NEEDED:
         raise Fault("%s needs %s=" % (name, NEEDED[name]))
     return Request("%s(%s)" % (name, ", ".join(parts)), name, variable, options)
+
+
+def option_value(name: str, option: str, text: str, unit: str) -> Fraction:
+    """The value of an option of a measure: a number, or a time with its unit."""
+    try:
+        return Fraction(text)
+    except (ValueError, ZeroDivisionError) as error:
+        if option in TIMES:
+            return time_of(text, unit, "%s: %s=" % (name, option))
+        raise Fault(with_hint("%s: %s='%s' is not a number" % (name, option, text), text)) from error
 
 
 def measured(asked: Request, line: Trajectory) -> Any:

@@ -16,7 +16,7 @@ from ..tables.measure import lines_by_name
 
 
 class Job(NamedTuple):
-    """A run: the program, the model's name and canonical text, the values by name, and the measures' text."""
+    """A run: the program, the model's name, canonical text and unit of time, the values by name, and the measures."""
 
     program: str
     name: str
@@ -25,6 +25,7 @@ class Job(NamedTuple):
     measures: str
     rule: Optional[str]
     relative: Union[int, str, None]
+    unit: str = "s"
 
 
 asked_once = functools.lru_cache(maxsize=2)(requests)
@@ -47,7 +48,7 @@ def run_of(path: str, program: str, text: bytes) -> Run:
 
 def outcome(job: Job) -> Outcome:
     """Runs a job. A run that is refused, or fails, is an outcome, too."""
-    asked = asked_once(job.measures)
+    asked = asked_once(job.measures, job.unit)
     with tempfile.TemporaryDirectory(prefix="qss-") as folder:
         path = os.path.join(folder, os.path.basename(job.name))
         try:

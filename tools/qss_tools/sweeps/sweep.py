@@ -10,8 +10,10 @@ import sys
 import time
 from typing import Iterator, List, Optional, Sequence
 
-from ..fault import FINE, WARNED, Arguments, Fault, run_tool
+from ..fault import FINE, WARNED, Arguments, Fault, read_bytes, run_tool
 from ..model.changes import changed_text
+from ..model.source import Source
+from ..model.units import time_unit
 from ..output import Output
 from ..program import ROOT, add_program_option, canonical_text, find_program
 from ..runs.measures import requests
@@ -80,7 +82,8 @@ class Sweep:
         self.program = find_program(args.program)
         self.points = Points(args.set, args.samples, args.seed)
         self.measures = " ".join(args.measure)
-        self.asked = requests(self.measures)
+        self.unit = time_unit(Source(args.model, read_bytes(args.model)))
+        self.asked = requests(self.measures, self.unit)
         self.text = canonical_text(self.program, args.model)
         run = Run(args.model, self.program)
         for one in self.asked:
@@ -92,12 +95,13 @@ class Sweep:
 
     def identity(self) -> str:
         """A digest that identifies this sweep."""
-        parts = [self.names, list(self.points), self.args.rule, self.args.relative]
+        parts = [self.names, list(self.points), self.args.rule, self.args.relative, self.unit]
         return hashlib.sha256(self.text + json.dumps(parts).encode()).hexdigest()
 
     def job(self, values: Sequence[str]) -> Job:
         named = dict(zip(self.points.names, values))
-        return Job(self.program, self.args.model, self.text, named, self.measures, self.args.rule, self.args.relative)
+        how = self.args.rule, self.args.relative, self.unit
+        return Job(self.program, self.args.model, self.text, named, self.measures, *how)
 
     def lines(self, points: Sequence[List[str]]) -> Iterator[str]:
         """The lines of these points, each as its run ends."""

@@ -7,7 +7,7 @@ from typing import Any, Dict, Iterable, List, Optional, Sequence, Tuple
 from ..advice.warn import add_advice_option, warn
 from ..fault import FINE, WARNED, Arguments, Fault, read_bytes, run_tool
 from ..model.source import Source
-from ..model.units import checked_unit, variable_units, written_time_unit
+from ..model.units import checked_unit, time_unit, variable_units, written_time_unit
 from ..output import Output
 from ..runs.columns import matching
 from ..runs.expressions import no_variable
@@ -22,7 +22,7 @@ from .table import overflow_text
 ABOUT = """Measures of a run, weighted by time. They are exact: a state is a piecewise linear function of time, which is
 computed from the rows and the model.
 
-  tools/qss-measure MODEL ROWS 'mean(iL) rms(iL) ripple(uC, from=4)'
+  tools/qss-measure MODEL ROWS 'mean(iL) rms(iL) ripple(uC, from=4) mean(uC, from=9.5ms)'
   tools/qss-measure MODEL 'rise(y) overshoot(y)' --set R=10      runs the model with another value of R
   tools/qss-measure MODEL 'duty(s) period(s) thd(u, f=50)' --csv
 
@@ -36,7 +36,8 @@ mean(uC*iL), rms(uC - u0) or mean(Vin*s*iL). Parameters have the values of --set
   period, frequency, count     of the upward crossings of the level (level=)
   harmonic    amplitude of harmonic n= (default: 1) of the frequency f=, over the last whole periods
   thd         harmonics 2 to n= (default: 40) of the frequency f=, relative to the first
-Each has from= and to=, two times in the model's unit of time. A frequency is in periods per unit of time.
+Each has from= and to=, two times in the model's unit of time or with a unit, as from=9.5ms. A frequency is in periods
+per unit of time.
 Of a run of second order the levels are measured, which move along lines.
 The averages mean, rms, integral, duty, harmonic and thd count every value. The other measures leave out a value of a
 discrete variable that holds for one tick only, between values that hold for longer, unless --all-values is there.
@@ -76,7 +77,12 @@ def lines_by_name(
 def values_of(run: Run, rows: Rows, asked: Sequence[Request], all_values: bool) -> Tuple[List[Any], Overflow]:
     """The values of measures, and the tick and the name of an overflow or None."""
     found, overflow = lines_by_name(run, rows, list(dict.fromkeys(one.variable for one in asked)), all_values)
-    return [value_of(one, found[one.variable]) for one in asked], overflow
+    try:
+        return [value_of(one, found[one.variable]) for one in asked], overflow
+    except Fault as fault:
+        if overflow is None:
+            raise
+        raise Fault("%s; %s" % (overflow_text(overflow, run), fault)) from fault
 
 
 def unit_of(one: Request, units: Dict[str, str], time_unit: Optional[str]) -> str:
@@ -108,8 +114,8 @@ def tool(arguments: Sequence[str]) -> int:
     parser.add_argument("-o", "--output", metavar="FILE", help="the file to write (default: standard output)")
     add_advice_option(parser)
     args = parser.parse_intermixed_args(arguments)
-    asked = requests(args.measures)
-    checked_unit(args.unit)
+    source = Source(args.model, read_bytes(args.model))
+    asked = requests(args.measures, checked_unit(args.unit) or time_unit(source))
     run = run_of(args)
     for one in asked:
         check_name(run, one.variable, number_of)
@@ -117,7 +123,7 @@ def tool(arguments: Sequence[str]) -> int:
     with lines_of(args, run) as (lines, name):
         values, overflow = values_of(run, Rows(run, lines, name), asked, args.all_values)
     units = variable_units(args.source)
-    time = checked_unit(args.unit) or written_time_unit(Source(args.source, read_bytes(args.source)))
+    time = args.unit or written_time_unit(source)
     with Output(args.output) as output:
         if args.csv:
             output.write(csv_line([one.text for one in asked]) + csv_line([number_text(value) for value in values]))

@@ -14,13 +14,12 @@ from typing import Any, Dict, Iterator, List, Optional, Sequence, Tuple
 
 from ..fault import Fault, read_bytes
 from ..model.source import Source
-from ..model.units import NO_UNIT, SECONDS, checked_unit, time_unit, variable_units
+from ..model.units import NO_UNIT, checked_unit, plain_unit, time_factor, time_of, time_unit, variable_units
 from ..runs.expressions import is_expression
 from ..runs.rows import Run
 
 WITH_UNIT = re.compile(r"^(.*?)\s*(?:\[([^][]*[^][\d\s][^][]*)\]|\(([^()]+)\))$")
 TIME_NAME = re.compile(r"^(time|t)(?:_(\w+))?$", re.IGNORECASE)
-LENGTH = re.compile(r"^\s*([-+]?[\d./]+(?:[eE][-+]?\d+)?)\s*([^\W\d]*)\s*$")
 COLUMN = re.compile(r"^(.*)=([^=]*)$")
 MISSING = frozenset(("", "nan", "na", "n/a"))
 PREFIXES = {"": 0, "p": -12, "n": -9, "u": -6, "m": -3, "k": 3, "M": 6, "G": 9}
@@ -43,11 +42,6 @@ def add_data_options(parser: argparse.ArgumentParser, is_needed: bool = False) -
     parser.add_argument("--shift", metavar="TIME", help="add this to the times of DATA, as 1.5ms (--shift=-1.5ms)")
 
 
-def plain_unit(unit: str) -> str:
-    """A unit with u for micro."""
-    return unit.strip().replace("\u00b5", "u").replace("\u03bc", "u")
-
-
 def named(text: str) -> Tuple[str, str]:
     """The name and the unit of a column."""
     text = text.strip()
@@ -67,30 +61,6 @@ def unit_factor(unit: str, other: str) -> Optional[float]:
             if unit.startswith(prefix) and other.startswith(second) and base and base == other[len(second) :]:
                 return float(Fraction(10) ** (power - less))
     return None
-
-
-def time_factor(unit: str, model_unit: str) -> Optional[Fraction]:
-    """How many of the model's units of time one of this unit is."""
-    if unit == model_unit or not unit:
-        return Fraction(1)
-    return SECONDS[unit] / SECONDS[model_unit] if unit in SECONDS and model_unit in SECONDS else None
-
-
-def time_of(text: str, model_unit: str, option: str = "--shift") -> Fraction:
-    """A length of time as '1.5ms', in the model's unit of time, which is also that of a plain number."""
-    match = LENGTH.match(text)
-    try:
-        number = Fraction(match.group(1)) if match else None
-    except (ValueError, ZeroDivisionError):
-        number = None
-    if match is None or number is None:
-        raise Fault("%s: '%s' is not a time, as 1.5ms" % (option, text))
-    unit = plain_unit(match.group(2))
-    factor = time_factor(unit, model_unit)
-    if factor is None:
-        text = "the model's time has no unit" if model_unit == NO_UNIT else "the units are %s" % ", ".join(SECONDS)
-        raise Fault("%s: '%s' is no unit of time here: %s" % (option, unit, text))
-    return number * factor
 
 
 @dataclass(frozen=True)

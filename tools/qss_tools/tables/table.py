@@ -13,7 +13,7 @@ from ..fault import FINE, WARNED, Arguments, Fault, read_bytes, run_tool
 from ..model.flat import Flat
 from ..model.source import Source
 from ..model.spelling import decimal_text
-from ..model.units import SECONDS, time_unit, variable_units
+from ..model.units import SECONDS, plain_time, time_unit, variable_units
 from ..output import Output
 from ..runs.columns import AnyColumn, Watch, columns_of
 from ..runs.rows import Row, Rows, Run, add_run_options, exact, fraction, lines_of, run_of, window_of
@@ -50,8 +50,8 @@ def parser_of() -> Arguments:
         metavar="LIST",
         help="names, arrays, u[2:5], patterns with * or expressions, as uC*iL or Vin*iL, with commas between them",
     )
-    parser.add_argument("--every", metavar="STEP", help="only the values at each multiple of this time")
-    parser.add_argument("--from", dest="begin", metavar="TIME", help="write from this time on")
+    parser.add_argument("--every", metavar="STEP", help="only the values at each multiple of this time, as 0.5 or 10us")
+    parser.add_argument("--from", dest="begin", metavar="TIME", help="write from this time on, as 4 or 9.5ms")
     parser.add_argument("--to", dest="end", metavar="TIME", help="write up to this time")
     parser.add_argument(
         "--states",
@@ -77,6 +77,8 @@ def tool(arguments: Sequence[str]) -> int:
     run = run_of(args)
     unit = args.unit or time_unit(Source(args.source, read_bytes(args.source)))
     args.unit = unit if unit in SECONDS else "s"
+    args.begin, args.end = plain_time(args.begin, unit, "--from"), plain_time(args.end, unit, "--to")
+    args.every = plain_time(args.every, unit, "--every")
     form = args.form = args.format or form_of(args.output)
     window_of(args, run, "write")
     if args.every is not None:
