@@ -7,7 +7,7 @@ import argparse
 import os
 import signal
 import sys
-from typing import Any, Callable, NoReturn, Optional, Sequence
+from typing import Any, Callable, Dict, NoReturn, Optional, Sequence
 
 from .arrays import use_one_with_numpy
 
@@ -16,6 +16,7 @@ WARNED = 1  # all was done, and there is something to look at
 FAULTY = 2  # a fault or wrong arguments: nothing was written
 
 NO_FILE = "there is no such file"
+LABELS: Dict[str, str] = {}  # what is shown in place of the path of a temporary file
 
 Tool = Callable[[Sequence[str]], int]
 
@@ -27,6 +28,13 @@ class Fault(Exception):
         super().__init__(message)
         self.lines = lines
         self.status = status
+
+
+def labelled(text: str) -> str:
+    """A text with the names of the models in place of the paths of temporary files."""
+    for path, label in LABELS.items():
+        text = text.replace(path, label)
+    return text
 
 
 def unreadable(name: str, error: OSError) -> Fault:
@@ -77,7 +85,7 @@ def run_tool(name: str, tool: Tool, arguments: Optional[Sequence[str]] = None, n
         status = tool(sys.argv[1:] if arguments is None else arguments)
         sys.stdout.flush()
     except Fault as fault:
-        print("%s: %s" % (name, " ".join(str(fault).split())), *fault.lines, sep="\n", file=sys.stderr)
+        print("%s: %s" % (name, " ".join(labelled(str(fault)).split())), *fault.lines, sep="\n", file=sys.stderr)
         status = fault.status
     except BrokenPipeError:
         os.dup2(os.open(os.devnull, os.O_WRONLY), sys.stdout.fileno())

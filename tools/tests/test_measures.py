@@ -192,7 +192,7 @@ class Runs(InFolder):
         self.assertEqual(values, "0.05,-0.875,1,1.25,0.0625,-2.5,-7.5,1.875,-3.125,1.875")
 
     def test_parameters_in_expressions(self):
-        """mean(y) is 0.05, and y is 1, 1, 1/2, -1, -1/2 and -1/2 at the six ticks. No equation has a parameter."""
+        """mean(y) is 0.05, and its levels are 1, 1, 1/4, -1, -1/2 and -1/2 at the six ticks. No equation has a parameter."""
         text = BALL.replace("Real y", "parameter Real m = 0.5, k = 2*m + 3; Real y")
         ball, rows = self.file("ball.mo", text), self.file("ball.csv", BALL_ROWS)
         words = "--csv", "--program", STAND_IN, "--no-advice"
@@ -212,6 +212,53 @@ class Runs(InFolder):
             self.assert_fault(run("qss-measure", ball, rows, asked, *words), part)
         found = run("qss-plot", ball, rows, "--names", "k*Y", "--text", *words[1:])
         self.assert_fault(found, "has no variable 'Y' (did you mean 'y'?)")
+
+    def test_times_with_a_unit(self):
+        """The ball's unit of time is 1 s, or 1 ms. At 0.5 the state y is 96/256, and its level 1/4."""
+        words = "--program", STAND_IN, "--no-advice"
+        for unit, whole, half in (("s", "1s", "500ms"), ("ms", "1ms", "500 us"), ("ms", "0.001s", "5e-4s")):
+            text = BALL.replace("StopTime", 'QSS_TimeUnit = "%s", StopTime' % unit)
+            ball, rows = self.file("ball.mo", text), self.file("ball.csv", BALL_ROWS)
+            asked = "ripple(y, from=%s, to=%s) at(y, t=%s) ripple(y, from=0.5, to=1)" % (half, whole, half)
+            status, out, err = run("qss-measure", ball, rows, asked, "--csv", *words)
+            self.assertEqual((status, err, out.split("\n")[1]), (0, "", "1.25,0.375,1.25"))
+            window = "--from", half, "--to", whole, "--every", half, "--names", "y"
+            self.assertEqual(run("qss-table", ball, rows, *window, *words)[1], "time,y\n0.5,0.25\n1,-0.5\n")
+        self.assertEqual(run("qss-plot", ball, rows, "--from", "500us", "--to", "1ms", "--text", *words)[0], 0)
+        for asked, part in (
+            ("mean(y, from=1V)", "'V' is no unit of time here: the units are ns, us"),
+            ("mean(y, to=1x2)", "'1x2' is not a time, as 1.5ms, and not a number"),
+            ("mean(y, from=0,5)", "'5' is not an option: a decimal point is '.', and not ','"),
+            ("duty(y, level=100m)", "a number has no suffix and no unit: write 100e-3 for 100m"),
+        ):
+            self.assert_fault(run("qss-measure", ball, rows, asked, *words), part)
+        micro = self.file("micro.mo", BALL.replace("StopTime", 'QSS_TimeUnit = "\u00b5s", StopTime'))
+        found = run("qss-measure", micro, rows, "mean(y)", *words)
+        self.assert_fault(found, "micro.mo: QSS_TimeUnit is '\u00b5s': write us")
+
+    def test_a_window_after_an_overflow(self):
+        """The run of x' = 1000 x ends by an overflow at tick 5."""
+        model, rows = self.file("m.mo", GROWING), self.file("m.csv", GROWING_ROWS)
+        found = run("qss-measure", model, rows, "mean(x, from=1000, to=2000)", "--program", STAND_IN, "--no-advice")
+        self.assert_fault(found, "the run overflowed: x at tick 5 (time")
+
+    def test_messages_about_other_values_name_the_file(self):
+        """A finding with --set is in the line of the model, and no message has the path of the changed model."""
+        text = BALL.replace("Real y", "parameter Real g = 10;\n  Real y").replace("-10;", "-g;")
+        text = text.replace("StopTime = 1.25", "Stoptime = 1.25, StopTime = 1.25")
+        ball, rows = self.file("ball.mo", text), self.file("ball.csv", BALL_ROWS)
+        words = "--set", "g=10", "--program", STAND_IN
+        status, out, err = run("qss-measure", ball, rows, "mean(y)", *words)
+        self.assertEqual((status, out), (0, "mean(y)  0.05\n"))
+        line = text.split("\n").index(next(one for one in text.split("\n") if "Stoptime" in one)) + 1
+        self.assertIn("warning: %s:%d:25: 'Stoptime' is not a setting" % (ball, line), err)
+        self.assertIn("for the model that tools/qss-run %s --set g=10 --print writes" % ball, err)
+        found = run("qss-measure", ball, rows, "mean(q)", *words, "--no-advice")
+        self.assert_fault(found, "qss-measure: %s with g = 10 has no variable 'q'" % ball)
+        for value, part in (("100u", "write 100e-6 for 100u"), ("9,81", "write 9.81 for 9,81")):
+            found = run("qss-measure", ball, rows, "mean(y)", "--set", "g=" + value, "--program", STAND_IN)
+            self.assert_fault(found, "'%s' is not a value for g: " % value)
+            self.assertIn(part, found[2])
 
     def test_mean_square_of_a_ball(self):
         ball = self.file("ball.mo", BALL)

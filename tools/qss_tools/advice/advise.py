@@ -1,4 +1,5 @@
 """The tool qss-advise: finds settings that spoil a run, and proposes settings that fit."""
+import shlex
 import sys
 from typing import Iterable, List, Optional, Sequence
 
@@ -11,7 +12,7 @@ from ..model.story import excerpt
 from ..model.units import time_unit, unit_after
 from ..numeric.trial import Trial
 from ..output import Output
-from ..program import add_program_option, find_program
+from ..program import CHANGED, add_program_option, find_program
 from ..settings import limits
 from ..settings.proposal import Proposal
 from ..settings.rewriting import annotation
@@ -92,15 +93,23 @@ class Advice:
         return bool(self.refused or self.warnings())
 
 
-def warning_of(name: str, program: str) -> Optional[str]:
-    """One line on what spoils a run of a model that the program accepts, or None."""
+def warning_of(name: str, program: str, file: Optional[str] = None) -> Optional[str]:
+    """One line on what spoils a run of a model that the program accepts, or None. `file` is the model of the user if
+    `name` has it with other values.
+    """
     source, flat, refused = read_model(name, program)
+    if refused:
+        return None
     grave = [finding for finding in findings(flat, Trial(flat)) if finding.grave]
-    if refused or not grave:
+    if not grave:
         return None
     more = " (and %d more)" % (len(grave) - 1) if len(grave) > 1 else ""
-    place = "%s: " % name if grave[0].at is None else "%s:%d:%d: " % ((name,) + source.place(grave[0].at))
-    return "%s%s%s; see tools/qss-advise %s" % (place, grave[0].sentence, more, name)
+    at, file = grave[0].at, file or name
+    place = "%s: " % file if at is None else "%s:%d:%d: " % ((file,) + source.place(at))
+    seen = (
+        "for the model that tools/qss-run %s --print writes" % CHANGED[name] if name in CHANGED else shlex.quote(file)
+    )
+    return "%s%s%s; see tools/qss-advise %s" % (place, grave[0].sentence, more, seen)
 
 
 def report(advice: Advice, every: bool) -> None:

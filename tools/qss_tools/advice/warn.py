@@ -18,7 +18,7 @@ def warn(args: argparse.Namespace, run: Run, tool: str) -> None:
     from .advise import warning_of
 
     try:
-        line = warning_of(run.model, run.program)
+        line = warning_of(run.model, run.program, args.source)
     except Fault:
         # (what the model lacks is reported where it is run)
         return

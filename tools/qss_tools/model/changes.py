@@ -15,9 +15,10 @@ from decimal import Decimal
 from fractions import Fraction
 from typing import Any, Dict, List, Mapping, Optional, Sequence, Tuple
 
-from ..fault import Fault
+from ..fault import LABELS, Fault, read_bytes
 from ..program import CHANGED, canonical_text
 from .grammar import CLOSING, Declaration, Model, Parser, Span, SyntaxFault, parse
+from .number_hints import with_hint
 from .source import SETTINGS, Source
 from .spelling import decimal_text
 from .walks import leaves
@@ -81,7 +82,7 @@ def check_expression(name: str, text: str) -> None:
     except SyntaxFault:
         whole = False
     if not whole:
-        raise Fault("'%s' is not a value for %s" % (text, name))
+        raise Fault(with_hint("'%s' is not a value for %s" % (text, name), text))
 
 
 @functools.lru_cache(maxsize=2)
@@ -196,15 +197,21 @@ def shown(model: str, values: Mapping[str, Any]) -> str:
 
 def write_changed(model: str, program: str, values: Mapping[str, Any], folder: Optional[str] = None) -> str:
     """Writes the model with these values into a folder, or a temporary one that ends with the process; its path."""
-    text = changed_text(model, canonical_text(program, model), values)
+    text = changed_source(model, program, values)
     if folder is None:
         folder = tempfile.mkdtemp(prefix="qss-")
         atexit.register(shutil.rmtree, folder, True)
     path = os.path.join(folder, os.path.basename(model))
     with open(path, "wb") as file:
         file.write(text)
-    CHANGED[path] = explain_words(model, values)
+    CHANGED[path], LABELS[path] = explain_words(model, values), shown(model, values)
     return path
+
+
+def changed_source(model: str, program: str, values: Mapping[str, Any]) -> bytes:
+    """The source of a model that the program accepts, with these values. Its lines are those of the file."""
+    canonical_text(program, model)
+    return changed_text(model, read_bytes(model), values)
 
 
 def explain_words(model: str, values: Mapping[str, Any]) -> str:
