@@ -255,6 +255,64 @@ class Tool(InFolder):
         with open(new, encoding="utf-8") as file:
             self.assertEqual(file.read(), (text % "1,000").replace("4,5", "4.5"))
 
+    def test_a_state_that_lacks_its_equation(self):
+        text = "model m Real a%s; equation %salgorithm when time > 1 then reinit(a, 0); end when; end m;\n"
+        for size, equation, way in (
+            ("", "", "write 'der(a) = 0;' as its equation if only clauses change it"),
+            ("", "a = 1; ", "a state has 'der(a) = ..;' in place of its equation 'a = ..;'"),
+        ):
+            source = text % (size, equation)
+            story = told(source, "refused: names 4 %d" % (source.index("reinit(a") + 7))
+            self.assertIn("'reinit' takes a state, and 'a' is an algebraic variable", story)
+            self.assertIn("  " + way, story)
+
+    def test_the_parameter_that_is_0(self):
+        """C = 2 - D is 0, and C*R is 0 too. The divisor 1 - 1 has no parameter, and R - R none of value 0."""
+        text = "model m parameter Real D = 2, C = D - 2, R = 3; Real x; equation der(x) = 1 + x/(%s); end m;\n"
+        for divisor, wanted in (
+            ("C", "division by 0: the parameter C is 0\n"),
+            ("C*R", "division by 0: the parameter C is 0\n"),
+            ("1 - 1", "division by 0\n"),
+            ("R - R", "division by 0\n"),
+        ):
+            source = text % divisor
+            self.assertIn(wanted, told(source, "refused: affine 3 %d 2" % source.index("/")))
+        source = "model m parameter Real C = 0, g = 1/C; Real x; equation der(x) = g; end m;\n"
+        self.assertIn("the parameter C is 0", told(source, "refused: names 8 %d 2" % source.index("/")))
+
+    def test_the_largest_setting_of_coefficients(self):
+        """The bits of coefficients and ticks together are at most 44, and with those of levels 62."""
+        text = "model m Real x; equation der(x) = 1; annotation(experiment(QSS_CoefBits = 36%s)); end m;"
+        for more, most in (
+            ("", 32),
+            (", QSS_TickBits = 14", 30),
+            (", QSS_TickBits = 20, QSS_LevelBits = 24", 18),
+        ):
+            story = told(text % more, "refused: machine 1 QSS_CoefBits 36")
+            self.assertIn("write QSS_CoefBits = %d or less, or leave it out, which means 24" % most, story)
+
+    def test_misspelt_words_of_the_language(self):
+        """The token at which the source stops to be a prefix of a model is the misspelt word, or the one after it."""
+        text = "model m parameter Real R = 2; discrete Real s; Real x; equation der(x) = R; algorithm"
+        text += " when x < 1 then reinit(x, 2); elsewhen x > 3 then s := 0; end when; end m;\n"
+        for right, wrong, ahead in (
+            ("parameter", "paramter", 0),
+            ("discrete", "discret", 0),
+            ("Real x", "real x", 0),
+            ("equation", "equaton", 0),
+            ("when", "wen", 0),
+            ("then", "than", 0),
+            ("elsewhen", "elswhen", 1),
+            ("reinit", "reinitt", 1),
+        ):
+            with self.subTest(wrong):
+                source = text.replace(right, wrong, 1)
+                tokens = Source("m.mo", source.encode()).tokens
+                word = wrong.split()[0]
+                place = next(place for place, token in enumerate(tokens) if token.text == word) + ahead
+                story = told(source, "refused: parse 1 %d" % place)
+                self.assertIn("is '%s' meant for '%s'?" % (right.split()[0], word), story)
+
     def test_which_numbers_with_commas_are_certain(self):
         for written, certain, others in (
             ("4,5", "4.5", None),

@@ -6,22 +6,23 @@ import os
 import re
 import sys
 import tempfile
-from typing import Callable, Dict, List, NamedTuple, Optional, Sequence
+from typing import Callable, Dict, List, NamedTuple, Optional, Sequence, Tuple
 
 from ..fault import FINE, WARNED, Arguments, Fault, read_bytes, run_tool
-from ..model.changes import add_set_option, assignments, changed_text, shown
+from ..model.changes import add_set_option, assignments, changed_source, shown
 from ..model.commas import commas_of
 from ..model.flat import ALGEBRAIC, DISCRETE, PARAMETER, STATE, Flat, Meaningless, roles_of
 from ..model.grammar import Model, SyntaxFault, parse
 from ..model.source import LONGEST, Source, Token
 from ..model.story import Story
-from ..model.walks import uses
+from ..model.walks import leaves, uses
 from ..output import Output
-from ..program import add_program_option, call, canonical_text, find_program
+from ..program import add_program_option, call, find_program
 from ..settings import limits
 from . import certificate_story, compare_story, edits, hints, trace_story
 from .products import not_affine
 from .scales import number_in_place
+from .zeros import zero_in_divisor
 
 LINE = re.compile(r"^refused: (\w+) (\d+)((?: \S+)*)$")
 OVERFLOW = re.compile(r"^overflow: (\S+) at tick (\d+)$")
@@ -150,6 +151,14 @@ def wanted_at(source: Source, place: int) -> str:
     raise ValueError(place)
 
 
+def out_of_range(model: Model, at: int, kind: str, way: Optional[str] = None) -> Story:
+    """A number that is out of range, or a division by 0 and the parameter that is 0."""
+    if kind == "1":
+        return Story(at, OUT_OF_RANGE[kind], way or SHORTEN)
+    zero = zero_in_divisor(model, at)
+    return Story(at, OUT_OF_RANGE[kind] + (": the parameter %s is 0" % zero if zero else ""))
+
+
 NAMES = {
     "1": ("the name after the last 'end' is not the model's", None),
     "2": ("the name '%s' is used already", "give one of the two another name (a setting is written once)"),
@@ -172,7 +181,7 @@ def named(source: Source, number: str, fields: List[str]) -> Story:
     if number == "4":
         return misused(model, name, at)
     if number == "8":
-        return Story(at, OUT_OF_RANGE[fields[1]], SHORTEN if fields[1] == "1" else None)
+        return out_of_range(model, at, fields[1])
     sentence, way = NAMES[number]
     if number == "1":
         way = "write 'end %s;'" % model.name
@@ -214,8 +223,20 @@ def misused(model: Model, name: str, at: int) -> Story:
             if where == "value":
                 way = "write one element, as '%s[1]', or their sum: %s" % (name, hints.FUNCTIONS["sum"])
             return Story(at, "'%s' is an array and needs an index here" % name, way)
+        if where == "reinit" and roles.get(name) == ALGEBRAIC:
+            return Story(at, *reinit_of_algebraic(model, name, name in arrays))
         return Story(at, *MISUSES[where](name, roles.get(name)))
     return Story(at, "'%s' is not allowed here" % name)
+
+
+def reinit_of_algebraic(model: Model, name: str, is_array: bool) -> Tuple[str, str]:
+    """Why a variable cannot be set by `reinit`, and the equation that makes it a state."""
+    sentence = "'reinit' takes a state, and '%s' is an algebraic variable" % name
+    if any(equation.target.name == name for equation in leaves(model.equations)):
+        return sentence, "a state has 'der(%s) = ..;' in place of its equation '%s = ..;'" % (name, name)
+    if is_array:
+        return sentence, "write 'for i in 1:n loop der(%s[i]) = 0; end for;' if only clauses change it" % name
+    return sentence, "write 'der(%s) = 0;' as its equation if only clauses change it" % name
 
 
 MISUSES = {
@@ -292,7 +313,7 @@ def unrolled(source: Source, number: str, fields: List[str]) -> Story:
     if number == "2":
         way = "write a whole number, or a quotient of parameters that is one: 33, or 'N/3' if N is a multiple of 3"
         return Story(at, "this index or bound is not a whole number", way)
-    return Story(at, OUT_OF_RANGE[fields[1]], SHORTEN if fields[1] == "1" else None)
+    return out_of_range(model, at, fields[1])
 
 
 def source_token(source: Source, at: int) -> Token:
@@ -338,8 +359,8 @@ def formed(source: Source, number: str, fields: List[str]) -> Story:
     if number == "2":
         return Story(at, "'time' is not supported in an equation", "use a state: 'Real t; der(t) = 1;'")
     if number == "3":
-        way = (number_in_place(parse(source), at) or SHORTEN) if fields[1] == "1" else None
-        return Story(at, OUT_OF_RANGE[fields[1]], way)
+        model = parse(source)
+        return out_of_range(model, at, fields[1], number_in_place(model, at) if fields[1] == "1" else None)
     return not_affine(source, parse(source), at)
 
 
@@ -417,11 +438,11 @@ def tool(arguments: Sequence[str]) -> int:
 
 
 def changed_tool(args: argparse.Namespace) -> int:
-    """Explains the refusal of a model with other values. Its places are those of the text that `print` writes."""
+    """Explains the refusal of a model with other values. Its lines are those of the model."""
     if args.line or args.certificate or args.trace or args.apply:
         raise Fault("--set goes with none of --line, --certificate, --trace and --apply")
     values = assignments(args.set)
-    data = changed_text(args.model, canonical_text(find_program(args.program), args.model), values)
+    data = changed_source(args.model, find_program(args.program), values)
     source, line = Source(shown(args.model, values), data), line_of_text(args, data)
     if not line:
         return FINE

@@ -1,7 +1,9 @@
 """Suggested fixes for what Modelica has and this language does not have."""
+import difflib
 import math
 from typing import Optional, Sequence, Tuple
 
+from ..model.number_hints import AS_POWER
 from ..model.source import Token
 
 OF_NUMBERS = ("sin", "cos", "tan", "asin", "acos", "atan", "sqrt", "exp", "log", "log10", "sinh", "cosh", "tanh")
@@ -23,6 +25,14 @@ PASS_LIMIT = (
     "write 'v := a;' and a clause of its own for the limit b, 'when v %s b then v := b; end when;', which acts a"
 )
 PASS_LIMIT += " tick later; in a condition write a clause for each of the two relations"
+
+# The words of the language that a misspelt word can mean, and those after which a statement or a section begins.
+KEYWORDS = (
+    "model parameter constant discrete Real Integer annotation equation algorithm initial when elsewhen reinit der for"
+    " loop then end"
+).split()
+STARTERS = (";", "equation", "algorithm", "then", "loop", "model")
+LIKE = 0.75  # the likeness of words that are taken for one another
 
 # Functions that a model may call elsewhere, and how their values are written here.
 FUNCTIONS = {
@@ -130,13 +140,33 @@ def at_token(tokens: Sequence[Token], place: int, wanted: str) -> Optional[str]:
     previous = before.text if before else ""
     in_clause = is_in_clause(tokens, place)
     if text == "(" and before and before.kind == "name":
+        meant = keyword_near(before) if place > 1 and tokens[place - 2].text in STARTERS else None
+        if meant:
+            return "is '%s' meant for '%s'?" % (meant, before.text)
         return number_of_call(tokens, place) or called(previous, in_clause)
     if text == "if" and in_clause:
         return NO_IF_IN_CLAUSE
-    special = by_neighbours(tokens, place, text, previous, wanted)
-    if special:
-        return special
-    return BY_WORD.get(text) or (BY_WORD.get(previous) if text in (".", "(", "algorithm", "equation") else None)
+    special = by_neighbours(tokens, place, text, previous, wanted) or BY_WORD.get(text)
+    special = special or (BY_WORD.get(previous) if text in (".", "(", "algorithm", "equation") else None)
+    return special or misspelt_keyword(tokens, place)
+
+
+def keyword_near(token: Token) -> Optional[str]:
+    """The word of the language that a name is like, or None."""
+    if token.kind != "name" or token.text in BY_WORD or token.text in FUNCTIONS:
+        return None
+    same = [one for one in KEYWORDS if one.lower() == token.text.lower()]
+    return next(iter(same or difflib.get_close_matches(token.text, KEYWORDS, 1, LIKE)), None)
+
+
+def misspelt_keyword(tokens: Sequence[Token], place: int) -> Optional[str]:
+    """The word of the language that is meant by the name at a place, or by the name that begins the statement."""
+    begins = place > 1 and tokens[place - 2].text in STARTERS
+    for token in [tokens[place]] + ([tokens[place - 1]] if begins else []):
+        meant = keyword_near(token)
+        if meant:
+            return "is '%s' meant for '%s'?" % (meant, token.text)
+    return None
 
 
 def is_in_clause(tokens: Sequence[Token], place: int) -> bool:
@@ -214,7 +244,7 @@ def of_declarations(tokens: Sequence[Token], place: int, text: str, wanted: str)
     last = tokens[place - 1] if place else None
     is_adjacent = last is not None and last.at + len(last.text) == tokens[place].at
     if last is not None and last.kind == "number" and tokens[place].kind == "name" and is_adjacent:
-        return "a number has no suffix and no unit: write a power of ten, as 4e3 for 4k and 10e-6 for 10u"
+        return AS_POWER
     if last is not None and last.text == "," and tokens[place].kind == "number" and is_adjacent:
         return "a decimal point is '.': write 1.5 for 1,5"
     if "after the declaration" in wanted and tokens[place].kind == "name":
