@@ -5,8 +5,8 @@
 # make deb               writes a Debian package with program, tools, pages and examples into dist
 # make docs              writes the pages as HTML with search into dist/site
 PREFIX ?= /usr/local
-# The program that is installed: the proved one, or with PROGRAM=crates/qss/out/unproved/qss the one without proofs.
-PROGRAM ?= crates/qss/out/qss
+# The program that is installed: the proved one, or else the one without proofs that ./qss has built.
+PROGRAM ?= $(firstword $(wildcard crates/qss/out/qss crates/qss/out/unproved/qss) crates/qss/out/qss)
 LIB = $(DESTDIR)$(PREFIX)/lib/qss
 BIN = $(DESTDIR)$(PREFIX)/bin
 MAN = $(DESTDIR)$(PREFIX)/share/man/man1
@@ -21,7 +21,7 @@ all:
 	./qss gen 0 1
 
 install:
-	@test -x "$(PROGRAM)" || { echo "$(PROGRAM) is not built: ./prove builds it"; exit 9; }
+	@test -x "$(PROGRAM)" || { echo "$(PROGRAM) is not built: ./prove builds it, and ./qss one without proofs"; exit 9; }
 	rm -rf "$(LIB)/tools"
 	mkdir -p "$(LIB)/tools" "$(BIN)" "$(MAN)" "$(COMPLETIONS)"
 	install -m 755 "$(PROGRAM)" "$(LIB)/qss"
@@ -38,6 +38,7 @@ install:
 	for tool in $(TOOLS); do ln -sf qss "$(COMPLETIONS)/$$tool" || exit 1; done
 	python3 tools/qss-tools --version | grep -v -e '^python:' -e '^program:' -e '^binary:' > "$(LIB)/VERSION"
 	echo "program: $$(python3 tools/qss-tools --proved "$(PROGRAM)")" >> "$(LIB)/VERSION"
+	@echo "the commands are in $(PREFIX)/bin; for 'import qss_tools' set PYTHONPATH=$(PREFIX)/lib/qss/tools"
 
 uninstall:
 	rm -rf "$(LIB)"

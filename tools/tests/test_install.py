@@ -38,6 +38,7 @@ class Installed(InFolder):
             stderr=subprocess.STDOUT,
         )
         self.assertEqual(done.returncode, 0, done.stdout.decode())
+        self.said = done.stdout.decode().rstrip().split("\n")[-1]
 
     def path(self, *parts):
         return os.path.join(self.prefix, *parts)
@@ -47,6 +48,15 @@ class Installed(InFolder):
         environment.pop("QSS_PROGRAM", None)
         done = subprocess.run(words, cwd=self.folder, env=environment, stdout=subprocess.PIPE, stderr=subprocess.PIPE)
         return done.returncode, done.stdout.decode(), done.stderr.decode()
+
+    def test_the_paths_are_named(self):
+        """With the path that make prints at last, Python finds the package."""
+        self.assertIn("the commands are in %s/bin; " % self.prefix, self.said)
+        path = self.said.rpartition("PYTHONPATH=")[2]
+        words = [sys.executable, "-c", "import qss_tools; print(qss_tools.__file__)"]
+        environment = {**os.environ, "PYTHONPATH": path}
+        done = subprocess.run(words, cwd=self.folder, env=environment, stdout=subprocess.PIPE, check=True)
+        self.assertEqual(done.stdout.decode().strip(), self.path("lib", "qss", "tools", "qss_tools", "__init__.py"))
 
     @unittest.skipUnless(os.path.exists(BUILT), "the program is not built")
     def test_what_is_installed_works(self):
