@@ -5,6 +5,7 @@ from typing import Iterable, List, Optional, Sequence
 
 from ..certificates.advice import advise_certificate
 from ..fault import FINE, WARNED, Arguments, Fault, run_tool
+from ..installed import for_user
 from ..model.grammar import Model
 from ..model.source import Source
 from ..model.spelling import decimal_text
@@ -164,7 +165,7 @@ def tell_proposal(advice: Advice) -> None:
     elif proposal.unit != 1:
         units = time_unit(source), unit_after(time_unit(source), proposal.unit)
         print(f"no settings fit in the model's unit of time ({units[0]}); in {units[1]} these settings fit,")
-        print(f"and 'tools/qss-advise {source.name} --rewrite FILE' writes the model with them:")
+        print(for_user(f"and 'tools/qss-advise {source.name} --rewrite FILE' writes the model with them:"))
     elif not proposal.fits:
         print("no settings fit well; the nearest are:")
     else:

@@ -3,6 +3,7 @@ import argparse
 import sys
 
 from ..fault import Fault
+from ..installed import for_user
 from ..runs.rows import Run
 
 
@@ -23,4 +24,4 @@ def warn(args: argparse.Namespace, run: Run, tool: str) -> None:
         # (what the model lacks is reported where it is run)
         return
     if line:
-        print("%s: warning: %s" % (tool, line), file=sys.stderr)
+        print("%s: warning: %s" % (tool, for_user(line)), file=sys.stderr)

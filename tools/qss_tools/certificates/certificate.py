@@ -4,6 +4,7 @@ import sys
 from typing import List, Optional, Sequence, Tuple
 
 from ..fault import FINE, WARNED, Arguments, Fault, read_bytes, run_tool
+from ..installed import for_user
 from ..model.flat import Flat
 from ..model.grammar import parse
 from ..model.source import Source
@@ -89,7 +90,8 @@ def state_of(args: argparse.Namespace, system: Affine) -> Optional[int]:
 
 def rejected(args: argparse.Namespace, line: str, *more: str) -> int:
     """Prints why there is no certificate."""
-    print("qss-certificate: %s: %s" % (args.model, line), *more, sep="\n", file=sys.stderr)
+    lines = ["qss-certificate: %s: %s" % (args.model, line), *more]
+    print(*map(for_user, lines), sep="\n", file=sys.stderr)
     return WARNED
 
 

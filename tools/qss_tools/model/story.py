@@ -1,6 +1,7 @@
 """Explanations of faults: a place, a sentence, and suggested fixes."""
 from typing import List, Optional
 
+from ..installed import for_user
 from .source import Source
 
 
@@ -18,8 +19,8 @@ class Story:
         beside: bool = False,
     ):
         self.at = at
-        self.sentence = sentence
-        self.ways = [way for way in ways if way]
+        self.sentence = for_user(sentence)
+        self.ways = [for_user(way) for way in ways if way]
         self.width = width
         self.beside = beside
 
