@@ -20,41 +20,41 @@ def load() -> Any:
     return numpy
 
 
-def has_numpy() -> bool:
-    """Whether this interpreter has numpy, without loading it."""
+def has(package: str) -> bool:
+    """Whether this interpreter has a package, without loading it."""
     import importlib.util
 
-    return "numpy" in sys.modules or importlib.util.find_spec("numpy") is not None
+    return package in sys.modules or importlib.util.find_spec(package) is not None
 
 
-def use_one_with_numpy() -> None:
-    """Starts the tool again by an interpreter that has numpy, if this one has none: the one that QSS_PYTHON names, or
-    else that of the system. Which one is used is printed once.
+def use_one_with(package: str) -> None:
+    """Starts the tool again by an interpreter that has a package, if this one has it not: the one that QSS_PYTHON names,
+    or else that of the system. Which one is used is printed once.
     """
     named = os.environ.get(CHOSEN)
-    if os.environ.get(STARTED) or named is None and has_numpy():
+    if os.environ.get(STARTED) or named is None and has(package):
         return
     python = named or SYSTEM_PYTHON
     if not os.access(python, os.X_OK) or os.path.realpath(python) == os.path.realpath(sys.executable):
         return
-    if named is None and not knows_numpy(python):
+    if named is None and not knows(python, package):
         return
-    say_once(python)
+    say_once(python, package)
     os.environ[STARTED] = sys.executable
     sys.stdout.flush()
     os.execv(python, [python, *sys.argv])
 
 
-def knows_numpy(python: str) -> bool:
-    """Whether another interpreter has numpy."""
-    script = "import importlib.util, sys; sys.exit(importlib.util.find_spec('numpy') is None)"
-    words = [python, "-c", script]
+def knows(python: str, package: str) -> bool:
+    """Whether another interpreter has a package."""
+    script = "import importlib.util, sys; sys.exit(importlib.util.find_spec(sys.argv[1]) is None)"
+    words = [python, "-c", script, package]
     return not subprocess.run(words, stdout=subprocess.DEVNULL, stderr=subprocess.DEVNULL).returncode
 
 
-def say_once(python: str) -> None:
+def say_once(python: str, package: str) -> None:
     """Prints which interpreter is used, if it is not the one of the last time. A file keeps the last one."""
-    path = cache_path()
+    path = cache_path("python" if package == "numpy" else "python-" + package)
     line = "%s\n%s\n" % (sys.executable, python)
     try:
         with open(path, encoding="utf-8") as file:
@@ -62,8 +62,8 @@ def say_once(python: str) -> None:
                 return
     except OSError:
         pass
-    text = "qss: %s has no numpy: the tools use %s (the environment variable %s names another one)"
-    print(text % (sys.executable, python, CHOSEN), file=sys.stderr)
+    text = "qss: %s has no %s: the tools use %s (the environment variable %s names another one)"
+    print(text % (sys.executable, package, python, CHOSEN), file=sys.stderr)
     try:
         os.makedirs(os.path.dirname(path), exist_ok=True)
         with open(path, "w", encoding="utf-8") as file:

@@ -9,7 +9,8 @@ import signal
 import sys
 from typing import Any, Callable, Dict, NoReturn, Optional, Sequence
 
-from .arrays import use_one_with_numpy
+from .arrays import use_one_with
+from .installed import for_user
 
 FINE = 0
 WARNED = 1  # all was done, and there is something to look at
@@ -66,26 +67,31 @@ class Arguments(argparse.ArgumentParser):
 
     def __init__(self, prog: str, description: str, **options: Any) -> None:
         options.setdefault("formatter_class", argparse.RawDescriptionHelpFormatter)
-        super().__init__(prog=prog, description=description, **options)
+        super().__init__(prog=prog, description=for_user(description), **options)
 
     def error(self, message: str) -> NoReturn:
         print("%s: %s (see %s --help)" % (self.prog, message, self.prog), file=sys.stderr)
         sys.exit(FAULTY)
 
 
-def run_tool(name: str, tool: Tool, arguments: Optional[Sequence[str]] = None, numeric: bool = False) -> int:
+def run_tool(
+    name: str, tool: Tool, arguments: Optional[Sequence[str]] = None, numeric: bool = False, package: str = "numpy"
+) -> int:
     """Runs a tool with these arguments, or those of the process, and returns its status. A numeric tool of the process
-    is run by an interpreter that has numpy, if there is one.
+    is run by an interpreter that has numpy, or another package, if there is one.
     """
     try:
         if arguments is None:
-            signal.signal(signal.SIGINT, signal.default_int_handler)
+            # (`kill` and Ctrl-C end a tool alike: files of its own are removed, and its processes end)
+            for number in (signal.SIGINT, signal.SIGTERM):
+                signal.signal(number, signal.default_int_handler)
             if numeric:
-                use_one_with_numpy()
+                use_one_with(package)
         status = tool(sys.argv[1:] if arguments is None else arguments)
         sys.stdout.flush()
     except Fault as fault:
-        print("%s: %s" % (name, " ".join(labelled(str(fault)).split())), *fault.lines, sep="\n", file=sys.stderr)
+        lines = ["%s: %s" % (name, " ".join(labelled(str(fault)).split())), *fault.lines]
+        print(*map(for_user, lines), sep="\n", file=sys.stderr)
         status = fault.status
     except BrokenPipeError:
         os.dup2(os.open(os.devnull, os.O_WRONLY), sys.stdout.fileno())

@@ -69,8 +69,8 @@ class Interpreters(InFolder):
         python = self.file("python", "#!/bin/sh\n")
         os.chmod(python, 0o755)
         with mock.patch.dict(os.environ, {"XDG_CACHE_HOME": self.folder}), mock.patch(
-            "qss_tools.arrays.has_numpy", return_value=False
-        ), mock.patch("qss_tools.arrays.knows_numpy", return_value=True), mock.patch(
+            "qss_tools.arrays.has", return_value=False
+        ), mock.patch("qss_tools.arrays.knows", return_value=True), mock.patch(
             "qss_tools.arrays.SYSTEM_PYTHON", python
         ), mock.patch(
             "os.execv"
@@ -79,11 +79,11 @@ class Interpreters(InFolder):
         ) as said:
             for wanted in (1, 1):
                 os.environ.pop(arrays.STARTED, None)
-                arrays.use_one_with_numpy()
+                arrays.use_one_with("numpy")
                 self.assertEqual(said.call_count, wanted)
             self.assertEqual(started.call_args[0][0], python)
             self.assertIn("has no numpy: the tools use %s" % python, said.call_args[0][0])
-            arrays.use_one_with_numpy()  # (now by the other interpreter)
+            arrays.use_one_with("numpy")  # (now by the other interpreter)
             self.assertEqual(started.call_count, 2)
 
 

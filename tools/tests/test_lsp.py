@@ -3,6 +3,7 @@ import os
 import random
 import shutil
 import subprocess
+import sys
 import unittest
 
 from support import BUILT, PROGRAM, TOOLS, InFolder, python_with
@@ -291,6 +292,19 @@ if not wait(function(marks) return #marks == 0 end) then say('the mark stays') v
 vim.cmd('silent write')
 vim.cmd('qall!')
 """
+
+
+class Interpreter(InFolder):
+    def test_the_interpreter_that_is_named_runs_the_server(self):
+        """QSS_PYTHON names it. Where it is not set, one that has pylsp_jsonrpc is used, as with numpy."""
+        python = self.file("python", "#!/bin/sh\necho \"$@\"\n")
+        os.chmod(python, 0o755)
+        environment = {**os.environ, "QSS_PYTHON": python, "XDG_CACHE_HOME": self.folder}
+        del environment["QSS_STARTED_BY"]
+        words = [sys.executable, os.path.join(TOOLS, "qss-lsp"), "--stdio"]
+        done = subprocess.run(words, env=environment, stdout=subprocess.PIPE, stderr=subprocess.PIPE)
+        self.assertEqual(done.stdout.decode(), os.path.join(TOOLS, "qss-lsp") + " --stdio\n")
+        self.assertIn("has no pylsp_jsonrpc: the tools use %s" % python, done.stderr.decode())
 
 
 @unittest.skipUnless(PYTHON, "the package pylsp_jsonrpc is not here")

@@ -336,7 +336,7 @@ def tool(arguments: Sequence[str]) -> int:
 
 def main(arguments: Optional[Sequence[str]] = None) -> int:
     """Runs the tool and returns its status."""
-    return run_tool("qss-lsp", tool, arguments)
+    return run_tool("qss-lsp", tool, arguments, numeric=True, package="pylsp_jsonrpc")
 
 
 if __name__ == "__main__":

@@ -94,7 +94,7 @@ def ending() -> threading.Event:
 
 def main(arguments: Optional[Sequence[str]] = None) -> int:
     """Runs the tool and returns its status."""
-    return run_tool("qss-live", tool, arguments, numeric=True)
+    return run_tool("qss-live", tool, arguments, numeric=True, package="plotly")
 
 
 if __name__ == "__main__":
