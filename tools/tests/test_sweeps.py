@@ -3,6 +3,7 @@ import os
 import shutil
 import subprocess
 import sys
+import time
 import unittest
 from fractions import Fraction
 
@@ -43,6 +44,21 @@ REFUSED = (
     '"refused: QSS_TickBits = 21 is not accepted: it is a whole number from 0 to 20, and with QSS_CoefBits = 0 at most 44'
     ' (line 4 of the changed model)"'
 )
+
+
+def numbers_of(path):
+    """The numbers in the lines of a file."""
+    with open(path, encoding="ascii") as file:
+        return [int(line) for line in file if line.endswith("\n")]
+
+
+def is_running(process):
+    """Whether a process is there and has not ended."""
+    try:
+        with open("/proc/%d/stat" % process, encoding="ascii", errors="replace") as file:
+            return file.read().rpartition(")")[2].split()[0] != "Z"
+    except OSError:
+        return False
 
 
 class Changes(unittest.TestCase):
@@ -231,6 +247,31 @@ class Runs(InFolder):
         for spoilt in (head.replace("0", "1").replace("2", "3"), "", "\n"):
             self.file("table.csv.part", spoilt)
             self.assert_fault(self.sweep(*words, "--force"), "of another sweep")
+
+    @unittest.skipUnless(os.path.isdir("/proc/self"), "the processes are not listed in /proc")
+    def test_no_process_is_left_behind(self):
+        """The processes of a sweep end after it was killed. Their program writes down who started it, and waits."""
+        text = '#!/bin/sh\n[ "$1" = print ] && exec %s "$@"\necho $PPID >> %s\nexec sleep 20\n'
+        workers = os.path.join(self.folder, "workers")
+        slow = self.file("slow", text % (PROGRAM, workers))
+        os.chmod(slow, 0o755)
+        words = [self.model, "--set", "a=0:3:1", *MEASURE, "--jobs", "2", "--program", slow]
+        command = [sys.executable, os.path.join(TOOLS, "qss-sweep"), *words]
+        child = subprocess.Popen(command, stdout=subprocess.DEVNULL, env={**os.environ, "TMPDIR": self.folder})
+        self.addCleanup(child.communicate)
+        self.addCleanup(child.kill)
+        self.await_that(lambda: os.path.exists(workers) and len(numbers_of(workers)) >= 2)
+        found = numbers_of(workers)
+        self.assertTrue(all(is_running(one) for one in found))
+        child.kill()
+        child.wait()
+        self.await_that(lambda: not any(is_running(one) for one in found))
+
+    def await_that(self, condition):
+        end = time.monotonic() + 120
+        while not condition():
+            self.assertLess(time.monotonic(), end)
+            time.sleep(0.1)
 
     def identity(self, *words):
         """The first line of the part of a sweep that was interrupted at its start."""

@@ -5,14 +5,13 @@ import concurrent.futures
 import functools
 import json
 import os
-import signal
 import tempfile
 from typing import Any, Callable, Dict, Iterator, List, NamedTuple, Optional, Sequence, TextIO, Tuple
 
 from ..fault import Fault
 from ..model.changes import changed_text
 from ..runs.rows import Rows, exact, ordered, run_lines
-from ..sweeps.clusters import AHEAD, in_order
+from ..sweeps.clusters import AHEAD, in_order, pool_of
 from ..sweeps.jobs import explained, run_of
 from ..sweeps.parts import Part
 from ..tables.compared import sampled
@@ -97,9 +96,7 @@ class Trials:
 
     def __enter__(self) -> "Trials":
         if self.jobs > 1:
-            self.pool = concurrent.futures.ProcessPoolExecutor(
-                self.jobs, initializer=signal.signal, initargs=(signal.SIGINT, signal.SIG_IGN)
-            )
+            self.pool = pool_of(self.jobs)
         return self
 
     def __exit__(self, *_: object) -> None:

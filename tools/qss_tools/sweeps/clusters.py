@@ -5,6 +5,8 @@ import glob
 import os
 import signal
 import tempfile
+import threading
+import time
 import zipfile
 from typing import Any, Callable, Deque, Generator, Iterable, Iterator, List, Sequence, TypeVar
 
@@ -12,6 +14,7 @@ from ..fault import Fault
 from .jobs import Job, Outcome, outcome, outcomes
 
 AHEAD = 8  # tasks for each worker that are given out before they are collected
+POLL = 0.5  # seconds between two looks whether the process that started this one is there
 MOST_IN_TASK = 16  # runs of a task of a cluster, whose overhead is some ms
 
 Outcomes = Generator[Outcome, None, None]
@@ -40,14 +43,31 @@ def grouped(jobs: Sequence[Job], workers: int) -> List[Sequence[Job]]:
     return [jobs[at : at + size] for at in range(0, len(jobs), size)]
 
 
+def pool_of(count: int) -> concurrent.futures.Executor:
+    """A number of processes, which end when this process has ended."""
+    return concurrent.futures.ProcessPoolExecutor(count, initializer=begin_process)
+
+
+def begin_process() -> None:
+    """In a process of a pool: an interruption is for the process that started it, and this one ends after that one."""
+    for number in (signal.SIGINT, signal.SIGTERM):
+        signal.signal(number, signal.SIG_IGN)
+    threading.Thread(target=end_after, args=[os.getppid()], daemon=True).start()
+
+
+def end_after(parent: int) -> None:
+    """Ends this process when the process that started it has ended."""
+    while os.getppid() == parent:
+        time.sleep(POLL)
+    os._exit(1)
+
+
 def by_processes(jobs: Iterable[Job], count: int) -> Outcomes:
     """The outcomes of jobs, in their order, by a number of processes."""
     if count == 1:
         yield from map(outcome, jobs)
         return
-    pool = concurrent.futures.ProcessPoolExecutor(
-        count, initializer=signal.signal, initargs=(signal.SIGINT, signal.SIG_IGN)
-    )
+    pool = pool_of(count)
     try:
         yield from in_order(lambda job: pool.submit(outcome, job), jobs, AHEAD * count)
     except concurrent.futures.process.BrokenProcessPool as error:
