@@ -4,9 +4,11 @@
   tools/qss-tools NAME ..       runs the tool NAME with the words that follow; NAME can be without its first 'qss-'
   tools/qss-tools --version     prints version, commit and kit, whether the program that runs is proved, and its
                                 SHA-256 digest
+  tools/qss-tools --path        prints the folder of the Python package qss_tools, for PYTHONPATH
 
 Status: 0, or 2 a fault; with NAME, the status of that tool.
 """
+import argparse
 import ast
 import importlib.util
 import os
@@ -17,8 +19,9 @@ import sys
 from typing import Iterator, List, Optional, Sequence, Tuple
 
 from .by_name import run_by_name
-from .fault import FINE, Arguments, read_bytes, run_tool
-from .program import BUILT, LAUNCHER, NOT_PROVED, ROOT, UNPROVED, digest_of, is_current
+from .fault import FINE, Arguments, Fault, read_bytes, run_tool
+from .installed import for_user
+from .program import BUILT, LAUNCHER, NOT_PROVED, ROOT, UNPROVED, WITHOUT_PROOFS, digest_of, is_current
 from .scripts import PACKAGES, scripts_of
 
 VERSION = "0.1.0"
@@ -57,6 +60,24 @@ def state_of_program() -> Tuple[str, Optional[str]]:
     return "not built; ./prove proves and builds it", None
 
 
+def proof_of(program: str) -> str:
+    """Whether a program is proved, for the lines of an installation."""
+    if is_proved(program):
+        return "proved"
+    return "not proved from these sources with this kit" if os.path.abspath(program) == BUILT else WITHOUT_PROOFS
+
+
+def program_to_install() -> str:
+    """The program that ./qss runs, where it needs not be built for that."""
+    program = next((one for one in (BUILT, UNPROVED) if is_proved(one) or one == UNPROVED and is_current(one)), None)
+    if program is None:
+        raise Fault(
+            "no program is built from these sources: './qss print examples/decay.mo' builds it without its proofs in"
+            " about two minutes, and ./prove proves and builds it; PROGRAM=PATH names another one"
+        )
+    return program
+
+
 def binary_line(program: str) -> str:
     """The line with the digest of a program."""
     return f"binary: sha256 {digest_of(program)}"
@@ -91,7 +112,7 @@ def tools(package: str) -> Iterator[Tuple[str, str]]:
     for name, module in sorted(scripts_of(package).items()):
         found = importlib.util.find_spec(module)
         if found is not None and found.origin is not None:
-            yield name, first_sentence(ast.parse(read_bytes(found.origin)))
+            yield name, for_user(first_sentence(ast.parse(read_bytes(found.origin))))
 
 
 def first_sentence(tree: ast.Module) -> str:
@@ -104,17 +125,27 @@ def first_sentence(tree: ast.Module) -> str:
     return re.split(r"\.(?:\s|$)|\n\n", " ".join(text.split("\n\n")[0].split()))[0].rstrip(":.") + "."
 
 
+def asked_lines(args: argparse.Namespace) -> Sequence[str]:
+    """The lines that an option asks for, or none."""
+    if args.proved:
+        return [proof_of(args.proved), binary_line(args.proved)]
+    if args.version:
+        return version_lines()
+    if args.which:
+        return [program_to_install()]
+    return [os.path.dirname(os.path.dirname(os.path.abspath(__file__)))] if args.path else []
+
+
 def tool(arguments: Sequence[str]) -> int:
     parser = Arguments(prog="qss-tools", description=__doc__)
     parser.add_argument("--version", action="store_true", help="print what is installed")
     parser.add_argument("--proved", metavar="PROGRAM", help="print whether this program is proved, and its digest")
+    parser.add_argument("--which", action="store_true", help="print the program that `make install` installs")
+    parser.add_argument("--path", action="store_true", help="print the folder of the Python package qss_tools")
     args = parser.parse_args(arguments)
-    if args.proved:
-        print("proved" if is_proved(args.proved) else "not proved")
-        print(binary_line(args.proved))
-        return FINE
-    if args.version:
-        print("\n".join(version_lines()))
+    asked = asked_lines(args)
+    if asked:
+        print("\n".join(asked))
         return FINE
     user, developer = (list(tools(package)) for package in PACKAGES)
     width = max(len(name) for name, _ in user + developer)

@@ -23,6 +23,7 @@ REJECTED, REFUSED, OVERFLOWED, OUT_OF_MEMORY = 1, 5, 6, 8
 # The rules of `qss run --rule`.
 RULES = ("floor", "near", "inward")
 NOT_PROVED = "not proved on this machine; ./prove builds the proved program"
+WITHOUT_PROOFS = "the program without its proofs"
 
 
 class Answer(NamedTuple):
@@ -54,10 +55,10 @@ def find_program(path: Optional[str] = None) -> str:
         return LAUNCHER
     if os.environ.get("QSS_PROVED") == "1":
         raise Fault("the program is not proved on this machine, and QSS_PROVED is 1; ./prove builds the proved program")
-    for found in (UNPROVED, LAUNCHER, shutil.which("qss") or "", packaged_program()):
+    for found in (UNPROVED, LAUNCHER, program_on_path(), packaged_program()):
         if is_program(found):
-            if found == UNPROVED and sys.stderr is not None and sys.stderr.isatty():
-                print("qss: %s" % NOT_PROVED, file=sys.stderr)
+            if found in (UNPROVED, LAUNCHER) and sys.stderr is not None and sys.stderr.isatty():
+                print("qss: %s" % (NOT_PROVED if found == UNPROVED else WITHOUT_PROOFS), file=sys.stderr)
             return found
     if not os.path.isfile(os.path.join(ROOT, "crates.txt")):
         raise Fault(f"the program qss is not on the path; or name it with --program or by the variable {VARIABLE}")
@@ -74,6 +75,16 @@ def is_installed_proved() -> bool:
             return "program: proved" in file.read().splitlines() and is_program(LAUNCHER)
     except OSError:
         return False
+
+
+def program_on_path() -> str:
+    """The program of the command qss on the path, or nothing. The command of an installation without proofs is a script
+    next to its program.
+    """
+    command = shutil.which("qss")
+    if command is None or is_program(command):
+        return command or ""
+    return os.path.join(os.path.dirname(os.path.realpath(command)), "qss")
 
 
 def packaged_program() -> str:

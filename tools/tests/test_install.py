@@ -9,6 +9,7 @@ import unittest
 
 from support import BUILT, PROGRAM, ROOT, InFolder, python_with
 
+from qss_tools.installed import for_user, of_installation
 from qss_tools.scripts import SCRIPTS
 
 VERBS = ("run", "devs", "run2", "print", "propose", "certify", "upgrade", "check", "compare", "gen")
@@ -123,6 +124,86 @@ class Installed(InFolder):
         done = subprocess.run(["make", "uninstall", "PREFIX=" + self.prefix], cwd=ROOT, stdout=subprocess.DEVNULL)
         self.assertEqual(done.returncode, 0)
         self.assertEqual([name for _, _, files in os.walk(self.prefix) for name in files], [])
+
+
+class Texts(unittest.TestCase):
+    def test_commands_and_pages_of_an_installation(self):
+        text = "see tools/qss-advise m.mo and docs/MODELLING.md, or ./qss print examples/rc.mo (work/tools/qss-plot)"
+        wanted = "see qss-advise m.mo and %s, or qss print %s (work/tools/qss-plot)"
+        shared = ROOT  # (it has both files)
+        pages = [os.path.join(ROOT, *path) for path in (("docs", "MODELLING.md"), ("examples", "rc.mo"))]
+        self.assertEqual(of_installation(text, shared), wanted % tuple(pages))
+        missing = wanted % ("the page MODELLING.md of qss", "the example rc.mo of qss")
+        self.assertEqual(of_installation(text, None), missing)
+        self.assertEqual(for_user(text), text)  # (in a checkout)
+
+
+@unittest.skipUnless(shutil.which("make"), "make is not here")
+class InstalledWithoutProofs(InFolder):
+    """A checkout in which only the program without proofs is built: its stand-in is the command true."""
+
+    def setUp(self):
+        super().setUp()
+        self.checkout, self.prefix = (os.path.join(self.folder, name) for name in ("checkout", "prefix"))
+        shutil.copytree(os.path.join(ROOT, "tools"), os.path.join(self.checkout, "tools"))
+        for name in ("Makefile", "crates.txt"):
+            shutil.copy(os.path.join(ROOT, name), self.checkout)
+        self.program = os.path.join(self.checkout, "crates", "qss", "out", "unproved", "qss")
+        os.makedirs(os.path.dirname(self.program))
+        shutil.copyfile(shutil.which("true"), self.program)
+        os.chmod(self.program, 0o755)
+        # (without the kit on the path, and without what the other tests set)
+        path = os.pathsep.join([os.path.dirname(sys.executable), "/usr/bin", "/bin"])
+        kept = {name: text for name, text in os.environ.items() if not name.startswith(("QSS_", "MAKE", "PROGRAM"))}
+        self.environment = {**kept, "PATH": path}
+
+    def call(self, *words, **more):
+        done = subprocess.run(
+            words,
+            cwd=self.checkout,
+            env={**self.environment, **more},
+            stdin=subprocess.DEVNULL,
+            stdout=subprocess.PIPE,
+            stderr=subprocess.STDOUT,
+        )
+        return done.returncode, done.stdout.decode()
+
+    def test_it_is_installed_and_named(self):
+        status, out = self.call("make", "--silent", "install", "PREFIX=" + self.prefix)
+        self.assertEqual(status, 0, out)
+        command, folder = os.path.join(self.prefix, "bin", "qss"), os.path.join(self.prefix, "bin")
+        first, last = out.splitlines()
+        self.assertEqual(first, "installed in %s: the program without its proofs" % self.prefix)
+        self.assertEqual(last, 'the path lacks its commands: export PATH="%s:$PATH"' % folder)
+        out = self.call(os.path.join(folder, "qss-tools"), "--version")[1]
+        self.assertIn("\nprogram: the program without its proofs\n", out)
+        self.assertEqual(self.call(command), (0, ""))
+        status, out = self.call(command, QSS_PROVED="1")
+        self.assertEqual((status, out), (9, "qss: the installed program has no proofs, and QSS_PROVED is 1\n"))
+        if shutil.which("script"):
+            out = self.call("script", "-qec", command, os.path.join(self.folder, "typescript"))[1]
+            self.assertEqual(out.split("\r\n")[0], "qss: the program without its proofs")
+        status, out = self.call(os.path.join(folder, "qss-tools"), "--path")
+        self.assertEqual((status, out), (0, os.path.join(self.prefix, "lib", "qss", "tools") + "\n"))
+        self.assertEqual(self.call(sys.executable, "-c", "import qss_tools", PYTHONPATH=out.strip()), (0, ""))
+        self.assertNotIn("tools/qss-", self.call(os.path.join(folder, "qss-advise"), "--help")[1])
+        # (an installed command without proofs is found by tools that have no program of their own)
+        os.remove(self.program)
+        script = "import sys; sys.path.insert(0, 'tools'); from qss_tools.program import find_program as f; print(f())"
+        path = folder + os.pathsep + self.environment["PATH"]
+        found = self.call(sys.executable, "-c", script, PATH=path)
+        self.assertEqual(found, (0, os.path.join(self.prefix, "lib", "qss", "qss") + "\n"))
+
+    def test_what_cannot_be_installed(self):
+        status, out = self.call("make", "install", "PREFIX=~/there")
+        self.assertEqual(status, 2)
+        self.assertIn("write PREFIX=$HOME/.local\n", out)
+        self.assertEqual([name for name in os.listdir(self.checkout) if name.startswith("~")], [])
+        os.remove(self.program)
+        status, out = self.call("make", "install", "PREFIX=" + self.prefix)
+        self.assertEqual(status, 2)
+        self.assertIn("qss-tools: no program is built from these sources: './qss print ", out)
+        self.assertFalse(os.path.exists(self.prefix))
 
 
 class InstalledByPip(unittest.TestCase):
