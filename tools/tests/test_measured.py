@@ -92,6 +92,23 @@ class Files(InFolder):
         found = self.found("t,P,x\n0,1,2\n3,5,6\n", "x*y=P", "(x - 1)=x", shift="500us")
         self.assertEqual(found, {"x*y": ([0.5, 3.5], [1, 5]), "(x - 1)": ([0.5, 3.5], [2, 6])})
 
+    def test_units_of_expressions(self):
+        """A sum of volts is in V. With a factor, the unit is not known, and a note states what is taken."""
+        for variable, values, notes in (
+            ("x - x", [0.001, 0.005], []),
+            ("-(x)", [0.001, 0.005], []),
+            ("0.1*x", [1, 5], ["the unit of 0.1*x is not known: taken as mV, that of the column 'P'"]),
+            ("x*y", [1, 5], ["the unit of x*y is not known: taken as mV, that of the column 'P'"]),
+            ("x + y", [1, 5], ["the unit of x + y is not known: taken as mV, that of the column 'P'"]),
+        ):
+            path = self.file("data.csv", "t,P [mV]\n0,1\n3,5\n")
+            words = {"data": path, "column": [variable + "=P"], "shift": None, "source": self.model}
+            data = Measurements(argparse.Namespace(**words), Run(self.model, PROGRAM))
+            self.assertEqual((data.found[0].values, data.notes), (values, notes), variable)
+        with self.assertRaises(Fault) as caught:
+            self.found("t,P [mA]\n0,1\n3,5\n", "x - 2*x + x=P", "-x=P")
+        self.assertIn("the column 'P' is in mA, and -x is in V", str(caught.exception))
+
     def test_latin_text(self):
         self.assertEqual(cells_of(self.file("l.csv", b"t [\xb5s],x\n1,2\n")).heads[0], ("t", "us"))
 

@@ -92,6 +92,8 @@ def tool(arguments: Sequence[str]) -> int:
         raise Fault("--height: from 40 to 2000")
     drawing = Plot(args)
     data = dots.measurements_of(drawing)
+    for note in data.notes if data is not None else ():
+        drawing.say(note)
     drawing.check_output()
     warn(args, drawing.run, "qss-plot")
     drawing.gather()

@@ -155,7 +155,10 @@ def tool(arguments: Sequence[str]) -> int:
 def compare_with_data(args: argparse.Namespace, run: Run) -> int:
     """Compares a run with measured values; the status."""
     args.rows = args.rule = args.relative = None
-    found = compared(args, run, Measurements(args, run))
+    data = Measurements(args, run)
+    for note in data.notes:
+        print("qss-accuracy: %s" % note, file=sys.stderr)
+    found = compared(args, run, data)
     print(found.text(), flush=True)
     if found.overflow is None:
         return FINE

@@ -21,6 +21,9 @@ from ..runs.rows import Run
 WITH_UNIT = re.compile(r"^(.*?)\s*(?:\[([^][]*[^][\d\s][^][]*)\]|\(([^()]+)\))$")
 TIME_NAME = re.compile(r"^(time|t)(?:_(\w+))?$", re.IGNORECASE)
 COLUMN = re.compile(r"^(.*)=([^=]*)$")
+BRACKETS = re.compile(r"\[[^\]]*\]")
+NAME = re.compile(r"[^\W\d]\w*")
+SUM = re.compile(r"^[\s()+-]*(?:[^\W\d]\w*[\s()]*(?:[+-][\s()+-]*|$))+$")
 MISSING = frozenset(("", "nan", "na", "n/a"))
 PREFIXES = {"": 0, "p": -12, "n": -9, "u": -6, "m": -3, "k": 3, "M": 6, "G": 9}
 SEPARATORS = ("\t", ";", ",")
@@ -183,6 +186,7 @@ class Measurements:
         self.cells = cells_of(self.path)
         self.time = self.cells.time_place()
         self.places = self._places(args.column)
+        self.notes: List[str] = []  # on units that are not known
         self.found = self._found()
 
     def _places(self, words: Sequence[str]) -> Dict[str, int]:
@@ -219,8 +223,10 @@ class Measurements:
         return found
 
     def unit_of(self, variable: str) -> str:
-        """The unit of a variable."""
-        return self.units.get(variable.split("[")[0], "")
+        """The unit of a variable, or of a sum of variables of one unit."""
+        plain = BRACKETS.sub("", variable)
+        found = {self.units.get(name, "") for name in NAME.findall(plain)}
+        return found.pop() if len(found) == 1 and SUM.match(plain) else ""
 
     def _found(self) -> List[Measured]:
         """The values of each variable."""
@@ -259,6 +265,8 @@ class Measurements:
         """From the unit of a column to that of its variable."""
         name, unit = self.cells.heads[place]
         wanted = plain_unit(self.unit_of(variable))
+        if unit and not wanted and is_expression(variable):
+            self.notes.append("the unit of %s is not known: taken as %s, that of the column '%s'" % (variable, unit, name))
         factor = unit_factor(unit, wanted) if unit and wanted else 1.0
         if factor is None:
             raise self.cells.fault(
