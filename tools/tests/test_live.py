@@ -143,8 +143,10 @@ class Answers(Live):
         one, two = (session.draw(self.ask(session, values=values)) for values in ({}, {"R": "2"}))
         # (with half the resistance the voltage is at 1/16 after 1/8 in place of 1/4 of a time)
         self.assertEqual([found["panels"][0]["curves"][0]["x"][1] for found in (one, two)], [0.25, 0.125])
+        # (the lines of the file: tau = 2*R*R/R is in line 3, and i = (U - u)/R in line 10)
         for values, part in (
-            ({"R": "0"}, "division by 0"),
+            ({"R": "0"}, "division by 0 (line 3)"),
+            ({"R": "0", "tau": "1"}, "division by 0 (line 10)"),
             ({"Q": "1"}, "no parameter"),
             ({"R": "1; R"}, "not a value"),
         ):
@@ -160,6 +162,30 @@ class Answers(Live):
         self.assertNotIn(self.folder, session.named(caught.exception))
         for panels in ("u", [["u"]] * 1000):
             self.assertRaises(Fault, session.draw, self.ask(session, panels=panels))
+
+    def test_one_wrong_name_does_not_hide_the_others(self):
+        session = self.session("charged.mo", CHARGED)
+        found = session.draw(self.ask(session, panels=[["nothing"], ["u", "u - none", "n"]]))
+        drawn = [[curve["name"] for curve in panel["curves"]] for panel in found["panels"]]
+        self.assertEqual(drawn, [["u", "n"]])
+        self.assertEqual(list(found["wrong"]), ["nothing", "u - none"])
+        self.assertEqual(found["notices"], list(found["wrong"].values()))
+        self.assertIn("no variable 'none'", found["wrong"]["u - none"])
+        self.assertEqual(session.draw(self.ask(session))["wrong"], {})
+
+    def test_one_wrong_measure_does_not_hide_the_others(self):
+        """The values of the ball are those of its other measures."""
+        session = self.session("ball.mo", BALL)
+        asked = self.ask(session, panels=[["y"]], names=["y"])
+        for text, right, part, why in (
+            ("mean(y) mean(none) mean(v)", [0.05, -2.5], "mean(none)", "no variable 'none'"),
+            ("mean(y) middle(y), mean(v)", [0.05, -2.5], "middle(y),", "there is no measure 'middle'"),
+            ("mean(y) mean(v", [0.05], "mean(v", "is not a measure"),
+        ):
+            *found, wrong = session.measure({**asked, "measures": text})["measures"]
+            self.assertEqual([one["value"] for one in found], right, text)
+            self.assertEqual((wrong["text"], wrong["value"]), (part, None))
+            self.assertIn(why, wrong["reason"])
 
     def test_an_overflow(self):
         session = self.session("m.mo", GROWING)
@@ -475,6 +501,12 @@ class Tool(InFolder):
         self.assertTrue(page.value("document.querySelector('.parameter.moved') !== null"))
         self.assertIn("--set U=", page.value("document.getElementById('command').textContent"))
         self.keep(page, "live_slider")
+        # (an end of the range that is no number, or beyond the other end, is said and not taken)
+        end = "document.querySelector('[data-name=U] .end.left')"
+        for text, part in (("two", "'two' is not a number"), ("1000", "'1000' is not below the other end")):
+            page.value("%s.value = '%s'; %s.dispatchEvent(new Event('change')); 0" % (end, text, end))
+            page.wait("document.getElementById('notices').textContent.includes(\"%s\")" % part)
+            self.assertEqual(page.value(end + ".value"), "4.8")
 
     @NEEDS_PROGRAM
     def test_a_wrong_source_is_explained_beside_the_last_curve(self):

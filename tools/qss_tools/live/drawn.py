@@ -2,6 +2,7 @@
 import math
 from typing import Any, Dict, List, NamedTuple, Optional, Sequence, Tuple
 
+from ..fault import Fault
 from ..plot.bands import bands_of
 from ..plot.curves import Curve
 from ..plot.knots import Firings, shortened, times_of
@@ -33,6 +34,7 @@ class LivePlot(Plot):
     """A drawing for a page, of rows that are there."""
 
     def __init__(self, done: Done, source: str, view: View, certificate: Optional[str] = None) -> None:
+        self.view = view
         words = [done.path, done.rows, *view.words()]
         args = parser_of().parse_args(words + (["--certificate", certificate] if certificate else []))
         args.source, args.label = source, args.model
@@ -88,6 +90,23 @@ class LivePlot(Plot):
                 times = [shortened(time) for time in band.times]
                 found.append({"panel": number, "curve": band.place, "opacity": band.opacity, "x": times, **rounded})
         return found
+
+
+def drawn_part(done: Done, source: str, view: View) -> Tuple[LivePlot, Dict[str, Fault]]:
+    """The picture of what can be drawn of a view, and why each other name cannot. That nothing can be is a fault."""
+    try:
+        return LivePlot(done, source, view), {}
+    except Fault:
+        wrong: Dict[str, Fault] = {}
+        for name in dict.fromkeys(name for panel in view.panels for name in panel):
+            try:
+                LivePlot(done, source, view._replace(panels=[[name]]))
+            except Fault as fault:
+                wrong[name] = fault
+        panels = [[name for name in panel if name not in wrong] for panel in view.panels]
+        if not wrong or not any(panels):
+            raise
+    return LivePlot(done, source, view._replace(panels=[panel for panel in panels if panel])), wrong
 
 
 def place_of(label: str) -> Tuple[float, ...]:

@@ -8,8 +8,9 @@ from ..fault import Fault, read_bytes
 from ..model.source import Source
 from ..model.units import variable_units, written_time_unit
 from ..runs.measures import Request, requests
+from ..runs.expressions import split_outside
 from ..runs.quadratics import Line, check_name, value_of
-from ..runs.rows import Rows, lines_of
+from ..runs.rows import Rows, Run, lines_of
 from ..studies import certificate
 from ..tables.measure import lines_by_name, number_of, unit_of
 from .drawn import LivePlot, View
@@ -40,6 +41,25 @@ def value_or_reason(one: Request, lines: Dict[str, Line]) -> Tuple[Optional[floa
         return None, str(fault)
 
 
+def asked_measures(run: Run, text: str, unit: str) -> Tuple[List[Request], List[Tuple[str, str]]]:
+    """The measures of a text, and each part that is none of this model, with the reason."""
+    found: List[Request] = []
+    wrong: List[Tuple[str, str]] = []
+    try:
+        parts = [(one.text, [one]) for one in requests(text, unit)] if text.strip() else []
+    except Fault:
+        parts = [(part, []) for part in split_outside(text.strip(), " ") if part.strip(",;")]
+    for part, known in parts:
+        try:
+            some = known or requests(part, unit)
+            for one in some:
+                check_name(run, one.variable, number_of)
+            found += some
+        except Fault as fault:
+            wrong.append((part, str(fault)))
+    return found, wrong
+
+
 class Measured:
     """The measures of a run, from its rows."""
 
@@ -66,18 +86,14 @@ class Measured:
 
     def asked(self, text: str) -> List[Json]:
         """The measures of a text, each with its value and unit or why it has none."""
-        if not text.strip():
-            return []
-        some = requests(text, self.units.time or "s")
-        for one in some:
-            check_name(self.done.run, one.variable, number_of)
-        lines = self.lines(list(dict.fromkeys(one.variable for one in some)))
-        found = []
-        for one in some:
+        found, wrong = asked_measures(self.done.run, text, self.units.time or "s")
+        lines = self.lines(list(dict.fromkeys(one.variable for one in found))) if found else {}
+        answers = []
+        for one in found:
             value, reason = value_or_reason(one, lines)
             unit = unit_of(one, self.units.variables, self.units.time)
-            found.append({"text": one.text, "value": value, "unit": unit, "reason": reason})
-        return found
+            answers.append({"text": one.text, "value": value, "unit": unit, "reason": reason})
+        return answers + [{"text": part, "value": None, "unit": "", "reason": why} for part, why in wrong]
 
 
 def bands_of(done: Done, source: str, view: View, program: str) -> List[Json]:

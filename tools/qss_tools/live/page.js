@@ -16,7 +16,8 @@ const by = (id) => document.getElementById(id);
 const state = {
   file: "", text: null, sheet: null, order: 1, problems: [], warnings: [], // of the source
   values: {}, ranges: {}, panels: [], window: null, // what is asked for: values that differ, sliders, panels, time
-  drawn: null, drawnTurn: 0, bands: [], fault: "", notices: [], // the answer, and what is said of it
+  drawn: null, drawnTurn: 0, bands: [], fault: "", notices: [], hint: "", // the answer, and what is said of it
+  wrong: {}, // names that cannot be drawn
   base: null, baseKey: "", // the panels of the values of the file, and the request for them
   asking: false, again: 0, turn: 0, settle: 0, resize: 0, width: 0,
 };
@@ -91,10 +92,18 @@ async function drawOnce(begun) {
   if (answer && answer.stale) return; // (the server has another source: it says so by itself)
   state.fault = (answer && answer.fault) || "";
   if (state.fault) return;
+  takeWrong(answer ? answer.wrong : {});
   takeBase(wanted, answer);
   Object.assign(state, {drawn: answer, drawnTurn: turn, bands: [], notices: answer ? answer.notices : []});
   await picture();
   window.qssLive.latencies.push(performance.now() - begun);
+}
+
+// Marks the names that cannot be drawn. The curves of the others have their colours.
+function takeWrong(wrong) {
+  if (JSON.stringify(wrong) === JSON.stringify(state.wrong)) return;
+  state.wrong = wrong;
+  panels();
 }
 
 // The curves of the values of the file are drawn below those of other values.
@@ -230,10 +239,14 @@ function end(one, range, name, side) {
   const input = element("input", {class: "end " + side, type: "text", value: plain(range[name]),
     "aria-label": `${name} value of the slider of ${one.name}`});
   input.addEventListener("change", () => {
-    const value = Number(input.value);
-    if (input.value.trim() !== "" && Number.isFinite(value)) range[name] = value;
+    const value = Number(input.value), isNumber = input.value.trim() !== "" && Number.isFinite(value);
+    const isInOrder = name === "least" ? value < range.greatest : value > range.least;
+    const why = !isNumber ? "is not a number" : name === "least" ? "is not below the other end" : "is not above the other end";
+    state.hint = isNumber && isInOrder ? "" : `the range of the slider of ${one.name}: '${input.value}' ${why}`;
+    if (!state.hint) range[name] = value;
     if (range.least <= 0) range.is_log = false;
     parameters();
+    tellAll();
   });
   return input;
 }
@@ -254,6 +267,7 @@ function at(range, step) {
 // Another value of a parameter, or with null that of the file.
 function set(one, text, isSlider) {
   const begun = performance.now();
+  state.hint = "";
   if (text === null) delete state.values[one.name];
   else state.values[one.name] = text;
   const row = document.querySelector(`.parameter[data-name="${one.name}"]`);
@@ -284,7 +298,10 @@ function panels() {
 
 function panelRow(panel, number) {
   const remove = (place) => () => { panel.splice(place, 1); changed(); };
-  const chips = panel.map((name, place) => element("span", {class: "chip", title: aboutOf(name)}, line(place),
+  const drawn = panel.filter((name) => !state.wrong[name]);
+  const chips = panel.map((name, place) => element("span",
+    {class: state.wrong[name] ? "chip wrong" : "chip", title: state.wrong[name] || aboutOf(name)},
+    state.wrong[name] ? "" : line(drawn.indexOf(name)),
     element("span", {}, name), element("button", {title: "remove " + name, onclick: remove(place)}, "×")));
   const input = element("input", {list: "known", spellcheck: "false", "aria-label": "add to panel " + (number + 1),
     placeholder: panel.length ? "add .." : "a variable, or an expression as x - y"});
@@ -515,11 +532,11 @@ function tellAll() {
   const last = `The picture ${what}.`;
   by("problems").replaceChildren(...all.map(problem), isOld ? element("div", {class: "stays"}, last) : "");
   by("problems").hidden = !all.length;
-  const notices = [...state.notices, ...state.warnings.map((one) => `${one} (see tools/qss-advise)`)];
+  const notices = [...(state.hint ? [state.hint] : []), ...state.notices, ...state.warnings];
   by("notices").replaceChildren(...notices.map((one) => element("div", {}, one)));
   by("notices").hidden = !notices.length;
   by("picture").classList.toggle("old", isOld);
-  light(all.length ? "bad" : "good");
+  light(all.length ? "bad" : state.notices.length ? "warned" : "good");
   by("said").textContent = state.drawn ? figures() : all.length ? "nothing runs yet" : "";
 }
 

@@ -21,8 +21,10 @@ KEPT = 8  # runs whose rows are kept
 class Refused(Fault):
     """The program refuses the model with these values: its line, and the file of the changed model."""
 
-    def __init__(self, line: str, path: str) -> None:
-        super().__init__(explained(path, line))
+    def __init__(self, line: str, path: str, is_file: bool = False) -> None:
+        """With `is_file`, the lines of the changed model are those of the file."""
+        why = explained(path, line)
+        super().__init__(why.replace(" of the changed model)", ")") if is_file else why)
         self.line = line
 
 
@@ -35,11 +37,12 @@ class Limits:
 
 
 class Text(NamedTuple):
-    """A model that the program accepts: its name, the number of its text, and its canonical text."""
+    """A model that the program accepts: its name, the number of its text, its canonical text, and that of its file."""
 
     name: str
     number: int
     canonical: bytes
+    source: bytes = b""
 
 
 @dataclass(frozen=True)
@@ -91,10 +94,10 @@ class Runs:
         with open(path, "wb") as file:
             file.write(changed)
         begun = time.perf_counter()
-        answer = answered(self.program, ["run2" if self.limits.order == 2 else "run", path], self.limits.seconds)
+        answer = self.answer(path)
         seconds = time.perf_counter() - begun
         if answer.status == REFUSED:
-            raise Refused(answer.line, path)
+            raise self.refusal(text, values, folder) or Refused(answer.line, path)
         if answer.status not in (0, OVERFLOWED) and not answer.stopped:
             raise Fault(f"{text.name}: {answer.line or f'status {answer.status}'}")
         with open(rows, "wb") as file:
@@ -102,6 +105,23 @@ class Runs:
         run = run_of(path, self.program, changed)
         run.use_order(self.limits.order)
         return Done(path, run, rows, seconds, answer.stopped)
+
+
+    def answer(self, path: str) -> "Answer":
+        """How the run of a model ended."""
+        verb = "run2" if self.limits.order == 2 else "run"
+        return answered(self.program, [verb, path], self.limits.seconds)
+
+    def refusal(self, text: Text, values: Mapping[str, str], folder: str) -> Optional[Refused]:
+        """Why these values are refused in the text of the file, in which they leave each line where it is."""
+        if not text.source:
+            return None
+        path = os.path.join(folder, "file", os.path.basename(text.name))
+        os.mkdir(os.path.dirname(path))
+        with open(path, "wb") as file:
+            file.write(changed_text(text.name, text.source, values))
+        answer = self.answer(path)
+        return Refused(answer.line, path, is_file=True) if answer.status == REFUSED else None
 
 
 class Answer(NamedTuple):

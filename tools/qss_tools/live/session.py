@@ -8,13 +8,14 @@ from typing import Any, Callable, Dict, List, NamedTuple, Optional, Tuple
 from ..editor.background import advice_by_process
 from ..editor.checks import Checker, Problem
 from ..fault import Fault, read_bytes
+from ..installed import for_user
 from ..model.source import Source
 from ..model.story import excerpt
 from ..plot.drawing import Drawing
 from ..plot.plot import parser_of
 from ..program import canonical_text
 from ..runs.rows import Run
-from .drawn import LivePlot, View
+from .drawn import View, drawn_part
 from .measured import Measured, bands_of
 from .runs import Limits, Runs, Text
 from .sheet import Sheet, first_panels, sheet_of
@@ -105,7 +106,7 @@ class Session:
         canonical = canonical_text(self.program, path)
         run = Run(path, self.program, canonical)
         source = Source(os.path.basename(self.model), data)
-        text = Text(source.name, number, canonical)
+        text = Text(source.name, number, canonical, data)
         labels = Drawing(plain_args(path), run).labels
         sheet = sheet_of(source, run, self.options.unit)
         self.runs.of(text, {})
@@ -117,7 +118,8 @@ class Session:
         if loaded is None:
             return
         found = advice_by_process(loaded.source, self.program, lambda: self.loaded is loaded and not is_ended()) or {}
-        warnings = [one["sentence"] for one in found.get("findings", []) if one["grave"]]
+        graves = [one["sentence"] for one in found.get("findings", []) if one["grave"]]
+        warnings = [for_user(f"{one} (see tools/qss-advise)") for one in graves]
         with self.saved:
             if warnings and self.loaded is loaded:
                 self.warnings = warnings
@@ -128,9 +130,11 @@ class Session:
         """The first panels can be drawn, if the source runs."""
         if self.loaded is not None:
             try:
-                self.draw({"text": self.loaded.text.number, "panels": self.loaded.panels})
+                found = self.draw({"text": self.loaded.text.number, "panels": self.loaded.panels})
             except Fault as fault:
                 raise Fault(self.named(fault)) from fault
+            for why in found["wrong"].values():
+                raise Fault(why)
 
     # answers
 
@@ -155,13 +159,16 @@ class Session:
         """The curves of a run."""
         loaded, view = self.known(request), view_of(request)
         done = self.runs.of(loaded.text, values_of(request))
-        drawn = LivePlot(done, loaded.source, view)
+        drawn, wrong = drawn_part(done, loaded.source, view)
+        wrong = {name: self.named(fault) for name, fault in wrong.items()}
+        notices = [done.stopped + "; the picture ends there"] if done.stopped else drawn.notices
         return {
             "panels": drawn.panels_json(),
             "events": drawn.events_json(),
             "times": drawn.times,
             "seconds": done.seconds,
-            "notices": [done.stopped + "; the picture ends there"] if done.stopped else drawn.notices,
+            "notices": [*notices, *wrong.values()],
+            "wrong": wrong,
         }
 
     def measure(self, request: Json) -> Json:
@@ -171,13 +178,11 @@ class Session:
         measured = Measured(done, loaded.source)
         names = [str(name) for name in request.get("names", [])]
         found: Json = {"table": measured.table(names, view.window), "measures": [], "bands": [], "notices": []}
-        try:
-            found["measures"] = measured.asked(str(request.get("measures", "")))
-        except Fault as fault:
-            found["measures"] = [{"text": str(fault), "value": None, "unit": "", "reason": str(fault)}]
+        found["measures"] = measured.asked(str(request.get("measures", "")))
         if request.get("band"):
             try:
-                found["bands"] = bands_of(done, loaded.source, view, self.program)
+                shown = drawn_part(done, loaded.source, view)[0].view
+                found["bands"] = bands_of(done, loaded.source, shown, self.program)
             except Fault as fault:
                 found["notices"].append(self.named(fault))
         return found
