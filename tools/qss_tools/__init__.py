@@ -3,7 +3,7 @@
   import qss_tools as qss
   run = qss.run("examples/rc.mo", set={"R": 10})
   run.frame(), run.measure("rise(v)"), run.plot()
-  qss.advise("examples/rc.mo"), qss.explain(..), qss.accuracy(..), qss.certificate(..)
+  qss.advise("examples/rc.mo"), qss.explain(..), qss.accuracy(..), qss.certificate(..), qss.fit(..)
 
 The tools need only Python's standard library. With numpy they read and draw long runs faster. Frames need pandas.
 Pictures use matplotlib or plotly if they are installed.
@@ -16,9 +16,9 @@ from .fault import Fault
 if TYPE_CHECKING:
     from .interactive import Interactive
     from .simulation import Simulation
-    from .studies import Accuracy, Advice, Certificate, Remark
+    from .studies import Accuracy, Advice, Certificate, Fitted, Remark
 
-__all__ = ["Fault", "accuracy", "advise", "certificate", "explain", "interact", "run", "sweep"]
+__all__ = ["Fault", "accuracy", "advise", "certificate", "explain", "fit", "interact", "run", "sweep"]
 
 
 def __dir__() -> List[str]:
@@ -73,6 +73,21 @@ def certificate(
     from .studies import certificate as found
 
     return found(model, state, program)
+
+
+def fit(
+    model: "Union[str, os.PathLike[str]]",
+    data: "Union[str, os.PathLike[str]]",
+    vary: Mapping[str, str],
+    columns: Optional[Mapping[str, str]] = None,
+    **options: Any,
+) -> "Fitted":
+    """Values for which a run of a model is near measured values (numpy and scipy). `vary` has a range as "1:100" by the
+    name of each value, `columns` a column of the file by the name of a variable. The options are those of qss-fit.
+    """
+    from .studies import fit as fitted
+
+    return fitted(model, data, vary, columns, **options)
 
 
 def interact(

@@ -1,8 +1,9 @@
 """What the tools find out about a model, as functions whose results are dataclasses (docs/PYTHON.md)."""
 import io
 import os
+import tempfile
 from dataclasses import dataclass
-from typing import Any, Dict, Optional, Sequence, Tuple, Union
+from typing import Any, Dict, Mapping, Optional, Sequence, Tuple, Union
 
 from .fault import Fault, read_bytes
 from .model.source import Source
@@ -86,6 +87,28 @@ class Certificate:
             output.write(self.text)
 
 
+@dataclass(frozen=True)
+class Fitted:
+    """What qss-fit finds: for each value that was varied its number and its interval of 95 %, or None if none holds; for
+    each variable the root mean square error; whether the fit is sound; the report; and the model with the values.
+    """
+
+    model: str
+    values: Dict[str, float]
+    intervals: Dict[str, Optional[Tuple[float, float]]]
+    errors: Dict[str, float]
+    is_sound: bool
+    report: str
+    text: str
+
+    def write(self, path: FilePath) -> None:
+        """Writes the model with the values."""
+        from .output import Output
+
+        with Output(os.fspath(path)) as output:
+            output.write(self.text)
+
+
 def place_in(source: Source, at: Optional[int]) -> Tuple[Optional[int], Optional[int]]:
     """The line and the column of a byte."""
     return (None, None) if at is None else source.place(at)
@@ -143,6 +166,34 @@ def accuracy(model: FilePath, program: Optional[str] = None) -> Accuracy:
         worst.share,
         *counts,
     )
+
+
+def fit(
+    model: FilePath, data: FilePath, vary: Mapping[str, str], columns: Optional[Mapping[str, str]] = None, **options: Any
+) -> Fitted:
+    """Finds values for which a run is near measured values, as qss-fit does (numpy, scipy). `vary` has a range as
+    "1:100" by the name of each value, `columns` a column by the name of a variable. The options are those of qss-fit.
+    """
+    from .fits.fit import Fitting, check_scipy, parser_of
+
+    check_scipy()
+    with tempfile.TemporaryDirectory(prefix="qss-") as folder:
+        words = [os.fspath(model), f"--with={os.fspath(data)}", f"--output={os.path.join(folder, 'runs.csv')}"]
+        words += [f"--vary={name}={span}" for name, span in vary.items()]
+        words += [f"--column={name}={column}" for name, column in (columns or {}).items()]
+        words += [f"--set={name}={value}" for name, value in options.pop("set", {}).items()]
+        words += [f"--{name.replace('_', '-')}={value}" for name, value in options.items()]
+        fitting = Fitting(parser_of().parse_args(words))
+        found = fitting.found()
+        return Fitted(
+            os.fspath(model),
+            {one.name: float(one.text) for one in found.estimates},
+            {one.name: None if found.patterns else one.interval for one in found.estimates},
+            {one.variable: one.rms for one in found.misfits},
+            found.is_sound,
+            "\n".join(fitting.report(found)),
+            fitting.rewritten(found).decode("utf-8", "replace"),
+        )
 
 
 def certificate(model: FilePath, state: Optional[str] = None, program: Optional[str] = None) -> Certificate:

@@ -1,4 +1,5 @@
 """Fits of parameters to measured values, and the page docs/MEASUREMENTS.md."""
+import math
 import os
 import random
 import re
@@ -13,11 +14,13 @@ from unittest import mock
 from support import BUILT, PROGRAM, ROOT, TOOLS, InFolder, python_with, run, run_by
 
 from qss_tools.fault import Fault
+from qss_tools.fits.noise import autocorrelation, pattern
 from qss_tools.fits.ranges import Range, ranges_of, shift_range
 from qss_tools.fits.search import Correlation, Estimate, spread_points
 from qss_tools.model.flat import Flat
 from qss_tools.model.grammar import parse
 from qss_tools.model.source import Source
+from qss_tools.tables.measurements import Measured
 
 PAGE = os.path.join(ROOT, "docs", "MEASUREMENTS.md")
 PYTHON = python_with("numpy", "scipy")
@@ -104,6 +107,43 @@ class Ranges(unittest.TestCase):
         self.assertEqual(Estimate("R", "5", None, False).sentence(""), "5, not determined by the data within its range")
         self.assertEqual(Correlation("R", "C", 0.97).text(), "R and C: correlation 0.970")
         self.assertIn("the data hardly tell them apart", Correlation("R", "C", -0.9999).text())
+
+
+class Noise(unittest.TestCase):
+    """Differences of runs from measured values that go from 0 to 1."""
+
+    def pattern(self, errors):
+        times = [float(place) for place in range(len(errors))]
+        values = [place / (len(errors) - 1) for place in range(len(errors))]
+        return pattern(Measured("v", "V", times, values), [value + error for value, error in zip(values, errors)])
+
+    def test_autocorrelations(self):
+        # (of 4 equal differences 3 pairs are left, and of alternating ones their products are -1)
+        self.assertEqual(autocorrelation([2.0] * 4, 1), 3 / 4)
+        self.assertEqual(autocorrelation([1.0, -1.0] * 5, 1), -9 / 10)
+        self.assertEqual(autocorrelation([1.0, -1.0] * 5, 2), 8 / 10)
+        self.assertEqual(autocorrelation([0.0] * 3, 1), 0)
+
+    def test_noise_and_patterns(self):
+        draw = random.Random(3)
+        noise = [draw.gauss(0, 0.05) for _ in range(400)]
+        self.assertIsNone(self.pattern(noise))
+        offset = self.pattern([0.1] * 400)
+        self.assertEqual((offset.correlation, offset.lag), (399 / 400, 1))
+        self.assertEqual(offset.text(), "v: the differences of neighbouring values have the correlation 1.00")
+        # (a sine with 40 values a period on top of the noise; its square is a half of 0.2^2 in the mean)
+        wave = self.pattern([one + 0.2 * math.sin(math.pi * place / 20) for place, one in enumerate(noise)])
+        self.assertAlmostEqual(wave.correlation, 0.02 / 0.0225, delta=0.03)
+        # (every other value is off: the samples are as far apart as half a period)
+        self.assertEqual(self.pattern([0.1, -0.1] * 200).lag, 1)
+
+    def test_small_differences_and_few_values_are_no_pattern(self):
+        self.assertIsNone(self.pattern([0.004] * 400))
+        self.assertIsNone(self.pattern([0.1] * 12))
+
+    def test_no_interval_is_printed(self):
+        found = Estimate("R", "2.20669", (2.195, 2.2185), True)
+        self.assertEqual(found.sentence(" Ohm", is_trusted=False), "2.207 Ohm, at the end of its range")
 
 
 RANGES = [("R", 1.0, 100.0, True), ("v.start", -1.0, 3.0, False), ("C", 4.0, 9.0, True)]
@@ -292,6 +332,35 @@ class Fits(InFolder):
         status, out, _ = self.fit("--with", data, *VARY, "--steps", "1")
         self.assertEqual(status, 1, out)
         self.assertTrue(out.endswith(" runs; the search is not at its end: --steps allows more\n"), out)
+
+    def test_a_model_that_does_not_fit(self):
+        """With C = 0.6 in place of 0.33 no R fits: there are no intervals, and the line names the file that is written."""
+        words = ("--vary", "R=0.1:100", "--set", "C=0.6", "--starts", "2", "--rewrite", "f.mo")
+        status, out, err = self.fit("--with", self.data(), *words)
+        self.assertEqual(status, 1, out)
+        self.assertNotIn("95 %", out)
+        self.assertRegex(out, r"\n  R = \S+ kOhm\n")
+        last = out.splitlines()[-1]
+        self.assertTrue(last.startswith("the differences that are left are not like noise (v: the differences of "), out)
+        self.assertIn(": --starts 16 searches more of the ranges; f.mo has these values all the same", last)
+        self.assertEqual(err.count("qss-fit: the differences are not like noise: the search begins again"), 1)
+        self.assertIn("model rc", read("f.mo"))
+
+    def test_a_fit_from_python(self):
+        """R comes back within 1 %. With a wrong capacity there is no interval."""
+        script = (
+            "import sys; sys.path.insert(0, %r); import qss_tools as qss\n"
+            "for C in (0.33, 0.6):\n"
+            "    f = qss.fit('rc.mo', %r, {'R': '0.1:100'}, {'i': 'i'}, set={'C': C}, starts=2, jobs=1, program=%r)\n"
+            "    print(f.is_sound, f.values['R'], f.intervals['R'] is None, sorted(f.errors), f.text.count('C = '))"
+        ) % (TOOLS, self.data(), PROGRAM)
+        done = subprocess.run([PYTHON, "-c", script], stdout=subprocess.PIPE, stderr=subprocess.PIPE)
+        self.assertEqual(done.returncode, 0, done.stderr.decode())
+        right, wrong = done.stdout.decode().splitlines()
+        self.assertRegex(right, r"^True \S+ False \['i', 'v'\] 1$")
+        self.assertLess(abs(float(right.split()[1]) / 4.7 - 1), 0.01)
+        self.assertRegex(wrong, r"^False \S+ True \['i', 'v'\] 1$")
+        self.assertEqual([one for one in os.listdir(self.folder) if one.endswith(".part")], [])
 
     def test_points_that_are_refused(self):
         """R = 0 is no value of the model: the points near it are left out."""

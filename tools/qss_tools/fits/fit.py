@@ -29,12 +29,15 @@ ABOUT = """Finds values of parameters for which the run of a model is near measu
 A range is LOW:HIGH or LOW:HIGH:START. The start is the value of the model if it is in the range, and else the middle. A
 positive range is searched by its logarithm. Some points of the ranges are run first, and least squares go on from the
 best one. The differences of each variable count in relation to the range of its measured values. The interval of a
-value has a probability of 95 %, if the noise of the measured values is independent and the model is right.
+value has a probability of 95 %, if the noise of the measured values is independent and the model is right. If the
+differences that are left are not like noise, up to three further points are searched from. If they are still not like
+noise, no intervals are printed, and a line states this.
 The file of measured values has a line of names with units, as 't [ms],uC [V]'.
 
 All runs are kept in MODEL.fit.part, or with -o TABLE in TABLE.part, until the fit is at its end. After an interruption
 the same call goes on there, and has the same result.
-Status: 0 a fit, 1 a value is not determined or at the end of its range, or the search is not at its end, 2 a fault."""
+Status: 0 a fit, 1 a value is not determined or at the end of its range, or the differences are not like noise, or the
+search is not at its end, 2 a fault."""
 
 
 def parser_of() -> Arguments:
@@ -111,6 +114,8 @@ class Fitting:
         self.program = find_program(args.program)
         self.run = run_of(args)
         self.data = Measurements(args, self.run)
+        for note in self.data.notes:
+            say(note)
         self.ranges = ranges_of(args.vary, self.run.flat)
         self.check_names()
         self.shift: Optional[int] = None
@@ -168,6 +173,8 @@ class Fitting:
             self.write_table()
         if self.args.rewrite != "-":
             print("\n".join(self.report(found)))
+        elif found.patterns:
+            say(self.doubt(found))
         if os.path.exists(self.part.path):
             os.unlink(self.part.path)
 
@@ -179,21 +186,31 @@ class Fitting:
         width = max(len(one.name) for one in found.estimates)
         for place, one in enumerate(found.estimates):
             of_value = unit if place == self.shift else " " + self.data.unit_of(one.name.partition(".")[0])
-            lines.append("  %s = %s" % (one.name.ljust(width), one.sentence(of_value.rstrip())))
+            sentence = one.sentence(of_value.rstrip(), is_trusted=not found.patterns)
+            lines.append("  %s = %s" % (one.name.ljust(width), sentence))
         lines += ["  " + one.text() for one in found.correlations]
         lines += ["  " + one.text(self.data.time_unit) for one in found.misfits]
         last = "%s and %s" % (counted(found.steps, "step"), counted(len(self.trials.known), "run"))
         lines.append(last + ("; the search is not at its end: --steps allows more" if found.is_ended else ""))
-        return lines
+        return [*lines, self.doubt(found)] if found.patterns else lines
+
+    def doubt(self, found: Fit) -> str:
+        """The line about differences that are not like noise."""
+        some, starts, file = "; ".join(one.text() for one in found.patterns), 8 * self.args.starts, self.args.rewrite
+        line = f"the differences that are left are not like noise ({some}): the values are a local minimum, or the model"
+        line += f" does not fit: --starts {starts} searches more of the ranges"
+        return line if file in (None, "-") else f"{line}; {file} has these values all the same"
 
     def rewrite(self, found: Fit) -> None:
-        """Writes the model with the values, and all else as it was."""
+        """Writes the model with the values."""
+        with Output(None if self.args.rewrite == "-" else self.args.rewrite) as output:
+            output.write_bytes(self.rewritten(found))
+
+    def rewritten(self, found: Fit) -> bytes:
+        """The model with the values, and all else as it was."""
         values = {**assignments(self.args.set)}
         values.update({one.name: one.text for place, one in enumerate(found.estimates) if place != self.shift})
-        source = self.args.source
-        text = changed_text(source, read_bytes(source), values)
-        with Output(None if self.args.rewrite == "-" else self.args.rewrite) as output:
-            output.write_bytes(text)
+        return changed_text(self.args.source, read_bytes(self.args.source), values)
 
     def write_table(self) -> None:
         """Writes a line for each run: the values, the root mean square error of each variable, and a status."""

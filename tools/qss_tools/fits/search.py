@@ -6,11 +6,12 @@ is random: with the same runs it takes the same steps.
 """
 import math
 from dataclasses import dataclass
-from typing import Any, Callable, List, NamedTuple, Optional, Sequence, Tuple
+from typing import Any, Callable, Iterator, List, NamedTuple, Optional, Sequence, Tuple
 
 from ..fault import Fault
 from ..tables.compared import Misfit, misfit
 from ..tables.measurements import Measured
+from .noise import Pattern, pattern
 from .ranges import Range
 from .trials import Point, Trial, Trials
 
@@ -20,6 +21,8 @@ STRAIGHT = 0.2  # of the difference of two runs: by so much they may differ from
 END = 1e-4  # of a range
 CERTAIN = 0.95  # the probability of an interval
 CLOSE, TOTAL = 0.95, 0.998  # a correlation that is reported, and one that leaves two values open
+
+MOST_SEARCHES = 4  # from different points, while the differences are not like noise
 
 Say = Callable[[str], None]
 
@@ -44,8 +47,12 @@ class Estimate:
     interval: Optional[Tuple[float, float]]
     is_at_end: bool
 
-    def sentence(self, unit: str) -> str:
-        """The value and its interval, with two digits of the width of the interval."""
+    def sentence(self, unit: str, is_trusted: bool = True) -> str:
+        """The value and its interval, with two digits of the width of the interval. If the differences are not like
+        noise, no interval holds.
+        """
+        if not is_trusted:
+            return "%.4g%s%s" % (float(self.text), unit, ", at the end of its range" if self.is_at_end else "")
         if self.interval is None:
             return "%.4g%s, not determined by the data within its range" % (float(self.text), unit)
         low, high = self.interval
@@ -74,17 +81,24 @@ class Correlation(NamedTuple):
 
 @dataclass(frozen=True)
 class Fit:
-    """What a fit found: the values, how far the run is from the data, correlations, and the steps of the search."""
+    """What a fit found: the values, how far the run is from the data, correlations, differences that are not like
+    noise, and the steps of the search.
+    """
 
     estimates: List[Estimate]
     misfits: List[Misfit]
     correlations: List[Correlation]
+    patterns: List[Pattern]
     steps: int
     is_ended: bool  # before the search ended by itself
 
     @property
     def is_sound(self) -> bool:
-        """Whether the search ended by itself, and the data determine each value within its range."""
+        """Whether the search ended by itself, what is left is like noise, and the data determine each value within its
+        range.
+        """
+        if self.patterns:
+            return False
         are_determined = all(one.interval is not None and not one.is_at_end for one in self.estimates)
         return not self.is_ended and are_determined and not any(one.is_total for one in self.correlations)
 
@@ -117,11 +131,19 @@ class Search:
 
     def misfits(self, trial: Trial) -> List[Misfit]:
         """How far a run is from the measured values of each variable."""
-        found, begin = [], 0
+        return [misfit(one, values) for one, values in self.parts(trial)]
+
+    def patterns(self, trial: Trial) -> List[Pattern]:
+        """The variables whose differences are not like noise."""
+        found = (pattern(one, values) for one, values in self.parts(trial))
+        return [one for one in found if one is not None]
+
+    def parts(self, trial: Trial) -> Iterator[Tuple[Measured, List[float]]]:
+        """The measured values of each variable, with those of a run."""
+        begin = 0
         for one in self.data:
-            found.append(misfit(one, trial.values[begin : begin + len(one.values)].tolist()))  # type: ignore[index]
+            yield one, trial.values[begin : begin + len(one.values)].tolist()  # type: ignore[index]
             begin += len(one.values)
-        return found
 
     # derivatives
 
@@ -192,24 +214,42 @@ class Search:
     def values(self, places: Any) -> List[float]:
         return [float(text) for text in self.point(places)]
 
-    def start(self, count: int) -> Any:
-        """The best of some points: the start values first, and then points that fill the ranges."""
+    def starts(self, count: int) -> List[Any]:
+        """Some points, the best first: the start values, and points that fill the ranges."""
         own = tuple(one.place(one.start) for one in self.ranges)
         points = [own, *spread_points(count - 1, len(self.ranges))]
         trials = self.trials.at([self.point(one) for one in points])
         sizes = [math.inf if one.values is None else float(self.np.linalg.norm(self.errors(one))) for one in trials]
-        best = min(range(len(points)), key=lambda place: sizes[place])
-        if trials[best].values is None:
+        order = sorted(range(len(points)), key=lambda place: sizes[place])
+        if trials[order[0]].values is None:
             raise Fault("no run at the first %d points: %s" % (len(points), trials[0].why))
-        return self.np.array(points[best])
+        return [self.np.array(points[place]) for place in order if math.isfinite(sizes[place])]
 
     def found(self, starts: int, most_steps: int) -> Fit:
-        """The fit."""
+        """The fit. While the differences that are left are not like noise, the search begins again at the next point."""
+        best: Any = None
+        for place, start in enumerate(self.starts(starts)[:MOST_SEARCHES]):
+            if place:
+                self.say("the differences are not like noise: the search begins again at another point")
+            result = self.searched(start, most_steps)
+            best = result if best is None or result.cost < best.cost else best
+            trial = self.trials.at([self.point(best.x)])[0]
+            patterns = self.patterns(trial)
+            if not patterns:
+                break
+        spread = self.spread(best.jac, self.errors(trial))
+        estimates = [self.estimate(best.x, number, spread) for number in range(len(self.ranges))]
+        correlations = self.correlations(spread)
+        return Fit(estimates, self.misfits(trial), correlations, patterns, self.steps, best.status == 0)
+
+    def searched(self, start: Any, most_steps: int) -> Any:
+        """What least squares find from a point on."""
         from scipy.optimize import least_squares
 
-        result = least_squares(
+        self.distances = [FIRST_STEP] * len(self.ranges)
+        return least_squares(
             self.residuals,
-            self.np.clip(self.start(starts), 1e-9, 1 - 1e-9),
+            self.np.clip(start, 1e-9, 1 - 1e-9),
             jac=self.jacobian,
             bounds=(0.0, 1.0),
             x_scale=1.0,
@@ -218,11 +258,6 @@ class Search:
             gtol=1e-10,
             max_nfev=most_steps,
         )
-        places = result.x
-        trial = self.trials.at([self.point(places)])[0]
-        spread = self.spread(result.jac, self.errors(trial))
-        estimates = [self.estimate(places, number, spread) for number in range(len(self.ranges))]
-        return Fit(estimates, self.misfits(trial), self.correlations(spread), self.steps, result.status == 0)
 
     # confidence
 
