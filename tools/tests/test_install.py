@@ -51,9 +51,9 @@ class Installed(InFolder):
         return done.returncode, done.stdout.decode(), done.stderr.decode()
 
     def test_the_paths_are_named(self):
-        """With the path that make prints at last, Python finds the package."""
-        self.assertIn("the commands are in %s/bin; " % self.prefix, self.said)
-        path = self.said.rpartition("PYTHONPATH=")[2]
+        """make prints a line for the path, and with the path that `qss-tools --path` prints Python finds the package."""
+        self.assertIn('export PATH="%s/bin:$PATH"' % self.prefix, self.said)
+        path = self.call(self.path("bin", "qss-tools"), "--path")[1].strip()
         words = [sys.executable, "-c", "import qss_tools; print(qss_tools.__file__)"]
         environment = {**os.environ, "PYTHONPATH": path}
         done = subprocess.run(words, cwd=self.folder, env=environment, stdout=subprocess.PIPE, check=True)
