@@ -193,7 +193,8 @@ def steep_slopes(flat: Flat, trial: Trial) -> Iterator[Finding]:
     for number in sorted(range(flat.states), key=lambda number: -trial.slope[number]):
         one = flat.variables[number]
         moved = trial.slope[number] * length
-        if moved > float(one.quantum) and not trial.grown and one.declaration.name not in told:
+        # (the program refuses a quantum of 0 or less)
+        if moved > float(one.quantum) > 0 and not trial.grown and one.declaration.name not in told:
             told.add(one.declaration.name)
             yield Finding(
                 one.declaration.at,
@@ -269,6 +270,7 @@ def quanta(flat: Flat, trial: Trial) -> Iterator[Finding]:
             )
         if (
             trial.size[number]
+            and one.quantum > 0
             and not trial.grown
             and LEAST_SIZE <= trial.size[number] < 20 * float(one.quantum)
             and one.declaration.at not in told
