@@ -25,7 +25,7 @@ from ..settings.sticking import branch_rows, holds, sticking
 from .alternating import growing, late_turns
 from .finding import Finding
 from .scales import LEAST_SIZE, small_states
-from .silent import constant_branches, idle_branches, idle_starts, value_at_start
+from .silent import constant_branches, idle_branches, idle_starts, late_clocks, value_at_start
 
 MOST_OF_A_KIND = 6  # findings of one kind that are listed
 THOUSANDTH = Fraction(1, 1000)
@@ -62,6 +62,7 @@ def findings(flat: Flat, trial: Trial) -> List[Finding]:
     for look in (
         numbers_with_commas,
         misspelt,
+        late_clocks,
         never_fires,
         idle_branches,
         idle_starts,

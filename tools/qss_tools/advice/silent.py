@@ -1,11 +1,11 @@
 """Findings about parts of a model that have no effect: branches that never fire, and starts of algebraic variables."""
 from fractions import Fraction
-from typing import Dict, Iterator, List, Set
+from typing import Dict, Iterator, List, Sequence, Set
 
-from ..model.flat import ALGEBRAIC, BranchRows, Flat, Form, Row
+from ..model.flat import ALGEBRAIC, TIME, BranchRows, Flat, Form, Row
 from ..model.spelling import spell
 from ..numeric.trial import Trial
-from ..settings.limits import shown
+from ..settings.limits import place_of_setting, shown
 from ..settings.sticking import branch_rows, holds
 from .finding import Finding
 
@@ -93,5 +93,49 @@ def idle_starts(flat: Flat, trial: Trial) -> Iterator[Finding]:
             "the start value %s of %s has no effect: its equation gives %s at the start"
             % (shown(flat.starts[number]), one.name, shown(value)),
             way,
+            True,
+        )
+
+
+def is_of_time(flat: Flat, row: Row) -> bool:
+    """Whether a condition depends on the time, on no state, and perhaps on discrete variables."""
+    return TIME in row.form.parts and all(number >= flat.states for number in read_by(row))
+
+
+def read_by(row: Row) -> Set[int]:
+    """The numbers of the variables that a condition reads."""
+    return {number for key in row.form.parts if key != TIME for number in key[1:]}
+
+
+def set_without_clocks(flat: Flat, branches: Sequence[BranchRows]) -> Set[int]:
+    """The discrete variables that branches can set before a clock fires, since their conditions read states."""
+    found: Set[int] = set()
+    moved = set(range(flat.states))
+    while moved:
+        fired = [rows for row, rows in branches if moved & read_by(row) and not is_of_time(flat, row)]
+        moved = {one.variable for rows in fired for one in rows if one.kind == "set"} - found
+        found |= moved
+    return found
+
+
+def late_clocks(flat: Flat, trial: Trial) -> Iterator[Finding]:
+    """A stop time before the first time of each clock."""
+    stop, branches = flat.settings["StopTime"], branch_rows(flat)
+    timed = [row for row, _ in branches if is_of_time(flat, row)]
+    clocks = {number for row in timed for number in read_by(row)}
+    if stop <= 0 or not clocks or clocks & set_without_clocks(flat, branches):
+        return
+    firsts = []
+    for row in timed:
+        weight, value = row.form.parts[TIME], value_at_start(flat, row.form)
+        if holds(row.part.relation, value) or holds(row.part.relation, value + weight * stop):
+            return
+        firsts.append(-value / weight)
+    first = min((time for time in firsts if time > 0), default=None)
+    if first is not None:
+        yield Finding(
+            place_of_setting(flat, "StopTime"),
+            f"no clock fires before StopTime = {shown(stop)}: the first time of a clock is {shown(first)}",
+            "write StopTime in the unit of time of the model",
             True,
         )
