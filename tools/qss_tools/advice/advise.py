@@ -21,7 +21,7 @@ from .finding import Finding
 from .findings import MANY_ROWS, findings
 from .proposing import proposed
 from .refusal import read_model
-from .seen import seen_findings, seen_lines, unfit_text
+from .seen import ripple_text, seen_findings, seen_lines, unfit_text
 from .tried import tried
 
 ABOUT = """What the settings of a model do to it, before a run, and settings that would fit, ready to paste.
@@ -175,6 +175,8 @@ def tell_proposal(advice: Advice) -> None:
         print(f"  {name} annotation(QSS_Quantum = {decimal_text(quantum)})")
     for change in one.cure.changes:
         print(f"with --rewrite FILE {change}")
+    if one.shorter is not None:
+        print(f"the ticks are shorter for this reason: {ripple_text(trial.flat, one.shorter)}")
     if not trial.grown:
         tell_expected(proposal, trial, one.seen.levels if one.seen and one.seen.is_whole else expected)
         print_all(seen_lines(trial.flat, one.seen))

@@ -1,6 +1,7 @@
 """Proposes settings for a model, tries them by runs, and takes smaller quanta until the runs are right."""
 import math
 from dataclasses import dataclass
+from fractions import Fraction
 from typing import Dict, List, Optional, Sequence, Tuple
 
 from ..model.flat import Flat
@@ -13,6 +14,7 @@ from ..settings.cures import Cured, cured, meaning
 from ..settings.proposal import Proposal, propose
 from ..settings.rewriting import rewritten
 from .refusal import refusal_of
+from .ripples import Ripple, tick_bits_beside
 from .tried import Tried, tried
 
 MOST_ROUNDS = 3
@@ -21,6 +23,18 @@ AIM = 0.005  # of a state's size
 MOST_EXPECTED = 12e6  # rows of levels, for which smaller quanta are taken
 CULPRIT = 0.25  # of the largest share: the quanta of these states are made smaller
 HELPED = 0.7  # of the difference before: with more the quanta of all states are made smaller
+
+
+def own_tick(flat: Flat) -> Optional[Fraction]:
+    """The length of a tick that a model states, or None."""
+    if not any(setting.name == "QSS_TickBits" for setting in flat.model.settings):
+        return None
+    return Fraction(1, 2 ** flat.bits("QSS_TickBits"))
+
+
+def most_bits(proposal: Proposal) -> int:
+    """The most bits of ticks that the other settings of a proposal allow."""
+    return tick_bits_beside(proposal.coef_bits, proposal.level_bits, proposal.stop)
 
 
 @dataclass(frozen=True)
@@ -32,6 +46,7 @@ class Proposed:
     seen: Optional[Tried]
     cure: Cured
     trial: Trial
+    shorter: Optional[Ripple] = None  # the ripple for which the ticks are shorter than they would be
 
     def quanta(self) -> List[float]:
         """The quantum of each state."""
@@ -43,7 +58,8 @@ class Proposed:
         """By how much of its size the worst state is off; nothing is known without runs."""
         if self.seen is None:
             return 0.0
-        return self.seen.share if self.seen.is_whole else math.inf
+        ripple = self.seen.ripple.share if self.seen.ripple else 0.0
+        return max(self.seen.share, ripple) if self.seen.is_whole else math.inf
 
 
 def proposed(source: Source, flat: Flat, trial: Trial, program: str) -> Tuple[Optional[Proposed], str]:
@@ -57,22 +73,7 @@ def proposed(source: Source, flat: Flat, trial: Trial, program: str) -> Tuple[Op
     if cure.changes:
         flat = meaning(cure.source)
         trial = Trial(flat)
-    best: Optional[Proposed] = None
-    finer: Optional[Dict[str, int]] = {}
-    search = Search(flat, trial)
-    for _ in range(MOST_ROUNDS):
-        proposal = propose(flat, trial, finer)
-        text = rewritten(cure.source, flat, proposal)
-        line = refusal_of(program, text)
-        if line:
-            return best, f"the program does not accept the nearest ones ({line})"
-        seen = None if trial.grown else tried(program, text, trial.rows(search.quanta(proposal)))
-        one = Proposed(proposal, text, seen, cure, trial)
-        best = one if best is None or one.share < best.share else best
-        finer = None if seen is None or seen.is_right else search.finer(proposal, seen)
-        if finer is None:
-            break
-    return best, ""
+    return Search(flat, trial).best(cure, program)
 
 
 class Search:
@@ -84,6 +85,43 @@ class Search:
         self.times: Dict[str, int] = {}
         self.shares: List[float] = []
         self.sums: Optional[List[Matrix]] = None
+        self.longest = own_tick(flat)  # as the length of a tick in the unit of time of the model
+        self.ripple: Optional[Ripple] = None
+
+    def best(self, cure: Cured, program: str) -> Tuple[Optional[Proposed], str]:
+        """The best settings of a few rounds, or None and why there are none."""
+        best: Optional[Proposed] = None
+        finer: Optional[Dict[str, int]] = {}
+        for _ in range(MOST_ROUNDS):
+            proposal = self.proposal(finer)
+            text = rewritten(cure.source, self.flat, proposal)
+            line = refusal_of(program, text)
+            if line:
+                return best, f"the program does not accept the nearest ones ({line})"
+            seen = None if self.trial.grown else tried(program, text, self.trial.rows(self.quanta(proposal)))
+            one = Proposed(proposal, text, seen, cure, self.trial, self.ripple)
+            best = one if best is None or one.share < best.share else best
+            if seen is not None and seen.ripple is not None and proposal.tick_bits < most_bits(proposal):
+                self.ripple, self.longest = seen.ripple, self.longest_after(proposal, seen.ripple)
+                continue
+            finer = None if seen is None or seen.is_right else self.finer(proposal, seen)
+            if finer is None:
+                break
+        return best, ""
+
+    def proposal(self, finer: Optional[Dict[str, int]]) -> Proposal:
+        """Settings whose ticks are not longer than those that the model has or that its ripple needs, if the other
+        settings allow this.
+        """
+        found = propose(self.flat, self.trial, finer)
+        if self.longest is None:
+            return found
+        k = math.ceil(-limits.log2(self.longest * found.unit))
+        return found._replace(tick_bits=max(found.tick_bits, min(k, most_bits(found))))
+
+    def longest_after(self, proposal: Proposal, ripple: Ripple) -> Fraction:
+        """How long a tick may be after a run in which ticks spoiled a ripple."""
+        return Fraction(1, 2 ** (proposal.tick_bits + ripple.more_bits())) / proposal.unit
 
     def quanta(self, proposal: Proposal) -> List[float]:
         return [float(proposal.own.get(name, proposal.quantum)) for name in self.names]

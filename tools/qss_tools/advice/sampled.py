@@ -62,13 +62,18 @@ def written(folder: str, data: bytes) -> str:
     return path
 
 
-def sampled(program: str, text: Text, most_rows: Optional[int] = None) -> Sampled:
+def shortened(stop: Fraction, part: float) -> Fraction:
+    """A part of the stop time as a short decimal."""
+    return Fraction(f"{float(stop) * part:.2g}")
+
+
+def sampled(program: str, text: Text, most_rows: Optional[int] = None, samples: int = SAMPLES) -> Sampled:
     """Runs a model up to this number of rows, and samples its states. Without such a number only the samples are
     printed, and no rows are counted.
     """
     flat = text.flat
     f, stop = flat.bits("QSS_LevelBits"), flat.settings["StopTime"]
-    step = Fraction(int(stop * 2**f) // SAMPLES, 2**f)
+    step = Fraction(int(stop * 2**f) // samples, 2**f)
     source = Source("model", text.data)
     taken = {one.name for one in flat.model.declarations}
     value, clock = (free_name(flat.model, name, taken) for name in ("qss_sample", "qss_next"))
@@ -118,4 +123,5 @@ def read(program: str, path: str, reading: Reading) -> Sampled:
     values = [[number * unit for number in numbers[state::states]] for state in range(flat.states)]
     tick = int(last.split(b",")[0] or b"0") if last[:1].isdigit() else 0
     samples = len(numbers) // states
-    return Sampled(values, levels, fired - samples, tick / max(flat.last_tick(), 1), process.returncode)
+    reached = tick / max(flat.last_tick(), 1)
+    return Sampled(values, levels, fired - samples, reached, process.returncode)

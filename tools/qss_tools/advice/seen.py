@@ -2,9 +2,10 @@
 from typing import Iterator, Optional
 
 from ..model.flat import Flat
-from ..settings.limits import shown
+from ..settings.limits import place_of_setting, shown
 from ..settings.oscillators import chains
 from .finding import Finding
+from .ripples import Ripple
 from .tried import FEW_ROWS, OFF, Off, Tried
 
 MORE_ROWS = 2.0  # times the expected rows: first order does not fit
@@ -31,15 +32,27 @@ def way_out(flat: Flat) -> str:
     return "add damping, for example a small resistance; `qss run2` (second order) takes models without clauses"
 
 
+def ripple_text(flat: Flat, ripple: Ripple) -> str:
+    """Which ripple ticks spoil, and why."""
+    name, time = flat.variables[ripple.state].name, flat.variables[ripple.time].name
+    return (
+        f"the ripple of {name} is about {percent(ripple.share)} off, since {time} is computed and a switching period"
+        f" has only {shown(float(f'{ripple.ticks:.4g}'))} ticks (QSS_TickBits = {ripple.tick_bits})"
+    )
+
+
 def unfit_text(flat: Flat, seen: Optional[Tried], expected: float) -> str:
     """Why first order does not fit a model, or nothing."""
     if seen is None or seen.is_right and not has_many_rows(seen, expected):
         return ""
     many = has_many_rows(seen, expected)
-    rows = f"a run has {shown(float(f'{seen.levels / expected:.2g}'))} times the expected rows" if many else ""
-    off = f"{name_of(flat, seen.worst)} is about {percent(seen.share)} of its size off" if seen.worst else ""
-    off = "" if seen.is_right else off
-    told = " and ".join(text for text in (rows, off) if text) or "a run does not come to its end"
+    rows = (
+        f"a run has {shown(float(f'{seen.levels / max(expected, 1.0):.2g}'))} times the expected rows" if many else ""
+    )
+    worst = None if seen.is_whole and seen.share <= OFF else seen.worst
+    off = f"{name_of(flat, worst)} is about {percent(seen.share)} of its size off" if worst else ""
+    ripple = ripple_text(flat, seen.ripple) if seen.ripple else ""
+    told = " and ".join(text for text in (rows, off, ripple) if text) or "a run does not come to its end"
     chain = next(chains(flat), None)
     if chain is not None:
         told += f", since {len(chain[0])} states swing together and are hardly damped"
@@ -73,6 +86,9 @@ def seen_findings(flat: Flat, seen: Tried, expected: float) -> Iterator[Finding]
         told = told.replace("no settings fit well: with the nearest ones ", "with these settings ")
         told = told.replace("no settings fit: ", "")
         at = flat.variables[seen.worst.state].declaration.at if seen.worst and not seen.is_right else None
-        yield Finding(at, told, "take smaller quanta or the proposed settings" if seen.worst else None, True)
+        way = "take smaller quanta or the proposed settings" if seen.worst else None
+        if seen.ripple is not None and seen.share <= OFF:
+            at, way = place_of_setting(flat, "QSS_TickBits"), "take shorter ticks, as in the proposed settings"
+        yield Finding(at, told, way, True)
     for line in phase_lines(flat, seen):
         yield Finding(None, line.strip("()"), None, False)

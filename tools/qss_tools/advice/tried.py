@@ -11,8 +11,8 @@ from typing import Dict, List, Optional, Sequence
 
 from ..model.flat import Flat
 from ..model.spelling import decimal_text
-from ..settings.limits import MOST_BITS_TOGETHER, MOST_COEF_AND_TICK_BITS, MOST_TICK_BITS, log2
-from .sampled import Sampled, canonical, sampled
+from .ripples import Ripple, most_tick_bits, ripple_by_ticks
+from .sampled import Sampled, canonical, sampled, shortened
 
 FINER = 4  # times smaller quanta of the second run
 FINER_TICK_BITS = 2
@@ -46,6 +46,7 @@ class Tried:
     levels: float
     is_whole: bool  # both runs came to the end of the part of StopTime that was looked at
     by_phase: bool
+    ripple: Optional[Ripple] = None  # that the ticks spoil
 
     @property
     def worst(self) -> Optional[Off]:
@@ -60,7 +61,7 @@ class Tried:
 
     @property
     def is_right(self) -> bool:
-        return self.is_whole and self.share <= OFF
+        return self.is_whole and self.share <= OFF and self.ripple is None
 
     @property
     def is_out_of_phase(self) -> bool:
@@ -70,7 +71,7 @@ class Tried:
 
 def tried(program: str, data: bytes, expected: float) -> Optional[Tried]:
     """Runs a model twice. `expected` is about how many rows of levels its run has. None if nothing can be compared."""
-    text = canonical(program, data)
+    text = all_text = canonical(program, data)
     stop = text.flat.settings["StopTime"]
     part = min(1.0, MOST_ROWS / (FINER * max(expected, 1.0)))
     if part < 1.0:
@@ -88,21 +89,16 @@ def tried(program: str, data: bytes, expected: float) -> Optional[Tried]:
     flat = text.flat
     reached = max(coarse.reached, 1e-9) * float(text.flat.settings["StopTime"] / stop)
     whole = coarse.reached >= 1 and fine.reached >= 1 and not coarse.status
-    return Tried(flat, differences(flat, coarse, fine), coarse.levels / reached, whole, has_state_events(flat))
-
-
-def shortened(stop: Fraction, part: float) -> Fraction:
-    """A part of the stop time as a short decimal."""
-    return Fraction(f"{float(stop) * part:.2g}")
+    ripple = ripple_by_ticks(program, all_text) if whole else None
+    apart = differences(flat, coarse, fine)
+    levels, events = coarse.levels / reached, has_state_events(flat)
+    return Tried(flat, apart, levels, whole, events, ripple)
 
 
 def finer_values(flat: Flat) -> Dict[str, str]:
     """The values of the second run: smaller quanta, and shorter ticks and finer levels where the limits allow."""
-    p, k, f = (flat.bits(name) for name in ("QSS_CoefBits", "QSS_TickBits", "QSS_LevelBits"))
-    stop = flat.settings["StopTime"]
-    most = min(MOST_TICK_BITS, MOST_COEF_AND_TICK_BITS - p, MOST_BITS_TOGETHER - p - f)
-    most = min(most, 31 - (math.floor(log2(stop)) + 1 if stop > 0 else 0))
-    values = {"QSS_TickBits": str(max(k, min(k + FINER_TICK_BITS, most)))}
+    k, f = flat.bits("QSS_TickBits"), flat.bits("QSS_LevelBits")
+    values = {"QSS_TickBits": str(max(k, min(k + FINER_TICK_BITS, most_tick_bits(flat))))}
     least = Fraction(1, 2**f)
     if flat.settings["QSS_Quantum"] > 0:
         values["QSS_Quantum"] = decimal_text(max(least, flat.settings["QSS_Quantum"] / FINER))
