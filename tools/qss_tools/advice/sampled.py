@@ -14,6 +14,7 @@ from ..model.source import Source
 from ..model.spelling import decimal_text
 from ..program import call, start
 from ..settings.inserts import applied, clause_lines, clauses_edit, declaration_edit, free_name
+from .coincidences import Coincidence, Watch
 
 SAMPLES = 997  # times, which is a prime, so that they meet no period again and again
 CHUNK = 1 << 20
@@ -28,6 +29,7 @@ class Sampled:
     fired: int
     reached: float  # the part of the run, up to 1
     status: int
+    coincidences: List[Coincidence]
 
 
 @dataclass(frozen=True)
@@ -101,6 +103,7 @@ def read(program: str, path: str, reading: Reading) -> Sampled:
     """Reads the rows of a run, and ends the program after the rows that are read at most."""
     mark, found, levels, rows, fired = b",set," + reading.name + b",", bytearray(), 0, 0, 0
     rest = last = b""
+    watch = Watch(reading.flat)
     most = math.inf if reading.most_rows is None else reading.most_rows
     with start(program, reading.words(path), stdout=subprocess.PIPE, stderr=subprocess.DEVNULL) as process:
         assert process.stdout is not None
@@ -112,6 +115,7 @@ def read(program: str, path: str, reading: Reading) -> Sampled:
             rows += whole.count(b"\n") + 1
             levels += whole.count(b",level,")
             fired += whole.count(b",when,")
+            watch.read(whole)
             found += b"".join(part[: part.index(b",")] + b" " for part in whole.split(mark)[1:])
             last = whole[whole.rfind(b"\n") + 1 :]
         else:
@@ -124,4 +128,4 @@ def read(program: str, path: str, reading: Reading) -> Sampled:
     tick = int(last.split(b",")[0] or b"0") if last[:1].isdigit() else 0
     samples = len(numbers) // states
     reached = tick / max(flat.last_tick(), 1)
-    return Sampled(values, levels, fired - samples, reached, process.returncode)
+    return Sampled(values, levels, fired - samples, reached, process.returncode, list(watch.found.values()))

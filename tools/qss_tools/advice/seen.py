@@ -1,9 +1,11 @@
 """Sentences on what two runs of a model showed: how far it is off, and whether first order fits it."""
+from fractions import Fraction
 from typing import Iterator, Optional
 
 from ..model.flat import Flat
 from ..settings.limits import place_of_setting, shown
 from ..settings.oscillators import chains
+from .coincidences import branches_of
 from .finding import Finding
 from .ripples import Ripple
 from .tried import FEW_ROWS, OFF, Off, Tried
@@ -90,5 +92,22 @@ def seen_findings(flat: Flat, seen: Tried, expected: float) -> Iterator[Finding]
         if seen.ripple is not None and seen.share <= OFF:
             at, way = place_of_setting(flat, "QSS_TickBits"), "take shorter ticks, as in the proposed settings"
         yield Finding(at, told, way, True)
+    yield from coincidence_findings(flat, seen)
     for line in phase_lines(flat, seen):
         yield Finding(None, line.strip("()"), None, False)
+
+
+def coincidence_findings(flat: Flat, seen: Tried) -> Iterator[Finding]:
+    """Switching times that two clauses set at one tick."""
+    conditions = {one.label: one.condition for one in branches_of(flat)}
+    for one in seen.coincidences:
+        first, second = (label.decode() for label in one.labels)
+        time = Fraction(one.tick, 2 ** flat.bits("QSS_TickBits"))
+        yield Finding(
+            conditions[one.labels[1]].part.at,
+            f"{flat.variables[one.variable].name} is set by the branches {first} and {second} at one tick, first at"
+            f" time {shown(time)}; the later clause wins, and a pulse can last one tick only",
+            "limit what is computed first, and set the switching time from the limited value one tick later"
+            " (docs/IDIOMS.md)",
+            True,
+        )

@@ -11,6 +11,7 @@ from typing import Dict, List, Optional, Sequence
 
 from ..model.flat import Flat
 from ..model.spelling import decimal_text
+from .coincidences import Coincidence
 from .ripples import Ripple, most_tick_bits, ripple_by_ticks
 from .sampled import Sampled, canonical, sampled, shortened
 
@@ -47,6 +48,7 @@ class Tried:
     is_whole: bool  # both runs came to the end of the part of StopTime that was looked at
     by_phase: bool
     ripple: Optional[Ripple] = None  # that the ticks spoil
+    coincidences: Sequence[Coincidence] = ()
 
     @property
     def worst(self) -> Optional[Off]:
@@ -92,7 +94,7 @@ def tried(program: str, data: bytes, expected: float) -> Optional[Tried]:
     ripple = ripple_by_ticks(program, all_text) if whole else None
     apart = differences(flat, coarse, fine)
     levels, events = coarse.levels / reached, has_state_events(flat)
-    return Tried(flat, apart, levels, whole, events, ripple)
+    return Tried(flat, apart, levels, whole, events, ripple, coarse.coincidences)
 
 
 def finer_values(flat: Flat) -> Dict[str, str]:
