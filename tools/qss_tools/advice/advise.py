@@ -17,9 +17,10 @@ from ..program import CHANGED, add_program_option, find_program
 from ..settings import limits
 from ..settings.proposal import Proposal
 from ..settings.rewriting import annotation
+from .far_units import far_units
 from .finding import Finding
 from .findings import MANY_ROWS, findings
-from .proposing import proposed
+from .proposing import Proposed, proposed
 from .refusal import read_model
 from .seen import ripple_text, seen_findings, seen_lines, unfit_text
 from .tried import tried
@@ -70,12 +71,25 @@ class Advice:
 
     def __init__(self, name: str, program: str):
         self.source, self.flat, self.refused = read_model(name, program)
+        self.units = far_units(self.source, self.flat)
+        self.found: List[Finding] = self.units
+        self.proposed: Optional[Proposed] = None
+        self.why = "values in units that fit come first"
+        if not self.units:
+            self._try(program)
+
+    def _try(self, program: str) -> None:
+        """Finds what runs show, and settings."""
         self.trial = Trial(self.flat)
         self.found = findings(self.flat, self.trial)
         self.proposed, self.why = proposed(self.source, self.flat, self.trial, program)
-        self.text = None if self.proposed is None else self.proposed.text
         if not self.is_grave() and not self.trial.grown and self.trial.reached:
             self.found = self._seen(program) + self.found
+
+    @property
+    def text(self) -> Optional[bytes]:
+        """The model with the proposed settings."""
+        return None if self.proposed is None else self.proposed.text
 
     def _seen(self, program: str) -> List[Finding]:
         """What runs of the model with its own settings show."""
@@ -101,7 +115,7 @@ def warning_of(name: str, program: str, file: Optional[str] = None) -> Optional[
     source, flat, refused = read_model(name, program)
     if refused:
         return None
-    grave = [finding for finding in findings(flat, Trial(flat)) if finding.grave]
+    grave = [finding for finding in far_units(source, flat) or findings(flat, Trial(flat)) if finding.grave]
     if not grave:
         return None
     more = " (and %d more)" % (len(grave) - 1) if len(grave) > 1 else ""
@@ -119,20 +133,27 @@ def report(advice: Advice, every: bool) -> None:
     warnings = advice.warnings()
     if not found and not advice.refused:
         print("%s: no objections to its settings" % source.name)
+    shown = found if every else warnings[:MOST_WARNINGS]
+    if advice.units:
+        tell_findings(source, shown)
+        print()
     tell_proposal(advice)
     if advice.refused:
         print()
         print(advice.refused.text(source).replace(": ", ": refused: ", 1))
-    shown = found if every else warnings[:MOST_WARNINGS]
-    if shown:
+    if shown and not advice.units:
         print()
-    for finding in shown:
-        tell_finding(source, finding)
+        tell_findings(source, shown)
     left = len(found) - len(shown)
     if left:
         kinds = count_text(len(warnings) - min(len(warnings), len(shown)), "warning")
         notes = count_text(len(found) - len(warnings), "note")
         print("%s: %s (see --all)" % (source.name, " and ".join(text for text in (kinds, notes) if text)))
+
+
+def tell_findings(source: Source, shown: Sequence[Finding]) -> None:
+    for finding in shown:
+        tell_finding(source, finding)
 
 
 def count_text(count: int, word: str) -> str:
