@@ -27,7 +27,8 @@ computed from the rows and the model.
   tools/qss-measure MODEL 'duty(s) period(s) thd(u, f=50)' --csv
 
 Measures, each of a state, a discrete variable, an algebraic variable or an expression of them and of parameters, as
-mean(uC*iL), rms(uC - u0) or mean(Vin*s*iL). Parameters have the values of --set. Of a product of two states there are mean, integral, at, start and final:
+mean(uC*iL), rms(uC - u0) or mean(Vin*s*iL). Parameters have the values of --set. Of a product of two states there are
+mean, integral, at, start and final:
   mean, rms, min, max, ripple (max - min), start, final, at(x, t=), integral
   rise        time from 10 % to 90 % of the step from the first value to the last (low=, high=, initial=, final=)
   overshoot   how far the value passes the last one, relative to the step (initial=, final=)
