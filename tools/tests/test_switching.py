@@ -100,7 +100,7 @@ class Ripples(InFolder):
         self.assertIn("QSS_TickBits = 12,", out)
         status, out, err = run("qss-measure", other, "ripple(uC, from=9500, to=10000)", "--no-advice")
         self.assertEqual((status, err), (0, ""))
-        self.assertLess(abs(float(out.split()[-1]) / RIPPLE - 1), 0.02)
+        self.assertLess(abs(float(out.split()[-2]) / RIPPLE - 1), 0.02)
 
 
 class Quanta(InFolder):

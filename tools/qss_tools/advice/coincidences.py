@@ -92,8 +92,11 @@ class Watch:
         for tick, label in FIRED.findall(rows) if self.pairs else ():
             if tick != self.tick:
                 self.tick, self.labels = tick, []
-            for before in self.labels:
-                variable = self.pairs.get((before, label))
-                if variable is not None and (before, label) not in self.found:
-                    self.found[before, label] = Coincidence(int(tick), (before, label), variable)
-            self.labels.append(label)
+            self._add(int(tick), label)
+
+    def _add(self, tick: int, label: bytes) -> None:
+        """Adds a branch that fired at a tick, after others of this tick."""
+        for pair in ((before, label) for before in self.labels):
+            if pair in self.pairs and pair not in self.found:
+                self.found[pair] = Coincidence(tick, pair, self.pairs[pair])
+        self.labels.append(label)
