@@ -28,8 +28,8 @@ def has(package: str) -> bool:
 
 
 def use_one_with(package: str) -> None:
-    """Starts the tool again by an interpreter that has a package, if this one has it not: the one that QSS_PYTHON names,
-    or else that of the system. Which one is used is printed once.
+    """Starts the tool again by an interpreter that has a package, if this one has it not: the one that QSS_PYTHON
+    names, or else that of the system. Which one is used is printed once.
     """
     named = os.environ.get(CHOSEN)
     if os.environ.get(STARTED) or named is None and has(package):

@@ -89,8 +89,8 @@ class Certificate:
 
 @dataclass(frozen=True)
 class Fitted:
-    """What qss-fit finds: for each value that was varied its number and its interval of 95 %, or None if none holds; for
-    each variable the root mean square error; whether the fit is sound; the report; and the model with the values.
+    """What qss-fit finds: for each value that was varied its number and its interval of 95 %, or None if none holds;
+    for each variable the root mean square error; whether the fit is sound; the report; and the model with the values.
     """
 
     model: str
@@ -169,7 +169,11 @@ def accuracy(model: FilePath, program: Optional[str] = None) -> Accuracy:
 
 
 def fit(
-    model: FilePath, data: FilePath, vary: Mapping[str, str], columns: Optional[Mapping[str, str]] = None, **options: Any
+    model: FilePath,
+    data: FilePath,
+    vary: Mapping[str, str],
+    columns: Optional[Mapping[str, str]] = None,
+    **options: Any,
 ) -> Fitted:
     """Finds values for which a run is near measured values, as qss-fit does (numpy, scipy). `vary` has a range as
     "1:100" by the name of each value, `columns` a column by the name of a variable. The options are those of qss-fit.

@@ -197,8 +197,8 @@ class Fitting:
     def doubt(self, found: Fit) -> str:
         """The line about differences that are not like noise."""
         some, starts, file = "; ".join(one.text() for one in found.patterns), 8 * self.args.starts, self.args.rewrite
-        line = f"the differences that are left are not like noise ({some}): the values are a local minimum, or the model"
-        line += f" does not fit: --starts {starts} searches more of the ranges"
+        line = f"the differences that are left are not like noise ({some}): the values are a local minimum, or the"
+        line += f" model does not fit: --starts {starts} searches more of the ranges"
         return line if file in (None, "-") else f"{line}; {file} has these values all the same"
 
     def rewrite(self, found: Fit) -> None:

@@ -29,7 +29,7 @@ def autocorrelation(errors: Sequence[float], lag: int) -> float:
 
 
 def pattern(measured: Measured, values: Sequence[float]) -> Optional[Pattern]:
-    """The strongest autocorrelation of the differences between a run and measured values, if they are not like noise."""
+    """The strongest autocorrelation of the differences of a run from measured values, if they are not like noise."""
     pairs = sorted(zip(measured.times, (value - wanted for value, wanted in zip(values, measured.values))))
     errors = [error for _, error in pairs]
     size = max(measured.values) - min(measured.values)

@@ -226,7 +226,7 @@ class Search:
         return [self.np.array(points[place]) for place in order if math.isfinite(sizes[place])]
 
     def found(self, starts: int, most_steps: int) -> Fit:
-        """The fit. While the differences that are left are not like noise, the search begins again at the next point."""
+        """The fit. While the differences that are left are not like noise, the search begins again at a next point."""
         best: Any = None
         for place, start in enumerate(self.starts(starts)[:MOST_SEARCHES]):
             if place:

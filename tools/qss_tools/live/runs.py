@@ -106,7 +106,6 @@ class Runs:
         run.use_order(self.limits.order)
         return Done(path, run, rows, seconds, answer.stopped)
 
-
     def answer(self, path: str) -> "Answer":
         """How the run of a model ended."""
         verb = "run2" if self.limits.order == 2 else "run"

@@ -266,7 +266,8 @@ class Measurements:
         name, unit = self.cells.heads[place]
         wanted = plain_unit(self.unit_of(variable))
         if unit and not wanted and is_expression(variable):
-            self.notes.append("the unit of %s is not known: taken as %s, that of the column '%s'" % (variable, unit, name))
+            note = "the unit of %s is not known: taken as %s, that of the column '%s'"
+            self.notes.append(note % (variable, unit, name))
         factor = unit_factor(unit, wanted) if unit and wanted else 1.0
         if factor is None:
             raise self.cells.fault(
