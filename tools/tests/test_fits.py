@@ -341,7 +341,9 @@ class Fits(InFolder):
         self.assertNotIn("95 %", out)
         self.assertRegex(out, r"\n  R = \S+ kOhm\n")
         last = out.splitlines()[-1]
-        self.assertTrue(last.startswith("the differences that are left are not like noise (v: the differences of "), out)
+        self.assertTrue(
+            last.startswith("the differences that are left are not like noise (v: the differences of "), out
+        )
         self.assertIn(": --starts 16 searches more of the ranges; f.mo has these values all the same", last)
         self.assertEqual(err.count("qss-fit: the differences are not like noise: the search begins again"), 1)
         self.assertIn("model rc", read("f.mo"))

@@ -297,7 +297,7 @@ vim.cmd('qall!')
 class Interpreter(InFolder):
     def test_the_interpreter_that_is_named_runs_the_server(self):
         """QSS_PYTHON names it. Where it is not set, one that has pylsp_jsonrpc is used, as with numpy."""
-        python = self.file("python", "#!/bin/sh\necho \"$@\"\n")
+        python = self.file("python", '#!/bin/sh\necho "$@"\n')
         os.chmod(python, 0o755)
         environment = {**os.environ, "QSS_PYTHON": python, "XDG_CACHE_HOME": self.folder}
         del environment["QSS_STARTED_BY"]
