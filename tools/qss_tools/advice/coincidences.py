@@ -60,17 +60,20 @@ def dangerous_pairs(flat: Flat) -> Dict[Pair, int]:
     for one in branches:
         for variable in one.sets:
             setting.setdefault(variable, []).append(one)
-    for waiting in branches:
-        for variable, row in waiting.sets.items():
-            if not waiting.waits_for(variable):
-                continue
-            for other in setting[variable]:
-                if other.clause == waiting.clause or is_same(other.sets[variable], row):
-                    continue
-                if not other.reads_time or other.clause < waiting.clause:
-                    first, second = sorted((waiting, other), key=lambda one: one.clause)
-                    found[first.label, second.label] = variable
+    waits = [(one, variable) for one in branches for variable in one.sets if one.waits_for(variable)]
+    for waiting, variable in waits:
+        for other in setting[variable]:
+            if disturbs(other, waiting, variable):
+                first, second = sorted((waiting, other), key=lambda one: one.clause)
+                found[first.label, second.label] = variable
     return found
+
+
+def disturbs(other: Branch, waiting: Branch, variable: int) -> bool:
+    """Whether another branch must not fire at one tick with a branch that waits for a switching time."""
+    if other.clause == waiting.clause or is_same(other.sets[variable], waiting.sets[variable]):
+        return False
+    return not other.reads_time or other.clause < waiting.clause
 
 
 def is_same(one: Row, other: Row) -> bool:
