@@ -159,8 +159,8 @@ class Session:
         """The curves of a run."""
         loaded, view = self.known(request), view_of(request)
         done = self.runs.of(loaded.text, values_of(request))
-        drawn, wrong = drawn_part(done, loaded.source, view)
-        wrong = {name: self.named(fault) for name, fault in wrong.items()}
+        drawn, faults = drawn_part(done, loaded.source, view)
+        wrong = {name: self.named(fault) for name, fault in faults.items()}
         notices = [done.stopped + "; the picture ends there"] if done.stopped else drawn.notices
         return {
             "panels": drawn.panels_json(),
