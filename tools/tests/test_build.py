@@ -77,7 +77,7 @@ printf '#!/bin/sh\\n[ $# = 0 ] && { echo "usage: qss VERB"; exit 2; }\\necho %s 
 
 # The modules of a build: no other one is loaded.
 MODULES = {
-    "qss_tools": ("arrays", "fault", "program"),
+    "qss_tools": ("arrays", "fault", "installed", "program"),
     "qss_dev": ("build", "crates", "quick_build", "schedule", "split_module"),
 }
 

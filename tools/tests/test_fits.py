@@ -331,7 +331,7 @@ class Fits(InFolder):
         self.assertIn("at the end of its range\n", out)
         status, out, _ = self.fit("--with", data, *VARY, "--steps", "1")
         self.assertEqual(status, 1, out)
-        self.assertTrue(out.endswith(" runs; the search is not at its end: --steps allows more\n"), out)
+        self.assertIn(" runs; the search is not at its end: --steps allows more\n", out)
 
     def test_a_model_that_does_not_fit(self):
         """With C = 0.6 in place of 0.33 no R fits: there are no intervals, and the line names the file that is written."""

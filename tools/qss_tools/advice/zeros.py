@@ -1,5 +1,5 @@
 """The parameter that makes a divisor 0."""
-from typing import Any, Iterator, Optional
+from typing import Any, Iterator, List, Optional
 
 from ..model.flat import PARAMETER, Flat, Meaningless, roles_of
 from ..model.grammar import Model
@@ -9,7 +9,7 @@ from .scales import beginning
 
 def zero_in_divisor(model: Model, at: int) -> Optional[str]:
     """The one parameter of value 0 in the divisor after the operator at a byte, or None."""
-    quotient = next(filter(None, (beginning(part, at) for part in expressions(model))), None)
+    quotient: Any = next(filter(None, (beginning(part, at) for part in expressions(model))), None)
     if quotient is None:
         return None
     flat, roles = Flat(Model()), roles_of(model)
@@ -29,7 +29,8 @@ def expressions(model: Model) -> Iterator[Any]:
     for one in model.declarations:
         yield from (one.size, one.start, one.value, one.quantum)
     yield from (one.value for one in model.settings)
-    for items in (model.starts, model.equations, model.clauses):
+    lists: List[Any] = [model.starts, model.equations, model.clauses]
+    for items in lists:
         yield from bounds(items)
     for item in (*leaves(model.starts), *leaves(model.equations)):
         yield item.value

@@ -197,7 +197,7 @@ class Events:
         switched = sorted({state for _, state, _ in row.row.products})
         fixed = [(state, gain) for state, gain in gains.items() if state not in switched]
         fixed += [(machine.states + place, gain) for place, gain in row.row.discretes]
-        levels = Wide([self.levels]).bound() | max(map(abs, self.first), default=0)
+        levels = Wide([self.levels]).bound() | max([abs(level) for level in self.first], default=0)
         weights = sum(abs(gain) for _, gain in fixed)
         of_switched = []
         for state in switched:

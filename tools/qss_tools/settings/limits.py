@@ -140,7 +140,8 @@ def setting(flat: Flat, name: str, value: Fraction) -> Story:
         way = "write at most QSS_TickBits = %d, or take a larger unit of time" % max(0, 31 - math.ceil(log2(value)))
     elif name == "QSS_CoefBits":
         sentence += "it is a whole number from 0 to 32"
-        bits = MOST_COEF_BITS, MOST_COEF_AND_TICK_BITS - k, MOST_BITS_TOGETHER - k - flat.settings["QSS_LevelBits"]
+        bits = [Fraction(MOST_COEF_BITS), MOST_COEF_AND_TICK_BITS - k]
+        bits.append(MOST_BITS_TOGETHER - k - flat.settings["QSS_LevelBits"])
         way = "write QSS_CoefBits = %d or less, or leave it out, which means 24" % max(0, int(min(bits)))
     elif name == "QSS_TickBits":
         most = MOST_COEF_AND_TICK_BITS - p
