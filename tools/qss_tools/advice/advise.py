@@ -71,17 +71,19 @@ class Advice:
 
     def __init__(self, name: str, program: str):
         self.source, self.flat, self.refused = read_model(name, program)
-        self.units = far_units(self.source, self.flat)
-        self.found: List[Finding] = self.units
+        self.trial = Trial(self.flat)
+        self.found: List[Finding] = findings(self.flat, self.trial)
         self.proposed: Optional[Proposed] = None
         self.why = "values in units that fit come first"
-        if not self.units:
+        # (equations that convert units themselves fit, and then nothing else is wrong)
+        self.units = far_units(self.source, self.flat) if self.is_grave() else []
+        if self.units:
+            self.found = self.units
+        else:
             self._try(program)
 
     def _try(self, program: str) -> None:
-        """Finds what runs show, and settings."""
-        self.trial = Trial(self.flat)
-        self.found = findings(self.flat, self.trial)
+        """Finds settings, and what runs show."""
         self.proposed, self.why = proposed(self.source, self.flat, self.trial, program)
         if not self.is_grave() and not self.trial.grown and self.trial.reached:
             self.found = self._seen(program) + self.found
@@ -115,9 +117,10 @@ def warning_of(name: str, program: str, file: Optional[str] = None) -> Optional[
     source, flat, refused = read_model(name, program)
     if refused:
         return None
-    grave = [finding for finding in far_units(source, flat) or findings(flat, Trial(flat)) if finding.grave]
+    grave = [finding for finding in findings(flat, Trial(flat)) if finding.grave]
     if not grave:
         return None
+    grave = far_units(source, flat) or grave
     more = " (and %d more)" % (len(grave) - 1) if len(grave) > 1 else ""
     at, file = grave[0].at, file or name
     place = "%s: " % file if at is None else "%s:%d:%d: " % ((file,) + source.place(at))
