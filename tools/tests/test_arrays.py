@@ -344,7 +344,7 @@ class Expressions(InFolder):
             ("mean(y/v)", "a divisor is a number"),
             ("mean(y-w)", "no variable 'w'"),
             ("mean(y-)", "nor an expression"),
-            ("mean(y-f(v))", "variables, numbers"),
+            ("mean(y-f(v))", "variables, parameters, numbers"),
         ):
             self.assert_fault(self.measure(text), part)
 

@@ -146,7 +146,7 @@ class Answers(Live):
         # (the lines of the file: tau = 2*R*R/R is in line 3, and i = (U - u)/R in line 10)
         for values, part in (
             ({"R": "0"}, "division by 0: the parameter R is 0 (line 3)"),
-            ({"R": "0", "tau": "1"}, "division by 0 (line 10)"),
+            ({"R": "0", "tau": "1"}, "division by 0: the parameter R is 0 (line 10)"),
             ({"Q": "1"}, "no parameter"),
             ({"R": "1; R"}, "not a value"),
         ):
