@@ -120,7 +120,6 @@ class Numbers(unittest.TestCase):
 
 
 @unittest.skipUnless(HAS_NUMPY, "numpy is not installed")
-@unittest.skipUnless(HAS_NUMPY, "numpy is not installed")
 class Vectorised(unittest.TestCase):
     """What is computed for whole arrays, compared with whole numbers and sequences of Python."""
 
@@ -170,6 +169,7 @@ class Vectorised(unittest.TestCase):
             self.assertEqual(thinned_steps(ticks, values, 5005, window, columns), expected)
 
 
+@unittest.skipUnless(HAS_NUMPY, "numpy is not installed")
 class Reading(InFolder):
     def record(self, text, rows):
         from qss_tools.runs.bulk import KINDS, record_of

@@ -39,7 +39,7 @@ class Installed(InFolder):
             stderr=subprocess.STDOUT,
         )
         self.assertEqual(done.returncode, 0, done.stdout.decode())
-        self.said = done.stdout.decode().rstrip().split("\n")[-1]
+        self.said = done.stdout.decode()
 
     def path(self, *parts):
         return os.path.join(self.prefix, *parts)
