@@ -19,7 +19,7 @@ handling_of w = record { states = w.x; discretes = w.d; rows = w.log; overflow =
 abbrev pub values_after : Values → HandlerState → Values
 values_after w h = record w { x = h.states; d = h.discretes; log = h.rows }
 
--- the index of the variable whose assigned value exceeded its limit
+-- the index of the variable that overflows, if any
 abbrev pub overflow_of : {T : Type 0} → Result T Over → Option ℕ
 overflow_of (Ok _) = None
 overflow_of (Err over) = Some over.var

@@ -10,8 +10,10 @@ use crate::work::Work;
 use mu_num::{LEVEL_BITS, STATE_BITS, exceeds_power_of_two, near_div, unit};
 use qss_machine::{Action, Form, Machine, Row, RowKind};
 
-/// The error of a value that exceeds its limit: 2^43 in absolute value for a discrete variable, 2^88
-/// for a state. `var` is the index of the variable.
+/// The error of a number that exceeds its limit. In absolute value, the limit is 2^43 for a level
+/// and for a discrete variable, 2^88 for a state and for an absolute row sum, and 2^44 for a mode
+/// coefficient. `var` is the index of the variable. For a number of a row, this variable is the
+/// state of the row.
 #[derive(Clone, Copy, PartialEq, Eq, Debug, Drop)]
 pub struct Over {
     pub var: u32,

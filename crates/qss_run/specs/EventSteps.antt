@@ -1,5 +1,5 @@
 -- Defines a store after handlers and after an event step, and the effect of an event step.
-use Rattle.std.specs.Prelude.{◌≡◌, ℕ, ◌+◌, ◌<◌, ◌≤◌, List, ℤ, Option, None, vec_capacity}
+use Rattle.std.specs.Prelude.{◌≡◌, ℕ, ◌+◌, ◌<◌, ◌≤◌, List, ℤ, Option, None, Result, vec_capacity}
 use Rattle.mu_num.specs.Limits.{tick_limit, AreLevels}
 use Rattle.qss_machine.specs.declared.compiled_machine.Machine.{Machine}
 use Rattle.qss_machine.specs.Handlers.{truths}
@@ -14,6 +14,8 @@ use Rattle.qss_states.specs.KeptWeights.{AreWeights}
 use Rattle.qss_states.specs.EventContexts.{AreLevelsFor, HeldBefore}
 use Rattle.qss_run.specs.HandlerResults.{AreStatesLeft, AreSettledBut, AreDetectorsUpTo}
 use Rattle.qss_run.specs.DetectorUpdates.{detector_states_of}
+use Rattle.qss_hand.specs.Works.{overflow_of}
+use Rattle.qss_run.specs.declared.event_steps.EventStep.{EventStep}
 use Rattle.qss_run.specs.declared.run_start.Store.{Store}
 use Rattle.qss_run.specs.Stores.{FitsMachine, snapshot_of, IsStoreAt}
 use Rattle.qss_run.specs.TouchCounts.{touches_at}
@@ -42,6 +44,10 @@ snapshot_left m tick s =
       at_arrival = s.conditions.at_arrival.items;
       after_handlers = truths m states s.work.d tick;
     }
+
+-- the result of an event step: the snapshot of the store at its tick, or the overflow
+abbrev pub snapshot_after : EventStep → Store → Result Snapshot ℕ
+snapshot_after step s = snapshot_unless (overflow_of step.ran) (snapshot_of step.tick s)
 
 -- the conditions of a store were settled up to a tick, at other values and slopes before
 abbrev pub HadDetectors : Machine → ℕ → Store → Type 0

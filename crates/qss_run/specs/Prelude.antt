@@ -25,7 +25,7 @@ pub use Rattle.qss_machine.specs.MachineLimits.{IsBounded, form_of}
 pub use Rattle.qss_machine.specs.Machines.{discrete_count, level_unit, quantum_of, slope_at, speed_of, start_discretes, start_states, state_count, truth, value_of}
 pub use Rattle.qss_machine.specs.Readers.{has_entry, uses_of}
 pub use Rattle.qss_machine.specs.Runs.{discrete_rows, last_snapshot, snapshot_rows, state_rows, tick_rows}
-pub use Rattle.qss_machine.specs.Ticks.{Snapshot, exceeds_row_limits, snapshot_unless, start_snapshot}
+pub use Rattle.qss_machine.specs.Ticks.{Snapshot, exceeds_row_limits, start_snapshot}
 pub use Rattle.qss_machine.specs.declared.machine_parts.Rel.TheVariants.{Less}
 pub use Rattle.qss_quant.specs.IntegratorLines.{IsLineWithinQuantum, state_at}
 pub use Rattle.qss_quant.specs.LevelRules.{level_by}

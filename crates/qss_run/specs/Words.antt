@@ -3,7 +3,7 @@ pub use Rattle.qss_run.specs.ConditionContexts.{AreConditionValues, CanSetDetect
 pub use Rattle.qss_run.specs.ConditionPlaces.{AreConditionsOf, AreDetectorsAt, HasPlaces, KnowsApart}
 pub use Rattle.qss_run.specs.DetectorUpdates.{AreAlikeButSettled, AreMarkedChanged, AreSettled, AreSettledAlong, OthersAreKept, OthersAreUnread, detector_states_of, readers_before, readers_of, touched_after, touched_by, touched_of}
 pub use Rattle.qss_run.specs.DueLists.{AreAlikeBut, AreChanging, AreDue, AreMovedOut, HasRoomFor, IsSameBut, IsTakenAfter, differ}
-pub use Rattle.qss_run.specs.EventSteps.{CanContinueAfterHandlers, HadDetectors, HasDetectorsUpdated, IsEventRun, snapshot_left}
+pub use Rattle.qss_run.specs.EventSteps.{CanContinueAfterHandlers, HadDetectors, HasDetectorsUpdated, IsEventRun, snapshot_after, snapshot_left}
 pub use Rattle.qss_run.specs.HandlerResults.{is_reinitialized}
 pub use Rattle.qss_run.specs.SimViews.{view_of}
 pub use Rattle.qss_run.specs.SpeedUpdates.{AreDetectorsUpdated, AreReaderDetectorsUpdated, GoesOn}

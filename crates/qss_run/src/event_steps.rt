@@ -3,15 +3,15 @@
 //! gives new levels to the due states.
 
 ghost use Rattle.std.specs.Prelude.{◌≡◌, ◌+◌, ◌<◌, ◌^◌, if◌then◌else◌, ◌≢◌, ◌≤◌, ◌++◌, ◌-◌, [], ℕ, None, Some, length, All, true, false, vec_capacity, vec_len, List, Option};
-ghost use Rattle.qss_run.specs.Prelude.{overflow_of, list_any, firing_flags, conditions, state_count, slope_at, tabulate, due_at, states_with, line_at, states_at, MayArrive, replaced_lines_from, is_listed, state_rows, discrete_rows, snapshot_rows, last_snapshot, tick_rows, IsAllowedLevel, IsNext, tick_of, end_of, Snapshot, snapshot_unless, Rule, AreEventFree, IsVisit, variable_limit, tick_limit, AreStates, is_touched, reached, CanUpdateSlopesOf, AreAllScheduled, state_at};
-ghost use Rattle.qss_run.specs.Words.{IsUnderWay, snapshot_of, IsStoreAt, HasDueRemoved, IsEventRun, CanContinueAfterHandlers, snapshot_left, KnowsApart, AreConditionsOf, AreDetectorsAt, HasPlaces, AreDue, AreChanging, AreMovedOut, HasRoomFor, IsTakenAfter, view_of, MovesTouched, touches_at};
+ghost use Rattle.qss_run.specs.Prelude.{overflow_of, list_any, firing_flags, conditions, state_count, slope_at, tabulate, due_at, states_with, line_at, states_at, MayArrive, replaced_lines_from, is_listed, state_rows, discrete_rows, snapshot_rows, last_snapshot, tick_rows, IsAllowedLevel, IsNext, tick_of, end_of, Snapshot, Rule, AreEventFree, IsVisit, variable_limit, tick_limit, AreStates, is_touched, reached, CanUpdateSlopesOf, AreAllScheduled, state_at};
+ghost use Rattle.qss_run.specs.Words.{IsUnderWay, snapshot_after, snapshot_of, IsStoreAt, HasDueRemoved, IsEventRun, CanContinueAfterHandlers, snapshot_left, KnowsApart, AreConditionsOf, AreDetectorsAt, HasPlaces, AreDue, AreChanging, AreMovedOut, HasRoomFor, IsTakenAfter, view_of, MovesTouched, touches_at};
 ghost use Rattle.qss_machine.specs.declared.machine_parts.RowKind.TheVariants as kind;
 
 use crate::condition_detectors::update_detectors_after_handlers;
 use crate::condition_truths::{copy_settled_truths, make_risen_truths_due, schedule_risen_truth};
 use crate::run_conditions::{ChangedConditions, Conditions};
 use crate::run_start::Store;
-use qss_events::{Outcome, Visited, add_event_discrete_rows, set_event_overflow_row};
+use qss_events::{Outcome, add_event_discrete_rows, set_event_overflow_row};
 use qss_hand::{Over, Work};
 use qss_machine::{Machine, Row, RowKind};
 use qss_quant::{Integrator, Quantizer, Steps};
@@ -21,6 +21,13 @@ use qss_states::{
     requantize_moved, update_slopes_after_handlers, update_slopes_of,
 };
 use std::sync::ledger::Ledger;
+
+/// An event step: its tick and its result. The error is the variable that overflows.
+#[derive(Clone, Copy)]
+pub(crate) struct EventStep {
+    pub tick: u64,
+    pub ran: Result<(), Over>,
+}
 
 /// Advances to the next tick with rows, to an overflow, or to the last tick.
 pub(crate) fn go_to_next_event<L: Ledger>(
@@ -41,11 +48,14 @@ pub(crate) fn go_to_next_event<L: Ledger>(
 {
     let mut tick = from;
     while tick < m.last {
-        let visited = go_to_event(m, q, tick, s, steps);
-        tick = visited.tick;
-        if let Some(var) = visited.over {
-            set_event_overflow_row(tick, var, &mut s.rows);
-            return Outcome::Over { tick, var };
+        let step = go_to_event(m, q, tick, s, steps);
+        tick = step.tick;
+        if let Err(over) = step.ran {
+            set_event_overflow_row(tick, over.var, &mut s.rows);
+            return Outcome::Over {
+                tick,
+                var: over.var,
+            };
         }
         if !s.rows.is_empty() {
             return Outcome::Events { tick };
@@ -76,7 +86,7 @@ pub(crate) fn go_to_event<L: Ledger>(
     tick: u64,
     s: &mut Store,
     steps: &mut Steps<L>,
-) -> Visited
+) -> EventStep
     requires { IsUnderWay m.now tick s.old }
     ensures later { tick < result.tick }
     ensures tick_limit { result.tick ≤ m.now.last }
@@ -84,23 +94,22 @@ pub(crate) fn go_to_event<L: Ledger>(
         → (place : ℕ) × (due_at s.old.agenda place ≡ Some result.tick) }
     ensures visited { (silent : List Snapshot)
         × IsVisit (IsAllowedLevel q.now.name) m.now tick (snapshot_of tick s.old) silent result.tick
-        (snapshot_unless result.over (snapshot_of result.tick s.new))
-        × (result.over ≡ None
+        (snapshot_after result s.new)
+        × (overflow_of result.ran ≡ None
         → s.new.rows.items
         ≡ tick_rows m.now result.tick (last_snapshot (snapshot_of tick s.old) silent)
         (snapshot_of result.tick s.new))
         × (steps.new
         ≤ steps.old
         + touches_at m.now result.tick (last_snapshot (snapshot_of tick s.old) silent)
-        (snapshot_unless result.over (snapshot_of result.tick s.new))) }
-    ensures stands { result.over ≡ None → IsStoreAt m.now result.tick s.new }
+        (snapshot_after result s.new)) }
+    ensures stands { overflow_of result.ran ≡ None → IsStoreAt m.now result.tick s.new }
     ensures room { vec_capacity s.new.rows ≡ vec_capacity s.old.rows }
 {
     let before = skip_to_event(m, tick, s);
-    let ran = run_event(m, q, before, s, steps);
-    Visited {
+    EventStep {
         tick: before + 1,
-        over: overflowing_variable(&ran),
+        ran: run_event(m, q, before, s, steps),
     }
 }
 
@@ -135,16 +144,6 @@ pub(crate) fn earliest_due_tick(agenda: &Agenda, last: u64) -> u64
     ensures reached { result < last → (place : ℕ) × (due_at agenda.now place ≡ Some result) }
 {
     agenda.next_tick(last)
-}
-
-// The variable that overflowed, if any.
-fn overflowing_variable(ran: &Result<(), Over>) -> Option<u32>
-    ensures { result ≡ overflow_of ran.now }
-{
-    match ran {
-        Ok(()) => None,
-        Err(over) => Some(over.var),
-    }
 }
 
 /// Runs the tick after `tick`. The error is the variable that overflows. After an error the store

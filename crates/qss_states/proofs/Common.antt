@@ -71,7 +71,7 @@ pub use Rattle.qss_states.specs.Advancing.{Advancing, advancing_of, behind, Have
 pub use Rattle.qss_states.specs.Advancing.{reached}
 pub use Rattle.qss_states.specs.EventContexts.{AreMovedTo}
 pub use Rattle.qss_states.specs.KeptWeights.{AreWeights}
-pub use Rattle.qss_states.specs.LevelChanges.{AreRequantized, AreRequantizedOnArrival}
+pub use Rattle.qss_states.specs.LevelChanges.{AreRequantized}
 pub use Rattle.qss_states.specs.LineReplacements.{goes_from, has_level_and_slope, IsCounted}
 pub use Rattle.qss_states.specs.LineReplacements.{replaced_lines}
 pub use Rattle.qss_states.specs.RowLimits.{IsLeastPast, IsWeighed}

@@ -1,13 +1,14 @@
 -- States that take their new levels one after another.
 use Rattle.qss_states.proofs.Common
 use Common.{[], ℕ, ℤ, ◌++◌, ◌+◌, ◌<◌, ◌∙◌, ◌≡◌, ◌≢◌, ◌≤◌, ◌⊎◌, All, all_within, among_more, ap}
-use Common.{append-nil, append_assoc, AreMovedTo, AreRequantized, AreRequantizedOnArrival, arith}
-use Common.{Bool, DiffersOnlyAt, eq-eqb, eqb, eqb-false, eqb-true, exceeds, false, first_exceeding}
-use Common.{get_or, get_or-set_other, get_or-set_same, if◌then◌else◌, index_of, inl, inr, int_at}
-use Common.{is_listed, IsAllowedLevel, IsFirstOf, IsNextLevel, IsStrictlyIncreasing, IsWithin}
-use Common.{length, length-set, level_rows, List, Machine, None, Option, option_or, or_cases}
-use Common.{or_left, or_parts, or_right, pos, refl, Row, row_of, set, Some, states_at, subst, sym}
-use Common.{take, take_all, true, written_more}
+use Common.{append-nil, append_assoc, AreMovedTo, AreRequantized, arith, Bool, DiffersOnlyAt}
+use Common.{eq-eqb, eqb, eqb-false, eqb-true, exceeds, false, first_exceeding, get_or}
+use Common.{get_or-set_other, get_or-set_same, if◌then◌else◌, index_of, inl, inr, int_at, is_listed}
+use Common.{IsAllowedLevel, IsFirstOf, IsNextLevel, IsStrictlyIncreasing, IsWithin, length}
+use Common.{length-set, level_rows, List, Machine, None, Option, option_or, or_cases, or_left}
+use Common.{or_parts, or_right, pos, refl, Row, row_of, set, Some, states_at, subst, sym, take}
+use Common.{take_all, true, written_more}
+use Rattle.qss_states.specs.LevelChanges.{AreRequantizedOnArrival, taken_row}
 use Rattle.std.proofs.lemmas.List.{get_or-take, length-take-le}
 use Rattle.std.proofs.lemmas.List.Kept.{AllPairs-from_increasing}
 use Rattle.std.specs.List.{flat_map}
@@ -15,7 +16,6 @@ use Rattle.qss_quant.specs.declared.quantizer.Rule.{Rule}
 use Rattle.mu_num.proofs.RisingNumbers.{due_rows_more}
 use Rattle.qss_states.specs.declared.event_contexts.Arrival.{Arrival}
 use Rattle.qss_states.specs.EventContexts.{CanTakeOnArrival}
-use Rattle.qss_states.specs.LevelChanges.{taken_row}
 use Rattle.qss_states.proofs.DueLevels.{same_rows, levels_over, levels_allowed, rows_of_moved}
 use Rattle.qss_states.proofs.DueLevels.{written_off, arrived_at}
 

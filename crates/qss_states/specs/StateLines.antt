@@ -1,7 +1,7 @@
 -- Defines the lines of states by index, and the states on these lines at a tick.
-use Rattle.std.specs.Prelude.{ℕ, List, length, ℤ, pos, false, if◌then◌else◌, ◌≡◌, ◌<◌}
+use Rattle.std.specs.Prelude.{ℕ, Bool, List, length, ℤ, pos, false, if◌then◌else◌, ◌≡◌, ◌<◌}
 use Rattle.std.specs.Prelude.{◌≤◌, Option, None, slice_index_or}
-use Rattle.mu_num.specs.Sizes.{IsWithin}
+use Rattle.mu_num.specs.Sizes.{IsWithin, exceeds}
 use Rattle.qss_machine.specs.Machines.{state_count}
 use Rattle.mu_num.specs.IndexedSums.{int_at, tabulate, first_exceeding}
 use Rattle.qss_machine.specs.declared.compiled_machine.Machine.{Machine}
@@ -14,6 +14,10 @@ use Rattle.mu_num.specs.Limits.{tick_limit, bits_of_state, IsState, AreStates}
 -- the line of a state
 abbrev pub line_at : List Line → ℕ → Line
 line_at lines j = slice_index_or lines j no_line
+
+-- whether the state of a line exceeds its limit at a tick
+abbrev pub passes_at : ℕ → List Line → ℕ → Bool
+passes_at tick lines j = exceeds bits_of_state (state_at (line_at lines j) tick)
 
 -- the states on these lines at a tick
 abbrev pub states_at : List Line → ℕ → List ℤ

@@ -3,11 +3,10 @@
 
 ghost use Rattle.std.specs.Prelude.{◌≡◌, ◌↔◌, ◌<◌, ◌∷◌, ◌++◌, [], ℕ, All, IsTrue, None, Some, true, false, length, position, List, flat_map, slice_index_or, pos};
 ghost use Rattle.qss_states.specs.Prelude.{overflow_of, state_count, exceeds_row_limits, uses_of, weights_at, IsWritten};
-ghost use Rattle.qss_states.specs.Words.{AreLevelsOf, AreDiscretes, AreWeights, StayKept, AreNewLevels, AreNewLevelsAt, IsHandlerResult, CanUpdateAfterHandlers, first_row_exceeding, WereWeights, CanFollow, WereSums, IsUpTo, AreUpToAt, IsSafeBound, comes_before, IsLeastPast, IsWeighed, CanAddUp, HasSums, AreReaderSums, AreReadersMarkedOr, AreMarkedOr};
+ghost use Rattle.qss_states.specs.Words.{AreLevelsOf, AreDiscretes, AreWeights, StayKept, AreNewLevels, AreNewLevelsAt, IsHandlerResult, CanUpdateAfterHandlers, first_row_exceeding, new_sums, WereWeights, CanFollow, WereSums, IsUpTo, AreUpToAt, IsSafeBound, comes_before, IsLeastPast, IsWeighed, CanAddUp, HasSums, AreReaderSums, AreReadersMarkedOr, AreMarkedOr};
 ghost use Rattle.qss_states.specs.declared.row_sum_changes.RowSum.TheVariants as sum;
 
 use crate::event_contexts::{HandlerResult, NewLevels};
-use crate::overflows::error_if_found;
 use crate::row_sum_changes::{RowSum, update_all_row_sums};
 use crate::safe_bounds::{are_places_within, start_row_bound};
 use crate::sum_marks::{is_sum_marked, mark_reader_sums};
@@ -75,14 +74,14 @@ impl Weights {
     {
         if self.kept {
             let of_rows = self.of_rows.as_mut_slice();
-            return error_if_found(refresh_row_sums(at, d, lines, of_rows));
+            return refresh_row_sums(at, d, lines, of_rows);
         }
         if are_places_within(at.levels, at.moved, 0, self.bound) {
             return Ok(());
         }
         self.kept = true;
         let of_rows = self.of_rows.as_mut_slice();
-        error_if_found(weigh_kept_within_limit(at.machine, at.levels, d, of_rows))
+        weigh_kept_within_limit(at.machine, at.levels, d, of_rows)
     }
 
     /// Updates the sums for the new levels of the moved states and the new values of the assigned
@@ -110,8 +109,7 @@ impl Weights {
     {
         if self.kept {
             let of_rows = self.of_rows.as_mut_slice();
-            let found = refresh_row_sums_after_handlers(at, handled, lines, of_rows);
-            return error_if_found(found);
+            return refresh_row_sums_after_handlers(at, handled, lines, of_rows);
         }
         if are_new_values_within(at, handled, self.bound) {
             return Ok(());
@@ -119,7 +117,7 @@ impl Weights {
         self.kept = true;
         let d = handled.discretes;
         let of_rows = self.of_rows.as_mut_slice();
-        error_if_found(weigh_kept_within_limit(at.machine, at.levels, d, of_rows))
+        weigh_kept_within_limit(at.machine, at.levels, d, of_rows)
     }
 }
 
@@ -134,36 +132,37 @@ pub(crate) fn weigh_all_kept_rows(m: &Machine, levels: &[i64], d: &[i64], weight
 }
 
 /// Updates the absolute row sums of all rows, at these discrete values, for the new levels of the
-/// moved states. The old levels are those of their lines. It returns the least row that exceeds its
-/// limits, if any.
+/// moved states. The old levels are those of their lines. The error is the least row that exceeds
+/// its limits.
 pub(crate) fn refresh_row_sums(
     at: &NewLevels,
     d: &[i64],
     lines: &[Integrator],
     weights: &mut [i128],
-) -> Option<u32>
+) -> Result<(), Over>
     requires { CanFollow sum.Weight at.now d.now weights.old lines.now }
-    ensures overflow { result ≡ first_row_exceeding at.now d.now }
+    ensures overflow { overflow_of result ≡ first_row_exceeding at.now d.now }
     ensures weights { weights.new ≡ weights_at at.now.machine.now at.now.levels.now d.now }
 {
     update_all_row_sums(RowSum::Weight, at, d, lines, weights);
-    least_exceeding_reader(at.uses, at.moved, weights, None)
+    least_exceeding_reader(at.uses, at.moved, weights, Ok(()))
 }
 
-/// The least row that reads one of these variables and whose absolute row sum exceeds the limit, if
-/// it is before the row that was found. Otherwise the row that was found.
+/// The error of the least row that reads one of these variables and whose absolute row sum exceeds
+/// the limit, if it is before the row that was found. Otherwise what was found.
 pub(crate) fn least_exceeding_reader(
     uses: &Uses,
     variables: &[u32],
     weights: &[i128],
-    found: Option<u32>,
-) -> Option<u32>
+    found: Result<(), Over>,
+) -> Result<(), Over>
     requires variables { All (λ var. var < length uses.now.0) variables.now }
     requires rows { (var : ℕ) → var < length uses.now.0
         → All (λ row. row < length weights.now) (slice_index_or uses.now.0 var []) }
-    ensures { (before : List ℕ) → IsLeastPast weights.now before found
+    ensures { (before : List ℕ) → IsLeastPast weights.now before (overflow_of found)
         → IsLeastPast weights.now
-        (before ++ flat_map (λ var. slice_index_or uses.now.0 var []) variables.now) result }
+        (before ++ flat_map (λ var. slice_index_or uses.now.0 var []) variables.now)
+        (overflow_of result) }
 {
     let mut least = found;
     for var in variables {
@@ -172,12 +171,12 @@ pub(crate) fn least_exceeding_reader(
     least
 }
 
-// The least of these rows whose absolute row sum exceeds the limit, if it is before the row that
-// was found. Otherwise the row that was found.
-fn least_exceeding_row(weights: &[i128], rows: &[u32], found: Option<u32>) -> Option<u32>
+// The error of the least of these rows whose absolute row sum exceeds the limit, if it is before
+// the row that was found. Otherwise what was found.
+fn least_exceeding_row(weights: &[i128], rows: &[u32], found: Result<(), Over>) -> Result<(), Over>
     requires rows { All (λ row. row < length weights.now) rows.now }
-    ensures { (before : List ℕ) → IsLeastPast weights.now before found
-        → IsLeastPast weights.now (before ++ rows.now) result }
+    ensures { (before : List ℕ) → IsLeastPast weights.now before (overflow_of found)
+        → IsLeastPast weights.now (before ++ rows.now) (overflow_of result) }
 {
     let mut least = found;
     for row in rows {
@@ -186,52 +185,54 @@ fn least_exceeding_row(weights: &[i128], rows: &[u32], found: Option<u32>) -> Op
     least
 }
 
-// This row if its absolute row sum exceeds the limit and it is before the row that was found.
-// Otherwise the row that was found.
-fn earlier_exceeding_row(weights: &[i128], row: u32, found: Option<u32>) -> Option<u32>
+// The error of this row if its absolute row sum exceeds the limit and it is before the row that
+// was found. Otherwise what was found.
+fn earlier_exceeding_row(weights: &[i128], row: u32, found: Result<(), Over>) -> Result<(), Over>
     requires row { row < length weights.now }
-    ensures { (rows : List ℕ) → IsLeastPast weights.now rows found
-        → IsLeastPast weights.now (rows ++ row ∷ []) result }
+    ensures { (rows : List ℕ) → IsLeastPast weights.now rows (overflow_of found)
+        → IsLeastPast weights.now (rows ++ row ∷ []) (overflow_of result) }
 {
     if !is_row_before(found, row) {
         return found;
     }
     if exceeds_power_of_two(weights[row as usize], WEIGHT_BITS) {
-        return Some(row);
+        return Err(Over { var: row });
     }
     found
 }
 
 // Whether a row is before the row that was found, if any.
-fn is_row_before(found: Option<u32>, row: u32) -> bool
-    ensures { result ≡ comes_before found row }
+fn is_row_before(found: Result<(), Over>, row: u32) -> bool
+    ensures { result ≡ comes_before (overflow_of found) row }
 {
     match found {
-        Some(found) => row < found,
-        None => true,
+        Ok(()) => true,
+        Err(over) => row < over.var,
     }
 }
 
-/// Computes the absolute row sums of all rows. It returns the least row that exceeds its limits, if
-/// any. In this case the sums are unspecified.
+/// Computes the absolute row sums of all rows. The error is the least row that exceeds its limits.
+/// After an error, the sums are unspecified.
 pub(crate) fn weigh_kept_within_limit(
     m: &Machine,
     levels: &[i64],
     d: &[i64],
     weights: &mut [i128],
-) -> Option<u32>
+) -> Result<(), Over>
     requires { HasSums m.now levels.now d.now weights.old }
-    ensures overflow { result ≡ position (exceeds_row_limits m.now levels.now d.now) m.now.rows }
-    ensures weights { result ≡ None → weights.new ≡ weights_at m.now levels.now d.now }
+    ensures overflow { overflow_of result
+        ≡ position (exceeds_row_limits m.now levels.now d.now) m.now.rows }
+    ensures weights { overflow_of result ≡ None
+        → weights.new ≡ weights_at m.now levels.now d.now }
 {
     for row in 0..weights.len() {
         let weight = weigh_kept_row(m, row as u32, levels, d);
         if exceeds_power_of_two(weight, WEIGHT_BITS) {
-            return Some(row as u32);
+            return Err(Over { var: row as u32 });
         }
         weights[row] = weight;
     }
-    None
+    Ok(())
 }
 
 // The absolute row sum of a row, or a number above its limit if a coefficient in the current mode
@@ -249,19 +250,19 @@ fn weigh_kept_row(m: &Machine, row: u32, levels: &[i64], d: &[i64]) -> i128
 }
 
 /// Updates the absolute row sums of all rows for the new levels of the moved states and the new
-/// values of the assigned discrete variables. The old levels are those of the lines. It returns the
-/// least row that exceeds its limits, if any. In this case the sums are unspecified.
+/// values of the assigned discrete variables. The old levels are those of the lines. The error is
+/// the least row that exceeds its limits. After an error, the sums are unspecified.
 pub(crate) fn refresh_row_sums_after_handlers(
     at: &NewLevels,
     handled: &HandlerResult,
     lines: &[Integrator],
     weights: &mut [i128],
-) -> Option<u32>
+) -> Result<(), Over>
     requires allowed { CanUpdateAfterHandlers at.now handled.now lines.now }
     requires before { WereSums sum.Weight at.now handled.now.before.now weights.old lines.now }
-    ensures overflow { result ≡ first_row_exceeding at.now handled.now.discretes.now }
-    ensures weights { result ≡ None
-        → weights.new ≡ weights_at at.now.machine.now at.now.levels.now handled.now.discretes.now }
+    ensures overflow { overflow_of result ≡ first_row_exceeding at.now handled.now.discretes.now }
+    ensures weights { overflow_of result ≡ None
+        → weights.new ≡ new_sums sum.Weight at.now handled.now.discretes.now }
 {
     update_all_row_sums(RowSum::Weight, at, handled.before, lines, weights);
     weigh_kept_readers(
@@ -272,7 +273,7 @@ pub(crate) fn refresh_row_sums_after_handlers(
         handled.discretes,
         weights,
     );
-    let least = least_exceeding_reader(at.uses, at.moved, weights, None);
+    let least = least_exceeding_reader(at.uses, at.moved, weights, Ok(()));
     least_exceeding_reader(at.uses, handled.assigned, weights, least)
 }
 

@@ -5,7 +5,6 @@
 
 mod event_contexts;
 mod kept_weights;
-mod overflows;
 mod requantization;
 mod row_sum_changes;
 mod safe_bounds;

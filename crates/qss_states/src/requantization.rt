@@ -1,16 +1,15 @@
 //! Sets the new levels of the states that are due at one tick, and updates the absolute row sums. A
 //! level that changes has a row.
 
-ghost use Rattle.std.specs.Prelude.{◌≡◌, ◌+◌, ◌<◌, ◌≤◌, ◌^◌, ◌++◌, if◌then◌else◌, ℕ, List, ℤ, None, Some, length, pos, vec_len, vec_capacity, true, false, position, Option};
+ghost use Rattle.std.specs.Prelude.{◌≡◌, ◌+◌, ◌<◌, ◌≤◌, ◌^◌, ◌++◌, if◌then◌else◌, ℕ, List, ℤ, None, Some, length, pos, vec_len, vec_capacity, true, false, position};
 ghost use Rattle.qss_states.specs.Prelude.{option_or, overflow_of, exceeds, first_exceeding, state_count, discrete_count, level_rows, state_at, AreRisingBelow, IsFirstOf, IsWritten, tick_limit, bits_of_level, bits_of_state, IsLevel, AreLevels, exceeds_row_limits};
 ghost use Rattle.qss_states.specs.EventContexts.{AreMovedTo, CanRequantize, CanTakeOnArrival, HoldsLevels, IsHandlerArrival, CanArrive};
 ghost use Rattle.qss_states.specs.KeptWeights.{AreWeights};
 ghost use Rattle.qss_states.specs.LevelChanges.{AreRequantized, AreRequantizedOnArrival, AreRequantizedAt, AreTakenOnArrival, HasTaken, HaveOneMore};
-ghost use Rattle.qss_states.specs.StateLines.{line_at, states_at, CanArriveWithin, HaveArrivedWithin, MayArrive};
+ghost use Rattle.qss_states.specs.StateLines.{line_at, passes_at, states_at, CanArriveWithin, HaveArrivedWithin, MayArrive};
 
 use crate::event_contexts::{Arrival, HandlerArrival, HandlerResult, NewLevels};
 use crate::kept_weights::Weights;
-use crate::overflows::error_if_found;
 use mu_num::{LEVEL_BITS, STATE_BITS, exceeds_power_of_two};
 use qss_events::requantize_level;
 use qss_hand::{Over, Work};
@@ -131,7 +130,7 @@ pub fn move_requantized_within_limit(
     requires { CanArriveWithin tick lines.now moved.now x.old }
     ensures { HaveArrivedWithin tick lines.now moved.now x.old x.new (overflow_of result) }
 {
-    error_if_found(move_requantized_states(lines, tick, moved, x))
+    move_requantized_states(lines, tick, moved, x)
 }
 
 // Sets the rows of a tick to those of its handlers.
@@ -165,25 +164,26 @@ pub(crate) fn requantize_states(
         → rows.new.items ≡ rows.old.items ++ level_rows at.now.tick levels.old levels.new states }
     ensures room { vec_capacity rows.new ≡ vec_capacity rows.old }
 {
-    error_if_found(requantize_due_levels(at, q, x, levels, rows))
+    requantize_due_levels(at, q, x, levels, rows)
 }
 
-// Sets the new levels of the moved states, with a row for each level that changes. It returns the
-// least state whose level exceeds its limit, if any.
+// Sets the new levels of the moved states, with a row for each level that changes. The error is
+// the least state whose level exceeds its limit.
 fn requantize_due_levels(
     at: &Arrival,
     q: &Quantizer,
     x: &[i128],
     levels: &mut [i64],
     rows: &mut Vec<Row>,
-) -> Option<u32>
+) -> Result<(), Over>
     requires { CanRequantize at.now x.now levels.old (vec_len rows.old) (vec_capacity rows.old) }
     ensures taken { (new : List ℤ) × AreRequantized at.now.machine.now q.now.name at.now.tick x.now
-        at.now.moved.now levels.old levels.new new rows.old.items rows.new.items result }
+        at.now.moved.now levels.old levels.new new rows.old.items rows.new.items
+        (overflow_of result) }
     ensures room { vec_capacity rows.new ≡ vec_capacity rows.old }
 {
     let unit = at.machine.level_unit();
-    let mut first = None;
+    let mut first = Ok(());
     for state in at.moved {
         let j = *state as usize;
         let fresh = requantize_level(at.machine, q, *state, x[j], levels[j], unit);
@@ -247,10 +247,11 @@ fn set_requantized_level(
     rows.push_reserved(row);
 }
 
-// The first state that was found, else this state if it exceeds its limit.
+// The first error, else that of this state if it exceeds its limit.
 #[inline(always)]
-fn first_requantized_past(first: Option<u32>, state: u32, past: bool) -> Option<u32>
-    ensures { result ≡ option_or first (if past then Some state else None) }
+fn first_requantized_past(first: Result<(), Over>, state: u32, past: bool) -> Result<(), Over>
+    ensures { overflow_of result
+        ≡ option_or (overflow_of first) (if past then Some state else None) }
 {
     if past {
         return first_requantized_or(first, state);
@@ -258,14 +259,14 @@ fn first_requantized_past(first: Option<u32>, state: u32, past: bool) -> Option<
     first
 }
 
-// The first state that was found, else this state. It is not inlined, since a state rarely exceeds
-// its limit.
+// The first error, else that of this state. It is not inlined, since a state rarely exceeds its
+// limit.
 #[cold]
 #[inline(never)]
-fn first_requantized_or(first: Option<u32>, state: u32) -> Option<u32>
-    ensures { result ≡ option_or first (Some state) }
+fn first_requantized_or(first: Result<(), Over>, state: u32) -> Result<(), Over>
+    ensures { overflow_of result ≡ option_or (overflow_of first) (Some state) }
 {
-    first.or(Some(state))
+    first.and(Err(Over { var: state }))
 }
 
 /// Moves the due states and sets their new levels. The error is the state that exceeds its limit on
@@ -285,36 +286,37 @@ pub(crate) fn requantize_due(
     ensures room { vec_capacity rows.new ≡ vec_capacity rows.old }
 {
     rows.clear();
-    error_if_found(requantize_on_arrival(at, q, levels, rows))
+    requantize_on_arrival(at, q, levels, rows)
 }
 
 // Moves the due states to the tick, and sets their levels to the results of the rule, with a row
-// for each level that changes. Each of these states has left its quantum. It returns the least
-// state that exceeds its limit on arrival, else the least state whose new level exceeds its limit,
-// if any.
+// for each level that changes. Each of these states has left its quantum. The error is the least
+// state that exceeds its limit on arrival, else the least state whose new level exceeds its limit.
 fn requantize_on_arrival(
     at: &Arrival,
     q: &Quantizer,
     levels: &mut [i64],
     rows: &mut Vec<Row>,
-) -> Option<u32>
+) -> Result<(), Over>
     requires ready { CanTakeOnArrival at.now levels.old }
     requires room { vec_len rows.old + state_count at.now.machine.now ≤ vec_capacity rows.old }
-    ensures passed { (var : ℕ) → first_exceeding bits_of_state (states_at at.now.lines.now at.now.tick) ≡ Some var
-        → result ≡ Some var }
+    ensures passed { (var : ℕ)
+        → first_exceeding bits_of_state (states_at at.now.lines.now at.now.tick) ≡ Some var
+        → overflow_of result ≡ Some var }
     ensures taken { first_exceeding bits_of_state (states_at at.now.lines.now at.now.tick) ≡ None
         → (new : List ℤ) × AreRequantized at.now.machine.now q.now.name at.now.tick
         (states_at at.now.lines.now at.now.tick)
-        at.now.moved.now levels.old levels.new new rows.old.items rows.new.items result }
+        at.now.moved.now levels.old levels.new new rows.old.items rows.new.items
+        (overflow_of result) }
     ensures room { vec_capacity rows.new ≡ vec_capacity rows.old }
 {
     let unit = at.machine.level_unit();
-    let mut first = None;
+    let mut first = Ok(());
     for state in at.moved {
         let j = *state as usize;
         let value = state_to_requantize(at.lines, at.tick, *state);
         if exceeds_power_of_two(value, STATE_BITS) {
-            return Some(*state);
+            return Err(Over { var: *state });
         }
         let fresh = q.answer(value, levels[j], unit);
         let past = set_requantized_within_limit(
@@ -341,22 +343,21 @@ fn state_to_requantize(lines: &[Integrator], tick: u64, state: u32) -> i128
     lines[j].value_at(tick)
 }
 
-// Moves the due states to a tick along their lines. It returns the least index of a state that
-// exceeds the limit of states, if any.
+// Moves the due states to a tick along their lines. The error is the least state that exceeds the
+// limit of states.
 fn move_requantized_states(
     lines: &[Integrator],
     tick: u64,
     moved: &[u32],
     x: &mut [i128],
-) -> Option<u32>
+) -> Result<(), Over>
     requires may_arrive { MayArrive tick lines.now x.old }
     requires moved { AreRisingBelow (length lines.now) moved.now }
-    ensures first { IsFirstOf (λ j. exceeds bits_of_state (state_at (line_at lines.now j) tick)) moved.now
-        result }
+    ensures first { IsFirstOf (passes_at tick lines.now) moved.now (overflow_of result) }
     ensures arrived { IsWritten (pos 0)
         (λ j z. z ≡ state_at (line_at lines.now j) tick) moved.now x.old x.new }
 {
-    let mut first = None;
+    let mut first = Ok(());
     for state in moved {
         let j = *state as usize;
         let value = state_to_requantize(lines, tick, *state);

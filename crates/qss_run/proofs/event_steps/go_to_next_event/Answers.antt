@@ -1,8 +1,8 @@
 -- Ticks without rows are event-free; the first tick with rows is the next event.
 use Rattle.qss_run.proofs.Common
-use Common.{[], ◌++◌, ◌+◌, ◌∙◌, ◌∷◌, ◌≡◌, ◌≤◌, AreEventFree, arith, IsAllowedLevel, IsStep}
-use Common.{IsStoreAt, IsVisit, last_snapshot, refl, snapshot_of, snapshot_unless, subst, sym}
-use Common.{touches_at}
+use Common.{[], ◌++◌, ◌+◌, ◌∙◌, ◌∷◌, ◌≡◌, ◌≤◌, ap, AreEventFree, arith, IsAllowedLevel, IsStep}
+use Common.{IsStoreAt, IsVisit, last_snapshot, overflow_of, refl, snapshot_of, snapshot_unless}
+use Common.{subst, sym, touches_at}
 use Rattle.qss_events.proofs.Goings.{visit_on, rows_on, silent_visit}
 use Rattle.qss_events.proofs.SomeRows.{some_rows, no_rows}
 use Rattle.qss_run.proofs.Spans.{touches_on, touches_end}
@@ -16,21 +16,21 @@ loop-tick-init g c = record {
   are_silent = ([], record { leads = tt; as_many = omega arith; reached = refl }, omega arith);
 }
 
-pub returns-in-Some-clause-next : goal.returns-in-Some-clause-next
-returns-in-Some-clause-next g c =
+pub returns-in-Err-clause-next : goal.returns-in-Err-clause-next
+returns-in-Err-clause-next g c =
     let Rule = IsAllowedLevel c.args.q.now.name in
     let m = c.args.m.now in
     let before = c.loop-tick.invariant.are_silent in
-    let visited = c.go_to_event-visited.ensures.visited in
-    let t = c.go_to_event-visited.result.tick in
+    let visited = c.go_to_event-step.ensures.visited in
+    let t = c.go_to_event-step.result.tick in
     let all = visit_on Rule m c.args.from (snapshot_of c.args.from c.args.s.now) before.0 c.loop-tick.tick (snapshot_of c.loop-tick.tick c.loop-tick.s) before.1 visited.0 t
-    (snapshot_unless c.go_to_event-visited.result.over (snapshot_of t c.go_to_event-visited.new.s)) visited.1 in (
+    (snapshot_unless (overflow_of c.go_to_event-step.result.ran) (snapshot_of t c.go_to_event-step.new.s)) visited.1 in (
       before.0 ++ visited.0,
       record {
         leads = all.leads;
         is_next = all.is_next;
-        in_time = c.go_to_event-visited.ensures.tick_limit;
-        is_step = subst (λ o. IsStep Rule m t (last_snapshot (snapshot_of c.args.from c.args.s.now) (before.0 ++ visited.0)) (snapshot_unless o (snapshot_of t c.go_to_event-visited.new.s))) c.in-Some.is all.is_step;
+        in_time = c.go_to_event-step.ensures.tick_limit;
+        is_step = subst (λ o. IsStep Rule m t (last_snapshot (snapshot_of c.args.from c.args.s.now) (before.0 ++ visited.0)) (snapshot_unless o (snapshot_of t c.go_to_event-step.new.s))) (ap overflow_of c.in-Err.is) all.is_step;
         own_rows = c.set_event_overflow_row.ensures.rows;
         here = refl;
       },
@@ -42,20 +42,20 @@ returns-then-not-is_empty-clause-next g c =
     let Rule = IsAllowedLevel c.args.q.now.name in
     let m = c.args.m.now in
     let before = c.loop-tick.invariant.are_silent in
-    let visited = c.go_to_event-visited.ensures.visited in
-    let t = c.go_to_event-visited.result.tick in
+    let visited = c.go_to_event-step.ensures.visited in
+    let t = c.go_to_event-step.result.tick in
     let w0 = snapshot_of c.args.from c.args.s.now in
     let w = snapshot_of c.loop-tick.tick c.loop-tick.s in
-    let next = snapshot_of t c.go_to_event-visited.new.s in
-    let all = visit_on Rule m c.args.from w0 before.0 c.loop-tick.tick w before.1 visited.0 t (snapshot_unless c.go_to_event-visited.result.over next) visited.1 in (
+    let next = snapshot_of t c.go_to_event-step.new.s in
+    let all = visit_on Rule m c.args.from w0 before.0 c.loop-tick.tick w before.1 visited.0 t (snapshot_unless (overflow_of c.go_to_event-step.result.ran) next) visited.1 in (
       before.0 ++ visited.0,
       record {
         leads = all.leads;
         is_next = all.is_next;
-        in_time = c.go_to_event-visited.ensures.tick_limit;
-        is_step = subst (λ o. IsStep Rule m t (last_snapshot w0 (before.0 ++ visited.0)) (snapshot_unless o next)) c.in_default.is all.is_step;
-        own_rows = visited.2 c.in_default.is ∙ rows_on Rule m c.args.from w0 before.0 c.loop-tick.tick w before.1 visited.0 t next;
-        some_rows = some_rows c.go_to_event-visited.new.s.rows (sym c.is_empty.ensures ∙ c.if-not-is_empty.true);
+        in_time = c.go_to_event-step.ensures.tick_limit;
+        is_step = subst (λ o. IsStep Rule m t (last_snapshot w0 (before.0 ++ visited.0)) (snapshot_unless o next)) (ap overflow_of c.in_default.is) all.is_step;
+        own_rows = visited.2 (ap overflow_of c.in_default.is) ∙ rows_on Rule m c.args.from w0 before.0 c.loop-tick.tick w before.1 visited.0 t next;
+        some_rows = some_rows c.go_to_event-step.new.s.rows (sym c.is_empty.ensures ∙ c.if-not-is_empty.true);
         here = refl;
       },
       refl,
@@ -66,21 +66,21 @@ loop-tick-preserved g c =
     let Rule = IsAllowedLevel c.args.q.now.name in
     let m = c.args.m.now in
     let before = c.loop-tick.invariant.are_silent in
-    let visited = c.go_to_event-visited.ensures.visited in
-    let t = c.go_to_event-visited.result.tick in
+    let visited = c.go_to_event-step.ensures.visited in
+    let t = c.go_to_event-step.result.tick in
     let w0 = snapshot_of c.args.from c.args.s.now in
     let w = snapshot_of c.loop-tick.tick c.loop-tick.s in
-    let next = snapshot_of t c.go_to_event-visited.new.s in
-    let all = visit_on Rule m c.args.from w0 before.0 c.loop-tick.tick w before.1 visited.0 t (snapshot_unless c.go_to_event-visited.result.over next) visited.1 in
-    let stepped = subst (λ o. IsVisit Rule m c.args.from w0 (before.0 ++ visited.0) t (snapshot_unless o next)) c.in_default.is all in
-    let none = sym (visited.2 c.in_default.is ∙ rows_on Rule m c.args.from w0 before.0 c.loop-tick.tick w before.1 visited.0 t next)
-    ∙ no_rows c.go_to_event-visited.new.s.rows (sym c.is_empty.ensures ∙ c.if-not-is_empty.false) in
-    let here = subst (λ o. c.go_to_event-visited.new.steps ≤ c.loop-tick.steps + touches_at m t (last_snapshot w visited.0) (snapshot_unless o next)) c.in_default.is visited.3 in
-    let few = touches_on Rule m c.args.from w0 before.0 c.loop-tick.tick w before.1 visited.0 t c.args.steps.now c.loop-tick.steps c.go_to_event-visited.new.steps before.2 next stepped here in
+    let next = snapshot_of t c.go_to_event-step.new.s in
+    let all = visit_on Rule m c.args.from w0 before.0 c.loop-tick.tick w before.1 visited.0 t (snapshot_unless (overflow_of c.go_to_event-step.result.ran) next) visited.1 in
+    let stepped = subst (λ o. IsVisit Rule m c.args.from w0 (before.0 ++ visited.0) t (snapshot_unless o next)) (ap overflow_of c.in_default.is) all in
+    let none = sym (visited.2 (ap overflow_of c.in_default.is) ∙ rows_on Rule m c.args.from w0 before.0 c.loop-tick.tick w before.1 visited.0 t next)
+    ∙ no_rows c.go_to_event-step.new.s.rows (sym c.is_empty.ensures ∙ c.if-not-is_empty.false) in
+    let here = subst (λ o. c.go_to_event-step.new.steps ≤ c.loop-tick.steps + touches_at m t (last_snapshot w visited.0) (snapshot_unless o next)) (ap overflow_of c.in_default.is) visited.3 in
+    let few = touches_on Rule m c.args.from w0 before.0 c.loop-tick.tick w before.1 visited.0 t c.args.steps.now c.loop-tick.steps c.go_to_event-step.new.steps before.2 next stepped here in
     record {
-      stands = c.go_to_event-visited.ensures.stands c.in_default.is;
-      later = omega (arith, c.loop-tick.invariant.later, c.go_to_event-visited.ensures.later);
-      in_time = c.go_to_event-visited.ensures.tick_limit;
+      stands = c.go_to_event-step.ensures.stands (ap overflow_of c.in_default.is);
+      later = omega (arith, c.loop-tick.invariant.later, c.go_to_event-step.ensures.later);
+      in_time = c.go_to_event-step.ensures.tick_limit;
       are_silent = ((before.0 ++ visited.0) ++ next ∷ [], silent_visit Rule m c.args.from w0 (before.0 ++ visited.0) t next stepped none, omega (arith, few));
     }
 
@@ -89,21 +89,21 @@ set_last_rows-requires g c =
     let at_last : c.loop-tick.tick ≡ c.args.m.now.last = omega (arith, c.loop-tick-test.false, c.loop-tick.invariant.in_time) in
     subst (λ t. IsStoreAt c.args.m.now t c.loop-tick.s) at_last c.loop-tick.invariant.stands
 
-pub returns-in-Some-clause-counted : goal.returns-in-Some-clause-counted
-returns-in-Some-clause-counted g c =
+pub returns-in-Err-clause-counted : goal.returns-in-Err-clause-counted
+returns-in-Err-clause-counted g c =
     let Rule = IsAllowedLevel c.args.q.now.name in
     let m = c.args.m.now in
     let before = c.loop-tick.invariant.are_silent in
-    let visited = c.go_to_event-visited.ensures.visited in
-    let t = c.go_to_event-visited.result.tick in
+    let visited = c.go_to_event-step.ensures.visited in
+    let t = c.go_to_event-step.result.tick in
     let w0 = snapshot_of c.args.from c.args.s.now in
     let w = snapshot_of c.loop-tick.tick c.loop-tick.s in
-    let next = snapshot_of t c.go_to_event-visited.new.s in
-    let all = visit_on Rule m c.args.from w0 before.0 c.loop-tick.tick w before.1 visited.0 t (snapshot_unless c.go_to_event-visited.result.over next) visited.1 in
-    let here = subst (λ o. c.go_to_event-visited.new.steps ≤ c.loop-tick.steps + touches_at m t (last_snapshot w visited.0) (snapshot_unless o next)) c.in-Some.is visited.3 in (
+    let next = snapshot_of t c.go_to_event-step.new.s in
+    let all = visit_on Rule m c.args.from w0 before.0 c.loop-tick.tick w before.1 visited.0 t (snapshot_unless (overflow_of c.go_to_event-step.result.ran) next) visited.1 in
+    let here = subst (λ o. c.go_to_event-step.new.steps ≤ c.loop-tick.steps + touches_at m t (last_snapshot w visited.0) (snapshot_unless o next)) (ap overflow_of c.in-Err.is) visited.3 in (
       before.0 ++ visited.0,
-      subst (λ o. IsVisit Rule m c.args.from w0 (before.0 ++ visited.0) t (snapshot_unless o next)) c.in-Some.is all,
-      touches_end Rule m c.args.from w0 before.0 c.loop-tick.tick w before.1 visited.0 t c.args.steps.now c.loop-tick.steps c.go_to_event-visited.new.steps before.2 c.in-Some.var here,
+      subst (λ o. IsVisit Rule m c.args.from w0 (before.0 ++ visited.0) t (snapshot_unless o next)) (ap overflow_of c.in-Err.is) all,
+      touches_end Rule m c.args.from w0 before.0 c.loop-tick.tick w before.1 visited.0 t c.args.steps.now c.loop-tick.steps c.go_to_event-step.new.steps before.2 c.in-Err.over.var here,
     )
 
 pub returns-then-not-is_empty-clause-counted : goal.returns-then-not-is_empty-clause-counted
@@ -111,17 +111,17 @@ returns-then-not-is_empty-clause-counted g c =
     let Rule = IsAllowedLevel c.args.q.now.name in
     let m = c.args.m.now in
     let before = c.loop-tick.invariant.are_silent in
-    let visited = c.go_to_event-visited.ensures.visited in
-    let t = c.go_to_event-visited.result.tick in
+    let visited = c.go_to_event-step.ensures.visited in
+    let t = c.go_to_event-step.result.tick in
     let w0 = snapshot_of c.args.from c.args.s.now in
     let w = snapshot_of c.loop-tick.tick c.loop-tick.s in
-    let next = snapshot_of t c.go_to_event-visited.new.s in
-    let all = visit_on Rule m c.args.from w0 before.0 c.loop-tick.tick w before.1 visited.0 t (snapshot_unless c.go_to_event-visited.result.over next) visited.1 in
-    let stepped = subst (λ o. IsVisit Rule m c.args.from w0 (before.0 ++ visited.0) t (snapshot_unless o next)) c.in_default.is all in
-    let here = subst (λ o. c.go_to_event-visited.new.steps ≤ c.loop-tick.steps + touches_at m t (last_snapshot w visited.0) (snapshot_unless o next)) c.in_default.is visited.3 in (
+    let next = snapshot_of t c.go_to_event-step.new.s in
+    let all = visit_on Rule m c.args.from w0 before.0 c.loop-tick.tick w before.1 visited.0 t (snapshot_unless (overflow_of c.go_to_event-step.result.ran) next) visited.1 in
+    let stepped = subst (λ o. IsVisit Rule m c.args.from w0 (before.0 ++ visited.0) t (snapshot_unless o next)) (ap overflow_of c.in_default.is) all in
+    let here = subst (λ o. c.go_to_event-step.new.steps ≤ c.loop-tick.steps + touches_at m t (last_snapshot w visited.0) (snapshot_unless o next)) (ap overflow_of c.in_default.is) visited.3 in (
       before.0 ++ visited.0,
       stepped,
-      touches_on Rule m c.args.from w0 before.0 c.loop-tick.tick w before.1 visited.0 t c.args.steps.now c.loop-tick.steps c.go_to_event-visited.new.steps before.2 next stepped here,
+      touches_on Rule m c.args.from w0 before.0 c.loop-tick.tick w before.1 visited.0 t c.args.steps.now c.loop-tick.steps c.go_to_event-step.new.steps before.2 next stepped here,
     )
 
 pub returns-clause-counted : goal.returns-clause-counted

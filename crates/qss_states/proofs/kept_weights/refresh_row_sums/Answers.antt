@@ -2,7 +2,7 @@
 use Rattle.qss_states.proofs.Common
 use Common.{[], ℕ, ℤ, ◌+◌, ◌<◌, ◌∙◌, ◌≡◌, All, among_readers, ap, arith, discrete_count}
 use Common.{exceeds_row_limits, flat_map, int_at, int_at-tabulate, IsLeastPast, length}
-use Common.{length-map-range_with_len, List, no_row, none_passes, reading_rows, row_at}
+use Common.{length-map-range_with_len, List, no_row, none_passes, overflow_of, reading_rows, row_at}
 use Common.{row_is_light, rows_below, rows_kept_all, rows_many, state_count, subst, sym, unread_at}
 use Common.{unread_overweight, weight_at}
 use Rattle.qss_states.proofs.Least.{least_none, passes_by_weight, least_is}
@@ -36,6 +36,6 @@ returns-clause-overflow c =
     let inside : row < length m.rows = omega (arith, h, m.has_rows.one_each) in
     unread_overweight m (row_at m row) moved old levels d (unread_at moved (row_at m row) (sym (among_readers m row h moved) ∙ none)) before.levels.off
     ∙ none_passes no_row (exceeds_row_limits m old d) m.rows before.levels.of_lines.light row inside)
-    c.least_exceeding_reader.result
-    (subst (λ (rows : List ℕ). IsLeastPast weights rows c.least_exceeding_reader.result) (rows_kept_all m c.args.at.now.uses.now c.requires.new.new.uses moved known)
+    (overflow_of c.least_exceeding_reader.result)
+    (subst (λ (rows : List ℕ). IsLeastPast weights rows (overflow_of c.least_exceeding_reader.result)) (rows_kept_all m c.args.at.now.uses.now c.requires.new.new.uses moved known)
     (c.least_exceeding_reader.ensures [] (least_none weights)))

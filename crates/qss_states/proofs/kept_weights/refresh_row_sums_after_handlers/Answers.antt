@@ -1,8 +1,8 @@
 -- A row that reads no moved state and no assigned variable is as light as before.
 use Rattle.qss_states.proofs.Common
 use Common.{[], ℕ, ℤ, ◌++◌, ◌+◌, ◌<◌, ◌∙◌, ◌≡◌, All, ap, arith, discrete_count, exceeds_row_limits}
-use Common.{flat_map, IsLeastPast, length, length-map-range_with_len, List, position, reading_rows}
-use Common.{rows_below, rows_kept_all, rows_many, state_count, subst, sym, weight_at}
+use Common.{flat_map, IsLeastPast, length, length-map-range_with_len, List, overflow_of, position}
+use Common.{reading_rows, rows_below, rows_kept_all, rows_many, state_count, subst, sym, weight_at}
 use Rattle.qss_states.proofs.Least.{least_none, least_is}
 use Rattle.qss_states.proofs.Shifting.{at_before, levels_after}
 use Rattle.qss_states.proofs.Weighed.{many_after, weighed_passes, others_light, all_weighed}
@@ -62,16 +62,16 @@ returns c =
     let looked : List ℕ = flat_map (reading_rows m) moved ++ flat_map (reading_rows m) assigned in
     let kept_moved = rows_kept_all m c.args.at.now.uses.now c.requires.allowed.new.uses moved moved_known in
     let kept_assigned = rows_kept_all m c.args.at.now.uses.now c.requires.allowed.new.uses assigned assigned_known in
-    let first : IsLeastPast after (flat_map (reading_rows m) moved) c.least_exceeding_reader-least.result =
-    subst (λ (rows : List ℕ). IsLeastPast after rows c.least_exceeding_reader-least.result) kept_moved (c.least_exceeding_reader-least.ensures [] (least_none after)) in
-    let both : IsLeastPast after looked c.least_exceeding_reader.result =
-    subst (λ (rows : List ℕ). IsLeastPast after (flat_map (reading_rows m) moved ++ rows) c.least_exceeding_reader.result) kept_assigned (c.least_exceeding_reader.ensures (flat_map (reading_rows m) moved) first) in
-    let over : c.least_exceeding_reader.result ≡ position (exceeds_row_limits m levels d) m.rows =
+    let first : IsLeastPast after (flat_map (reading_rows m) moved) (overflow_of c.least_exceeding_reader-least.result) =
+    subst (λ (rows : List ℕ). IsLeastPast after rows (overflow_of c.least_exceeding_reader-least.result)) kept_moved (c.least_exceeding_reader-least.ensures [] (least_none after)) in
+    let both : IsLeastPast after looked (overflow_of c.least_exceeding_reader.result) =
+    subst (λ (rows : List ℕ). IsLeastPast after (flat_map (reading_rows m) moved ++ rows) (overflow_of c.least_exceeding_reader.result)) kept_assigned (c.least_exceeding_reader.ensures (flat_map (reading_rows m) moved) first) in
+    let over : overflow_of c.least_exceeding_reader.result ≡ position (exceeds_row_limits m levels d) m.rows =
     least_is m levels d after looked
     (many_after m moved assigned old levels pre d c.update_all_row_sums.new.sums after c.requires.allowed.new.levels c.requires.allowed.handled.many_before c.requires.allowed.handled.values.discretes c.requires.allowed.handled.assigned.others before.levels.off before.levels.of_lines.light c.update_all_row_sums.ensures c.weigh_kept_readers.ensures)
     (weighed_passes m moved assigned old levels pre d c.update_all_row_sums.new.sums after c.requires.allowed.new.levels c.requires.allowed.handled.many_before c.requires.allowed.handled.values.discretes c.requires.allowed.handled.assigned.others before.levels.off before.levels.of_lines.light c.update_all_row_sums.ensures c.weigh_kept_readers.ensures)
     (others_light m moved assigned old levels pre d c.update_all_row_sums.new.sums after c.requires.allowed.new.levels c.requires.allowed.handled.many_before c.requires.allowed.handled.values.discretes c.requires.allowed.handled.assigned.others before.levels.off before.levels.of_lines.light c.update_all_row_sums.ensures c.weigh_kept_readers.ensures)
-    c.least_exceeding_reader.result both in
+    (overflow_of c.least_exceeding_reader.result) both in
     record {
       overflow = over;
       weights = λ none.

@@ -1,7 +1,8 @@
 -- One more state arrives.
 use Rattle.qss_states.proofs.Common
 use Common.{ℕ, ℤ, ◌+◌, ◌<◌, ◌∙◌, ◌≡◌, ap, arith, exceeds, false, FitsSigned, get_or, length}
-use Common.{line_at, pos, refl, state_at, subst, sym, to_z-of_z, w128, written_all, written_more}
+use Common.{line_at, overflow_of, pos, refl, state_at, subst, sym, to_z-of_z, w128, written_all}
+use Common.{written_more}
 use Rattle.std.proofs.lemmas.Bool.{both_ways}
 use Rattle.qss_states.proofs.Found.{IsFoundIn, found_more, found_done}
 use Rattle.qss_states.proofs.requantization.move_requantized_states.Goals as goal
@@ -37,7 +38,7 @@ loop-state-preserved c =
     record {
       written = written_more (pos 0) (λ k z. z ≡ state_at (line_at lines k) tick) moved c.args.x.now c.loop-state.x i _ h within c.loop-state.invariant.written (to_z-of_z w128 value fits ∙ here);
       found = subst (IsFoundIn (λ k. exceeds 88 (state_at (line_at lines k) tick)) moved (i + 1)) (sym c.first_requantized_past-first.ensures)
-          (found_more (λ k. exceeds 88 (state_at (line_at lines k) tick)) moved i c.loop-state.first c.exceeds_power_of_two.result c.requires.moved.rising h c.loop-state.invariant.found test);
+          (found_more (λ k. exceeds 88 (state_at (line_at lines k) tick)) moved i (overflow_of c.loop-state.first) c.exceeds_power_of_two.result c.requires.moved.rising h c.loop-state.invariant.found test);
     }
 
 pub returns-clause-arrived : goal.returns-clause-arrived
@@ -47,4 +48,4 @@ returns-clause-arrived c =
 
 pub returns-clause-first : goal.returns-clause-first
 returns-clause-first c =
-    found_done (λ k. exceeds 88 (state_at (line_at c.args.lines.now k) c.args.tick)) c.args.moved.now c.loop-state.state-index c.loop-state.first c.loop-state-test.false c.loop-state.invariant.found
+    found_done (λ k. exceeds 88 (state_at (line_at c.args.lines.now k) c.args.tick)) c.args.moved.now c.loop-state.state-index (overflow_of c.loop-state.first) c.loop-state-test.false c.loop-state.invariant.found

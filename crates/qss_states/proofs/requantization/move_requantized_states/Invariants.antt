@@ -1,4 +1,5 @@
-use Rattle.qss_states.proofs.Common.{◌≡◌, exceeds, IsWritten, line_at, pos, state_at, take}
+use Rattle.qss_states.proofs.Common
+use Common.{◌≡◌, exceeds, IsWritten, line_at, overflow_of, pos, state_at, take}
 use Rattle.qss_states.proofs.Found.{IsFoundIn}
 use Rattle.qss_states.proofs.requantization.move_requantized_states.Given as goal
 
@@ -6,5 +7,5 @@ use Rattle.qss_states.proofs.requantization.move_requantized_states.Given as goa
 abbrev pub invariant-loop-state : goal.invariant-loop-state
 invariant-loop-state l = record {
   written : IsWritten (pos 0) (λ j z. z ≡ state_at (line_at l.lines j) l.tick) (take l.state-index l.moved) l.fn.x l.x;
-  found : IsFoundIn (λ j. exceeds 88 (state_at (line_at l.lines j) l.tick)) l.moved l.state-index l.first;
+  found : IsFoundIn (λ j. exceeds 88 (state_at (line_at l.lines j) l.tick)) l.moved l.state-index (overflow_of l.first);
 }

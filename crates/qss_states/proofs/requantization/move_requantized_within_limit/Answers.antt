@@ -1,5 +1,5 @@
 -- The first moved state above its limit is the first of all.
-use Rattle.qss_states.proofs.Common.{◌∙◌, ◌≡◌, arith, first_exceeding, states_at, sym}
+use Rattle.qss_states.proofs.Common.{◌∙◌, ◌≡◌, arith, first_exceeding, overflow_of, states_at, sym}
 use Rattle.qss_states.proofs.DueLevels.{past_on_arrival, arrived_within}
 use Rattle.qss_states.proofs.requantization.move_requantized_within_limit.Goals as goal
 
@@ -8,11 +8,11 @@ move_requantized_states-requires-clause-may_arrive c = record { as_many = c.requ
 
 pub returns : goal.returns
 returns c =
-    let over : c.move_requantized_states.result ≡ first_exceeding 88 (states_at c.args.lines.now c.args.tick) =
-    past_on_arrival c.args.tick c.args.lines.now c.args.moved.now c.requires.numbers c.move_requantized_states.result c.requires.others_small c.move_requantized_states.ensures.first in
+    let over : overflow_of c.move_requantized_states.result ≡ first_exceeding 88 (states_at c.args.lines.now c.args.tick) =
+    past_on_arrival c.args.tick c.args.lines.now c.args.moved.now c.requires.numbers (overflow_of c.move_requantized_states.result) c.requires.others_small c.move_requantized_states.ensures.first in
     record {
-      over_is = c.error_if_found.ensures ∙ over;
+      over_is = over;
       at_arrival = c.move_requantized_states.ensures.arrived;
       small = λ none.
-          arrived_within c.args.tick c.args.lines.now c.args.moved.now c.requires.numbers c.args.x.now c.move_requantized_states.new.x c.move_requantized_states.ensures.arrived c.requires.small (sym over ∙ sym c.error_if_found.ensures ∙ none);
+          arrived_within c.args.tick c.args.lines.now c.args.moved.now c.requires.numbers c.args.x.now c.move_requantized_states.new.x c.move_requantized_states.ensures.arrived c.requires.small (sym over ∙ none);
     }

@@ -2,8 +2,8 @@
 use Rattle.qss_states.proofs.Common
 use Common.{ℕ, ℤ, ◌++◌, ◌+◌, ◌<◌, ◌∙◌, ◌≡◌, among_at, ap, AreRequantized, arith, exceeds, false}
 use Common.{few_numbers, FitsSigned, get_or, int_at, ints, IsAllowedLevel, IsNextLevel, IsWithin}
-use Common.{length, List, not_before, of_z, Option, pos, refl, row_of, set, state_count, subst, sym}
-use Common.{take, to_z, to_z-of_z, w128, w64}
+use Common.{length, List, not_before, of_z, Option, overflow_of, pos, refl, row_of, set}
+use Common.{state_count, subst, sym, take, to_z, to_z-of_z, w128, w64}
 use Rattle.qss_states.proofs.Taken.{none_taken, taken_more, taken_all}
 use Rattle.qss_states.proofs.requantization.requantize_due_levels.Goals as goal
 
@@ -78,7 +78,7 @@ loop-state-preserved g c =
         set inv.taken.0 j fresh,
         subst (λ (first : Option ℕ). AreRequantized m name tick states (take (i + 1) moved) olds (set c.loop-state.levels j c.set_requantized_within_limit-past.new.level) (set inv.taken.0 j fresh) c.args.rows.now.items
             c.set_requantized_within_limit-past.new.rows.items first) (sym c.first_requantized_past-first.ensures)
-            (taken_more m name tick states olds c.args.rows.now.items moved i c.loop-state.levels inv.taken.0 c.loop-state.rows.items c.set_requantized_within_limit-past.new.rows.items c.loop-state.first fresh
+            (taken_more m name tick states olds c.args.rows.now.items moved i c.loop-state.levels inv.taken.0 c.loop-state.rows.items c.set_requantized_within_limit-past.new.rows.items (overflow_of c.loop-state.first) fresh
             c.set_requantized_within_limit-past.new.level c.set_requantized_within_limit-past.result h rising (omega (arith, inside, c.requires.levels)) inv.taken.1 next past
             (λ e. (c.set_requantized_within_limit-past.ensures.taken e).level_is ∙ to_z-of_z w128 fresh fresh_fits) row),
       );
@@ -92,5 +92,5 @@ returns-clause-taken g c =
     let taken = c.loop-state.invariant.taken in (
       taken.0,
       taken_all at.machine.now c.args.q.now.name at.tick c.args.x.now c.args.levels.now c.args.rows.now.items at.moved.now c.loop-state.state-index c.loop-state.levels taken.0
-          c.loop-state.rows.items c.loop-state.first c.loop-state-test.false taken.1,
+          c.loop-state.rows.items (overflow_of c.loop-state.first) c.loop-state-test.false taken.1,
     )

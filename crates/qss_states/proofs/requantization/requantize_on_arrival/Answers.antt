@@ -4,9 +4,9 @@ use Rattle.qss_states.proofs.Common
 use Common.{ℕ, ℤ, ◌++◌, ◌+◌, ◌<◌, ◌∙◌, ◌≡◌, among_at, ap, AreRequantized, AreRisingBelow, arith}
 use Common.{below_more, clash, exceeds, false, few_numbers, first_exceeding, first_of, FitsSigned}
 use Common.{get_or, int_at, ints, IsAllowedLevel, IsNextLevel, IsWithin, length, level_unit}
-use Common.{line_at, List, None, none_of, not_before, of_z, Option, passes-within, pos, refl}
-use Common.{row_of, set, Some, state_at, state_count, states_at, subst, sym, take, to_z, to_z-of_z}
-use Common.{true, w128, w64}
+use Common.{line_at, List, None, none_of, not_before, of_z, Option, overflow_of, passes-within, pos}
+use Common.{refl, row_of, set, Some, state_at, state_count, states_at, subst, sym, take, to_z}
+use Common.{to_z-of_z, true, w128, w64}
 use Rattle.mu_num.specs.Sizes.{IsPositiveWithin}
 use Rattle.qss_quant.specs.LevelRules.{IsAnswer}
 use Rattle.qss_events.proofs.NextLevels.{next_by}
@@ -155,7 +155,7 @@ loop-state-preserved g c =
         set inv.taken.0 j fresh,
         subst (λ (first : Option ℕ). AreRequantized m name tick states (take (i + 1) moved) olds (set c.loop-state.levels j c.set_requantized_within_limit-past.new.level) (set inv.taken.0 j fresh) c.args.rows.now.items
             c.set_requantized_within_limit-past.new.rows.items first) (sym c.first_requantized_past-first.ensures)
-            (taken_more m name tick states olds c.args.rows.now.items moved i c.loop-state.levels inv.taken.0 c.loop-state.rows.items c.set_requantized_within_limit-past.new.rows.items c.loop-state.first fresh
+            (taken_more m name tick states olds c.args.rows.now.items moved i c.loop-state.levels inv.taken.0 c.loop-state.rows.items c.set_requantized_within_limit-past.new.rows.items (overflow_of c.loop-state.first) fresh
             c.set_requantized_within_limit-past.new.level c.set_requantized_within_limit-past.result h rising (omega (arith, inside, c.requires.ready.levels)) inv.taken.1 next past
             (λ e. (c.set_requantized_within_limit-past.ensures.taken e).level_is ∙ to_z-of_z w128 fresh fresh_fits) row),
       );
@@ -180,5 +180,5 @@ returns-clause-taken g c none =
     let taken = c.loop-state.invariant.taken in (
       taken.0,
       taken_all at.machine.now c.args.q.now.name at.tick (states_at at.lines.now at.tick) c.args.levels.now c.args.rows.now.items at.moved.now c.loop-state.state-index c.loop-state.levels taken.0
-          c.loop-state.rows.items c.loop-state.first c.loop-state-test.false taken.1,
+          c.loop-state.rows.items (overflow_of c.loop-state.first) c.loop-state-test.false taken.1,
     )

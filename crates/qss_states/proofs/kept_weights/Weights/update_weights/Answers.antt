@@ -34,7 +34,7 @@ pub returns-then-self : goal.returns-then-self
 returns-then-self c =
     let self : Weights = c.args.self.now in
     record {
-      overflow = c.error_if_found.ensures ∙ c.refresh_row_sums.ensures.overflow;
+      overflow = c.refresh_row_sums.ensures.overflow;
       weights = λ none.
           kept_anew c.args.at.now.machine.now c.args.at.now.levels.now c.args.d.now self c.refresh_row_sums.new.weights c.if-self.true c.requires.before.1.own.as_many
           (c.refresh_row_sums.auto.weights ∙ c.as_mut_slice-of_rows.ensures.len) c.refresh_row_sums.ensures.weights;
@@ -68,10 +68,10 @@ pub returns : goal.returns
 returns c =
     let on : Weights = record c.args.self.now { kept = true } in
     record {
-      overflow = c.error_if_found-2.ensures ∙ c.weigh_kept_within_limit.ensures.overflow;
+      overflow = c.weigh_kept_within_limit.ensures.overflow;
       weights = λ none.
           kept_anew c.args.at.now.machine.now c.args.at.now.levels.now c.args.d.now on c.weigh_kept_within_limit.new.weights refl c.requires.before.1.own.as_many
-          (c.weigh_kept_within_limit.auto.weights ∙ c.as_mut_slice-of_rows-2.ensures.len) (c.weigh_kept_within_limit.ensures.weights (sym c.error_if_found-2.ensures ∙ none));
+          (c.weigh_kept_within_limit.auto.weights ∙ c.as_mut_slice-of_rows-2.ensures.len) (c.weigh_kept_within_limit.ensures.weights none);
       stay = record { bound = refl; on = λ was. refl };
       off = λ was up_to. absurd (let yes = c.are_places_within.ensures.1 up_to in let no = c.if-are_places_within.false in cc);
     }

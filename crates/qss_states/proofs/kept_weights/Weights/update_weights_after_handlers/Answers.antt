@@ -5,8 +5,8 @@ use Rattle.qss_states.proofs.Kept.{levels_still, values_still, light_up_to, not_
 use Rattle.qss_states.proofs.Shifting.{levels_after}
 use Rattle.qss_states.proofs.kept_weights.Weights.update_weights_after_handlers.Goals as goal
 
-pub refresh_row_sums_after_handlers-found-requires-clause-before : goal.refresh_row_sums_after_handlers-found-requires-clause-before
-refresh_row_sums_after_handlers-found-requires-clause-before c =
+pub refresh_row_sums_after_handlers-requires-clause-before : goal.refresh_row_sums_after_handlers-requires-clause-before
+refresh_row_sums_after_handlers-requires-clause-before c =
     let before = c.requires.before.1 in (
       c.requires.before.0,
       record {
@@ -26,10 +26,10 @@ returns-then-self c =
     let m = c.args.at.now.machine.now in
     let self : Weights = c.args.self.now in
     record {
-      overflow = c.error_if_found.ensures ∙ c.refresh_row_sums_after_handlers-found.ensures.overflow;
+      overflow = c.refresh_row_sums_after_handlers.ensures.overflow;
       weights = λ none.
-          kept_anew m c.args.at.now.levels.now c.args.handled.now.discretes.now self c.refresh_row_sums_after_handlers-found.new.weights c.if-self.true c.requires.before.1.own.as_many
-          (c.refresh_row_sums_after_handlers-found.auto.weights ∙ c.as_mut_slice-of_rows.ensures.len) (c.refresh_row_sums_after_handlers-found.ensures.weights (sym c.error_if_found.ensures ∙ none));
+          kept_anew m c.args.at.now.levels.now c.args.handled.now.discretes.now self c.refresh_row_sums_after_handlers.new.weights c.if-self.true c.requires.before.1.own.as_many
+          (c.refresh_row_sums_after_handlers.auto.weights ∙ c.as_mut_slice-of_rows.ensures.len) (c.refresh_row_sums_after_handlers.ensures.weights none);
       stay = record { bound = refl; on = λ was. was };
       off = λ was levels_up_to values_up_to. was;
     }
@@ -63,10 +63,10 @@ pub returns : goal.returns
 returns c =
     let on : Weights = record c.args.self.now { kept = true } in
     record {
-      overflow = c.error_if_found-2.ensures ∙ c.weigh_kept_within_limit.ensures.overflow;
+      overflow = c.weigh_kept_within_limit.ensures.overflow;
       weights = λ none.
           kept_anew c.args.at.now.machine.now c.args.at.now.levels.now c.args.handled.now.discretes.now on c.weigh_kept_within_limit.new.weights refl c.requires.before.1.own.as_many
-          (c.weigh_kept_within_limit.auto.weights ∙ c.as_mut_slice-of_rows-2.ensures.len) (c.weigh_kept_within_limit.ensures.weights (sym c.error_if_found-2.ensures ∙ none));
+          (c.weigh_kept_within_limit.auto.weights ∙ c.as_mut_slice-of_rows-2.ensures.len) (c.weigh_kept_within_limit.ensures.weights none);
       stay = record { bound = refl; on = λ was. refl };
       off = λ was levels_up_to values_up_to.
           absurd (let yes = c.are_new_values_within.ensures.1 (levels_up_to, values_up_to) in let no = c.if-are_new_values_within.false in cc);
