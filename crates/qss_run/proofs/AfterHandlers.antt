@@ -5,7 +5,8 @@ use Common.{DetectorStates, DiffersOnlyAt, discrete_count, false, if◌then◌el
 use Common.{int_at-states_at, int_at-tabulate, is_listed, IsSettled, length}
 use Common.{length-map-range_with_len, length-states_at, Line, line_at, List, Machine, no_row, pos}
 use Common.{reads_moved, row_at, row_reads, slope_at, Snapshot, state_at, state_count, states_at}
-use Common.{states_with, sym, tabulate, tabulate-same, unread_at}
+use Common.{states_with, sym, tabulate, tabulate-same}
+use Rattle.qss_machine.proofs.Unread.{unread_at}
 use Rattle.mu_num.proofs.Tests.{if-false}
 use Rattle.qss_machine.specs.declared.machine_parts.SlopeRow.{SlopeRow}
 use Rattle.qss_states.specs.Variables.{AreAssigned}

@@ -1,13 +1,12 @@
 -- Names from outside the lemmas of this crate that several of its proofs cite, passed on from one place.
 pub use Rattle.std.proofs.Common.{[], ℕ, ℤ, ◌&&◌, ◌*ℤ◌, ◌*◌, ◌++◌, ◌+ℤ◌, ◌+◌, ◌-◌, ◌<◌, ◌==◌, ◌^◌}
 pub use Rattle.std.proofs.Common.{◌||◌, ◌∙◌, ◌∷◌, ◌≡◌, ◌≢◌, ◌≤◌, ◌⊎◌, ap, append-nil, arith, Bool}
-pub use Rattle.std.proofs.Common.{cond, count_by, drop, eqb, false, flat_map, fold, get_or, Global}
-pub use Rattle.std.proofs.Common.{inl, inr, length, List, map, of_z, pos, refl, rules, set, subst}
-pub use Rattle.std.proofs.Common.{suc, sym, take, to_z, true, Vec, zero}
+pub use Rattle.std.proofs.Common.{cond, drop, eqb, false, flat_map, fold, get_or, Global, inl, inr}
+pub use Rattle.std.proofs.Common.{length, List, map, of_z, pos, refl, rules, set, subst, suc, sym}
+pub use Rattle.std.proofs.Common.{take, to_z, true, Vec, zero}
 pub use Rattle.std.proofs.Math.IntN.{zero-*ℤ}
 pub use Rattle.std.proofs.lemmas.Bool.{both_ways, cases_Bool, cases_eq, cases_lt, eqb-false}
-pub use Rattle.std.proofs.lemmas.Bool.{false_from_ne_true, lt-ltb, or_cases, or_left, or_parts}
-pub use Rattle.std.proofs.lemmas.Bool.{or_right}
+pub use Rattle.std.proofs.lemmas.Bool.{false_from_ne_true, or_cases, or_left, or_parts, or_right}
 pub use Rattle.std.proofs.lemmas.Bool.Decides.{nat_tests}
 pub use Rattle.std.proofs.lemmas.Int.{ints, to_z-of_z}
 pub use Rattle.std.proofs.lemmas.List.{get_or-append_right, get_or-drop, get_or-map}
@@ -24,14 +23,13 @@ pub use Rattle.std.proofs.lemmas.List.Sums.{sum_by-cons, sum_by_more}
 pub use Rattle.std.specs.Int.RustNames.{FitsSigned, unsigned_abs}
 pub use Rattle.std.specs.List.{filter, list_any, range_with_len, sum_by}
 pub use Rattle.std.specs.Option.{option_or}
-pub use Rattle.std.specs.Ordering.{int_eq}
 pub use Rattle.std.specs.Prelude.{All, Err, if◌then◌else◌, is_some, nat_lt, None, not, Ok, Option}
 pub use Rattle.std.specs.Prelude.{position, Result, Some, vec_capacity, vec_len}
 pub use Rattle.std.specs.Vec.{with_items}
 pub use mir.Syntax.{w128, w64}
 pub use Rattle.mu_num.proofs.InPlace.{same_length}
 pub use Rattle.mu_num.proofs.Tables.{int_at-tabulate, tabulate-same}
-pub use Rattle.mu_num.proofs.Tests.{eqb-true, eqb-yes, if-true, if_cases}
+pub use Rattle.mu_num.proofs.Tests.{eqb-true, eqb-yes, if_cases}
 pub use Rattle.mu_num.proofs.Writes.{among_at, index_of}
 pub use Rattle.mu_num.specs.IndexedSums.{first_exceeding, int_at, sum_over, tabulate}
 pub use Rattle.mu_num.specs.Limits.{tick_limit}
@@ -47,8 +45,7 @@ pub use Rattle.qss_machine.proofs.KeptReaders.{rows_below, rows_kept, rows_many}
 pub use Rattle.qss_machine.proofs.Loops.{product_bound}
 pub use Rattle.qss_machine.proofs.StartValues.{discretes_start, states_start}
 pub use Rattle.qss_machine.proofs.SumLaws.{weighted_sum-entries}
-pub use Rattle.qss_machine.proofs.Unread.{unread_at}
-pub use Rattle.qss_machine.specs.EventCounts.{has_changed, is_reinit, touches_after}
+pub use Rattle.qss_machine.specs.EventCounts.{is_reinit, touches_after}
 pub use Rattle.qss_machine.specs.Firing.{first_place}
 pub use Rattle.qss_machine.specs.Handlers.{assign, assigned_value, conditions, fire_row}
 pub use Rattle.qss_machine.specs.Handlers.{firing_flags, HandlerState, run_action, run_branch}
@@ -61,7 +58,7 @@ pub use Rattle.qss_machine.specs.Readers.{condition_reads, has_entry, reading_co
 pub use Rattle.qss_machine.specs.Readers.{reading_rows, row_reads}
 pub use Rattle.qss_machine.specs.Runs.{discrete_rows, last_snapshot, level_rows, snapshot_rows}
 pub use Rattle.qss_machine.specs.Runs.{state_rows, tick_rows}
-pub use Rattle.qss_machine.specs.Ticks.{AreNextLevels, exceeds_row_limits, finish_tick, handlers_at}
+pub use Rattle.qss_machine.specs.Ticks.{AreNextLevels, exceeds_row_limits, handlers_at}
 pub use Rattle.qss_machine.specs.Ticks.{is_within_quantum, IsStep, moved_states, Snapshot}
 pub use Rattle.qss_machine.specs.Ticks.{snapshot_unless}
 pub use Rattle.qss_machine.specs.declared.compiled_machine.Machine.{Machine}
@@ -90,34 +87,29 @@ pub use Rattle.qss_hand.specs.Works.{row_room, values_after}
 pub use Rattle.qss_events.proofs.EndRows.{state_row}
 pub use Rattle.qss_events.proofs.Firsts.{same_lists}
 pub use Rattle.qss_events.proofs.Flags.{truths_are}
-pub use Rattle.qss_events.proofs.NextLevels.{next_is_near}
 pub use Rattle.qss_events.proofs.Overs.{all_within, clash}
 pub use Rattle.qss_events.proofs.Quiet.{moved_is}
 pub use Rattle.qss_events.proofs.Readers.{among_conditions}
-pub use Rattle.qss_events.proofs.Risen.{none_due}
 pub use Rattle.qss_events.proofs.RunEnds.{call_of, done_end, done_left, over_end, over_left}
-pub use Rattle.qss_events.proofs.Silence.{flag_still, from_later, line_state_at, watch_value_at}
+pub use Rattle.qss_events.proofs.SameSlopes.{level_stays}
+pub use Rattle.qss_events.proofs.Silence.{from_later, line_state_at}
 pub use Rattle.qss_events.proofs.Silences.{arrived_then, quiet_worlds}
 pub use Rattle.qss_events.proofs.Skipped.{settled_twice}
 pub use Rattle.qss_events.proofs.Starts.{count_start, levels_start, light_at}
 pub use Rattle.qss_events.specs.AllowedLevels.{IsAllowedLevel}
 pub use Rattle.qss_events.specs.EventFreeRuns.{AreEventFree, IsVisit}
-pub use Rattle.qss_events.specs.EventFreeTicks.{NoneRises}
 pub use Rattle.qss_events.specs.Events.{IsNext, rows_left}
 pub use Rattle.qss_events.specs.HandlerRows.{assigned_of, reinitialized_of}
 pub use Rattle.qss_events.specs.RunViews.{RunView}
 pub use Rattle.qss_events.specs.Schedules.{became_true, condition_at, HasNoEventBefore, IsChange}
 pub use Rattle.qss_events.specs.Schedules.{IsDue, IsScheduleOf, no_detector, no_row, rises}
-pub use Rattle.qss_events.specs.Schedules.{slopes_of}
 pub use Rattle.qss_events.specs.declared.event_outcome.Outcome.{Outcome}
 pub use Rattle.qss_events.specs.declared.event_outcome.Outcome.TheVariants.{Done, Events, Over}
 pub use Rattle.qss_states.proofs.DueLevels.{int_at-states_at, length-states_at, may_arrive}
-pub use Rattle.qss_states.proofs.DueLevels.{may_move}
 pub use Rattle.qss_states.proofs.GoingOn.{slopes_small}
-pub use Rattle.qss_states.specs.Advancing.{reached}
-pub use Rattle.qss_states.specs.EventContexts.{AreMovedTo, HasLeft}
+pub use Rattle.qss_states.specs.EventContexts.{AreMovedTo, HasLeft, HaveLeft}
 pub use Rattle.qss_states.specs.KeptWeights.{AreWeights}
-pub use Rattle.qss_states.specs.LineReplacements.{replaced_lines_from}
+pub use Rattle.qss_states.specs.LineReplacements.{goes_from, replaced_lines_from}
 pub use Rattle.qss_states.specs.RowSums.{AreSumsBefore}
 pub use Rattle.qss_states.specs.StateLines.{AreLinesAt, IsRestartedFrom, line_at, states_at}
 pub use Rattle.qss_states.specs.StateLines.{states_with}

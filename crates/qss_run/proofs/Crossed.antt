@@ -2,19 +2,22 @@
 use Rattle.qss_run.proofs.Common
 use Common.{ℕ, ℤ, ◌+◌, ◌-◌, ◌<◌, ◌∙◌, ◌≡◌, ◌≢◌, ◌≤◌, All, ap, AreMovedTo, AreNextLevels, arith}
 use Common.{became_true, Bool, cases_Bool, cases_lt, compares, condition_at, conditions}
-use Common.{detector_at, due_at, false, first_exceeding, flag_at, flag_still, from_later}
-use Common.{get_or_past, HandlerState, handling_from, HasDueRemovedFrom, HasNoEventBefore, holds_at}
-use Common.{if-true, index_of, inl, inr, int_at, is_listed, is_reinitialized, is_within_quantum}
-use Common.{IsAllowedLevel, IsChange, IsDetectorAt, IsDue, IsHandlerEffect, IsLineWithinQuantum}
-use Common.{IsScheduleOf, IsSmall, IsWithin, IsWithout, length, level_unit, line_at, List, Machine}
-use Common.{moved_is, next_is_near, None, not, Option, or_parts, or_right, quantum_of, refl, Rule}
-use Common.{snapshot_of, Some, speed_of, state_at, state_count, states_at, states_with, Store}
-use Common.{subst, sym, tick_limit, true, truth, value_at, value_of, Values, watch_value_at}
+use Common.{detector_at, due_at, false, first_exceeding, flag_at, from_later, get_or_past}
+use Common.{HandlerState, handling_from, HasDueRemovedFrom, HasNoEventBefore, holds_at, index_of}
+use Common.{inl, inr, int_at, is_listed, is_reinitialized, is_within_quantum, IsAllowedLevel}
+use Common.{IsChange, IsDetectorAt, IsDue, IsHandlerEffect, IsLineWithinQuantum, IsScheduleOf}
+use Common.{IsSmall, IsWithin, IsWithout, length, level_unit, line_at, List, Machine, moved_is}
+use Common.{None, not, Option, or_parts, or_right, quantum_of, refl, Rule, snapshot_of, Some}
+use Common.{speed_of, state_at, state_count, states_at, states_with, Store, subst, sym, tick_limit}
+use Common.{true, truth, value_at, value_of, Values}
+use Rattle.qss_events.proofs.Silence.{flag_still, watch_value_at}
+use Rattle.qss_events.proofs.NextLevels.{next_is_near}
+use Rattle.mu_num.proofs.Tests.{if-true}
 use Rattle.qss_run.proofs.AfterHandlers.{length-states_with, int_at-states_with, other_state}
 use Rattle.qss_run.proofs.Handled.{over_early}
 use Rattle.qss_run.proofs.Jumps.{dues_later}
-use Rattle.qss_run.proofs.QuietTick.{value_small, condition_bounded}
-use Rattle.qss_run.proofs.QuietVisits.{rest_near, at_arrival}
+use Rattle.qss_run.proofs.SmallValues.{value_small, condition_bounded}
+use Rattle.qss_run.proofs.DueRemoved.{rest_near, at_arrival}
 use Rattle.qss_run.proofs.Takes.{not_among}
 use Rattle.qss_run.proofs.Visits.{due_stays}
 

@@ -93,7 +93,6 @@ fits_then m s at_arrival flipped fits many count = record {
   before = fits.before;
   room = record {
     moved = fits.room.moved;
-    touched = fits.room.touched;
     changed = fits.room.changed;
     fired = fits.room.fired;
     assigned = fits.room.assigned;

@@ -2,14 +2,15 @@ mod Common
 mod Visits
 mod Jumps
 mod Takes
-mod QuietTick
-mod QuietVisits
+mod SmallValues
+mod DueRemoved
 mod Touched
 mod Spans
 mod NamedTouches
 mod Untouched
 mod AfterHandlers
 mod Crossed
+mod Kept
 mod Reinits
 mod Watched
 mod Handled

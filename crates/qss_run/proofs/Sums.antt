@@ -2,10 +2,11 @@
 use Rattle.qss_run.proofs.Common
 use Common.{[], ℕ, ℤ, ◌++◌, ◌+ℤ◌, ◌+◌, ◌∷◌, ◌≡◌, Action, arith, assign, assigned_value, Bool}
 use Common.{BranchInfo, ClauseInfo, discrete_rows, end_level, end_sum, exceeds, false, fire_row}
-use Common.{fold, handlers_at, HandlerState, if_cases, int_at, int_eq, ints, is_some, length}
-use Common.{level_count, level_rows, List, Machine, map, pos, range_with_len, refl, Reinit, Row}
-use Common.{run_action, run_clauses, run_first_due, Set, Snapshot, snapshot_rows, state_row}
-use Common.{state_rows, suc, tick_rows, true, zero}
+use Common.{fold, handlers_at, HandlerState, if_cases, int_at, ints, is_some, length, level_count}
+use Common.{level_rows, List, Machine, map, pos, range_with_len, refl, Reinit, Row, run_action}
+use Common.{run_clauses, run_first_due, Set, Snapshot, snapshot_rows, state_row, state_rows, suc}
+use Common.{tick_rows, true, zero}
+use Rattle.std.specs.Ordering.{int_eq}
 use Rattle.std.specs.List.{flat_map}
 use Rattle.std.proofs.lemmas.List.Sums.{sum_by-append}
 use Rattle.qss_events.proofs.EndRows.{discrete_row}

@@ -2,15 +2,17 @@
 use Rattle.qss_run.proofs.Common
 use Common.{[], ℕ, ℤ, ◌*ℤ◌, ◌+ℤ◌, ◌+◌, ◌<◌, ◌∙◌, ◌≡◌, ◌≢◌, All, ap, AreAlikeBut, AreNextLevels}
 use Common.{AreWeights, arith, Bool, Condition, condition_at, conditions, detector_at, due_at}
-use Common.{exceeds_row_limits, false, finish_tick, first_exceeding, FitsMachine, flag_at}
-use Common.{from_later, get_or-map, get_or_default, Global, handlers_at, HandlerState}
-use Common.{handling_from, if◌then◌else◌, int_at, int_at-tabulate, ints, is_some, IsChange}
-use Common.{IsDetectorAt, IsDue, IsLineWithinQuantum, IsRestartedFrom, IsScheduleOf, IsStep}
-use Common.{IsStoreAt, IsWithin, length, length-map-range_with_len, Less, level_unit, Line, line_at}
-use Common.{line_state_at, List, Machine, moved_is, moved_states, None, Ok, Option, option_or, pos}
-use Common.{position, quantum_of, refl, rises, Rule, slope_at, slopes_of, Snapshot, snapshot_of}
-use Common.{snapshot_unless, Some, speed_of, state_at, state_count, states_at, Store, subst, sym}
-use Common.{tabulate, tabulate-same, true, truth, truths, value_of, Vec, vec_capacity}
+use Common.{exceeds_row_limits, false, first_exceeding, FitsMachine, flag_at, from_later}
+use Common.{get_or-map, get_or_default, Global, handlers_at, HandlerState, handling_from}
+use Common.{if◌then◌else◌, int_at, int_at-tabulate, ints, is_some, IsChange, IsDetectorAt, IsDue}
+use Common.{IsLineWithinQuantum, IsRestartedFrom, IsScheduleOf, IsStep, IsStoreAt, IsWithin, length}
+use Common.{length-map-range_with_len, Less, level_unit, Line, line_at, line_state_at, List}
+use Common.{Machine, moved_is, moved_states, None, Ok, Option, option_or, pos, position, quantum_of}
+use Common.{refl, rises, Rule, slope_at, Snapshot, snapshot_of, snapshot_unless, Some, speed_of}
+use Common.{state_at, state_count, states_at, Store, subst, sym, tabulate, tabulate-same, true}
+use Common.{truth, truths, value_of, Vec, vec_capacity}
+use Rattle.qss_machine.specs.Ticks.{finish_tick}
+use Rattle.qss_events.specs.Schedules.{slopes_of}
 use Rattle.qss_quant.specs.IntegratorLines.{IsAway}
 use Rattle.mu_num.proofs.Tables.{tabulate-int_at}
 
@@ -143,7 +145,6 @@ stands_with m tick s moved changed stands moved_room changed_room =
         before = fits.before;
         room = record {
           moved = omega (arith, moved_room, fits.room.moved);
-          touched = fits.room.touched;
           changed = omega (arith, changed_room, fits.room.changed);
           fired = fits.room.fired;
           assigned = fits.room.assigned;

@@ -34,8 +34,7 @@ pub use Rattle.qss_quant.specs.declared.quantizer.Rule.TheVariants.{Floor}
 pub use Rattle.qss_rows.specs.RowTexts.{HasVariable}
 pub use Rattle.qss_rows.specs.Simulations.{is_whole}
 pub use Rattle.qss_sched.specs.Ranks.{HasNone, due_at}
-pub use Rattle.qss_states.specs.Advancing.{reached}
-pub use Rattle.qss_states.specs.EventContexts.{AreAllScheduled, CanUpdateSlopesOf, HasOneEach}
-pub use Rattle.qss_states.specs.LineReplacements.{replaced_lines_from}
+pub use Rattle.qss_states.specs.EventContexts.{HasOneEach}
+pub use Rattle.qss_states.specs.LineReplacements.{goes_from, replaced_lines_from}
 pub use Rattle.qss_states.specs.StateLines.{AreLinesAt, CanArriveWithin, HaveArrivedWithin, MayArrive, line_at, states_at, states_with}
 pub use Rattle.qss_states.specs.Variables.{AreDiscretes, AreSlopesOf, AreVariablesOf, AreWithin}

@@ -34,7 +34,6 @@ snapshot_of tick s = record {
 -- capacity for a tick: for all states and conditions, all assignments of handlers, and all rows
 pub record HasRoom (m : Machine) (s : Store) : Type 0 where
   pub moved : state_count m ≤ vec_capacity s.moved
-  pub touched : state_count m ≤ vec_capacity s.touched
   pub changed : length (conditions m) ≤ vec_capacity s.changed
   pub fired : length (conditions m) ≤ vec_capacity s.fired
   pub assigned : row_room m.clauses ≤ vec_capacity s.assigned

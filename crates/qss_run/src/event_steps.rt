@@ -1,10 +1,9 @@
 //! Advances a run from one event to the next: skips event-free ticks, and runs the event step of
-//! the tick after them. An event step evaluates conditions if some are due, and otherwise only
-//! gives new levels to the due states.
+//! the tick after them.
 
-ghost use Rattle.std.specs.Prelude.{◌≡◌, ◌+◌, ◌<◌, ◌^◌, if◌then◌else◌, ◌≢◌, ◌≤◌, ◌++◌, ◌-◌, [], ℕ, None, Some, length, All, true, false, vec_capacity, vec_len, List, Option};
-ghost use Rattle.qss_run.specs.Prelude.{overflow_of, list_any, firing_flags, conditions, state_count, slope_at, tabulate, due_at, states_with, line_at, states_at, MayArrive, replaced_lines_from, is_listed, state_rows, discrete_rows, snapshot_rows, last_snapshot, tick_rows, IsAllowedLevel, IsNext, tick_of, end_of, Snapshot, Rule, AreEventFree, IsVisit, variable_limit, tick_limit, AreStates, is_touched, reached, CanUpdateSlopesOf, AreAllScheduled, state_at};
-ghost use Rattle.qss_run.specs.Words.{IsUnderWay, snapshot_after, snapshot_of, IsStoreAt, HasDueRemoved, IsEventRun, CanContinueAfterHandlers, snapshot_left, KnowsApart, AreConditionsOf, AreDetectorsAt, HasPlaces, AreDue, AreChanging, AreMovedOut, HasRoomFor, IsTakenAfter, view_of, MovesTouched, touches_at};
+ghost use Rattle.std.specs.Prelude.{◌≡◌, ◌+◌, ◌<◌, ◌^◌, if◌then◌else◌, ◌≢◌, ◌≤◌, ◌++◌, ◌-◌, ℕ, None, Some, length, All, true, false, vec_capacity, vec_len, List, Option};
+ghost use Rattle.qss_run.specs.Prelude.{overflow_of, list_any, firing_flags, conditions, int_at, state_count, slope_at, tabulate, due_at, states_with, line_at, states_at, MayArrive, goes_from, replaced_lines_from, is_listed, state_rows, discrete_rows, snapshot_rows, last_snapshot, tick_rows, IsAllowedLevel, IsNext, tick_of, end_of, Snapshot, Rule, AreEventFree, IsVisit, variable_limit, tick_limit, is_touched, state_at};
+ghost use Rattle.qss_run.specs.Words.{IsUnderWay, snapshot_after, snapshot_of, IsStoreAt, HasDueRemoved, IsEventRun, CanContinueAfterHandlers, snapshot_left, KnowsApart, AreDue, AreChanging, AreMovedOut, HasRoomFor, IsTakenAfter, view_of, MovesTouched, touches_at};
 ghost use Rattle.qss_machine.specs.declared.machine_parts.RowKind.TheVariants as kind;
 
 use crate::condition_detectors::update_detectors_after_handlers;
@@ -17,8 +16,8 @@ use qss_machine::{Machine, Row, RowKind};
 use qss_quant::{Integrator, Quantizer, Steps};
 use qss_sched::Agenda;
 use qss_states::{
-    Arrival, EventLevels, HandlerArrival, HandlerResult, NewLevels, requantize_after_handlers,
-    requantize_moved, update_slopes_after_handlers, update_slopes_of,
+    HandlerArrival, HandlerResult, NewLevels, requantize_after_handlers,
+    update_slopes_after_handlers,
 };
 use std::sync::ledger::Ledger;
 
@@ -147,7 +146,8 @@ pub(crate) fn earliest_due_tick(agenda: &Agenda, last: u64) -> u64
 }
 
 /// Runs the tick after `tick`. The error is the variable that overflows. After an error the store
-/// is unspecified, except for the capacity for rows.
+/// is unspecified, except for the capacity for rows. The line and the due tick of a state that is
+/// not affected do not change.
 pub(crate) fn run_event<L: Ledger>(
     m: &Machine,
     q: &Quantizer,
@@ -156,8 +156,13 @@ pub(crate) fn run_event<L: Ledger>(
     steps: &mut Steps<L>,
 ) -> Result<(), Over>
     requires { IsUnderWay m.now tick s.old }
-    ensures { IsEventRun m.now q.now.name tick s.old s.new (overflow_of result) steps.old
+    ensures visited { IsEventRun m.now q.now.name tick s.old s.new (overflow_of result) steps.old
         steps.new }
+    ensures kept { overflow_of result ≡ None → (j : ℕ) → j < state_count m.now
+        → is_touched m.now (tick + 1) (snapshot_of tick s.old) (snapshot_of (tick + 1) s.new) j
+        ≡ false
+        → (line_at s.new.lines.items j ≡ line_at s.old.lines.items j)
+        × (due_at s.new.agenda j ≡ due_at s.old.agenda j) }
 {
     let states = s.lines.len() as u32;
     let conditions = s.conditions.branches.len() as u32;
@@ -175,11 +180,7 @@ pub(crate) fn run_event<L: Ledger>(
     );
     take_due_states(&mut s.agenda, tick + 1, states, &mut s.moved);
     take_due_conditions(&mut s.agenda, tick + 1, states, conditions, &mut s.changed);
-    if s.changed.is_empty() {
-        run_event_of_states(m, q, tick, s, steps)
-    } else {
-        run_event_with_conditions(m, q, tick, s, steps)
-    }
+    run_due_event(m, q, tick, s, steps)
 }
 
 /// Removes the states that are due at a tick from the event queue, and lists them in increasing
@@ -214,117 +215,11 @@ pub fn take_due_conditions(
     agenda.take_all(tick, states, conditions, changed);
 }
 
-/// Runs the tick after `tick`, at which no condition has to be evaluated. The due states are
-/// already removed from the event queue. The error is the variable that overflows. After an error
-/// the store is unspecified, except for the capacity for rows. The line and the due tick of a state
-/// that is not affected do not change.
-pub(crate) fn run_event_of_states<L: Ledger>(
-    m: &Machine,
-    q: &Quantizer,
-    tick: u64,
-    s: &mut Store,
-    steps: &mut Steps<L>,
-) -> Result<(), Over>
-    requires ready { HasDueRemoved m.now tick s.old }
-    requires none_changes { s.old.changed.items ≡ [] }
-    ensures visited { IsEventRun m.now q.now.name tick s.old s.new (overflow_of result) steps.old
-        steps.new }
-    ensures kept { overflow_of result ≡ None → (j : ℕ) → j < state_count m.now
-        → is_touched m.now (tick + 1) (snapshot_of tick s.old) (snapshot_of (tick + 1) s.new) j ≡ false
-        → (line_at s.new.lines.items j ≡ line_at s.old.lines.items j)
-        × (due_at s.new.agenda j ≡ due_at s.old.agenda j) }
-    ensures touched_room { vec_capacity s.new.touched ≡ vec_capacity s.old.touched }
-{
-    let arrival = Arrival {
-        machine: m,
-        uses: &s.uses,
-        tick: tick + 1,
-        lines: s.lines.as_slice(),
-        moved: s.moved.as_slice(),
-    };
-    let levels = s.levels.as_mut_slice();
-    requantize_moved(&arrival, q, &s.work, levels, &mut s.weights, &mut s.rows)?;
-    let work = &s.work;
-    let event_levels = EventLevels {
-        event: NewLevels {
-            machine: m,
-            uses: &s.uses,
-            tick: tick + 1,
-            moved: s.moved.as_slice(),
-            levels: s.levels.as_slice(),
-        },
-        discretes: work.d.as_slice(),
-    };
-    continue_moved_states(
-        &event_levels,
-        s.slopes.as_mut_slice(),
-        s.lines.as_mut_slice(),
-        &mut s.touched,
-        &mut s.conditions,
-        &mut s.agenda,
-        steps,
-    );
-    let after_handlers = s.conditions.after_handlers.as_slice();
-    let at_arrival = s.conditions.at_arrival.as_mut_slice();
-    copy_settled_truths(true, after_handlers, at_arrival, &mut s.conditions.flipped);
-    Ok(())
-}
-
-// Continues the moved states and those whose rows read one of them from a tick at their new slopes.
-// It sets the new speeds of the detectors of the conditions that read these states. The lines and
-// due ticks of other states do not change.
-fn continue_moved_states<L: Ledger>(
-    at: &EventLevels,
-    slopes: &mut [i128],
-    lines: &mut [Integrator],
-    touched: &mut Vec<u32>,
-    condition_set: &mut Conditions,
-    agenda: &mut Agenda,
-    steps: &mut Steps<L>,
-)
-    requires ready { CanUpdateSlopesOf at.now slopes.old lines.old agenda.old }
-    requires room { state_count at.now.event.machine.now ≤ vec_capacity touched.old }
-    requires size_limit { AreStates (states_at lines.old at.now.event.tick) }
-    requires tick_limit { at.now.event.tick < tick_limit }
-    requires fits { AreConditionsOf at.now.event.machine.now condition_set.old }
-    requires places { HasPlaces at.now.event.machine.now agenda.old }
-    requires watched { AreDetectorsAt at.now.event.machine.now at.now.event.tick
-        (states_at lines.old at.now.event.tick) at.now.discretes.now
-        slopes.old condition_set.old.detectors.items agenda.old }
-    ensures gone_on { AreAllScheduled at.now slopes.new
-        (record { lines = lines.old; dues = agenda.old })
-        (record { lines = lines.new; dues = agenda.new }) steps.old steps.new }
-    ensures kept { (j : ℕ) → j < state_count at.now.event.machine.now
-        → is_listed (reached at.now.event.machine.now at.now.event.moved.now) j ≡ false
-        → (line_at lines.new j ≡ line_at lines.old j)
-        × (due_at agenda.new j ≡ due_at agenda.old j) }
-    ensures detectors { AreDetectorsAt at.now.event.machine.now at.now.event.tick
-        (states_at lines.old at.now.event.tick) at.now.discretes.now
-        slopes.new condition_set.new.detectors.items agenda.new }
-    ensures rest { condition_set.new
-        ≡ record condition_set.old { detectors = condition_set.new.detectors } }
-    ensures fits { AreConditionsOf at.now.event.machine.now condition_set.new }
-    ensures beyond { (place : ℕ)
-        → state_count at.now.event.machine.now + length (conditions at.now.event.machine.now)
-        ≤ place
-        → due_at agenda.new place ≡ due_at agenda.old place }
-    ensures room { vec_capacity touched.new ≡ vec_capacity touched.old }
-{
-    update_slopes_of(at, slopes, lines, touched, agenda, steps);
-    condition_set.update_detectors_of(
-        at.event.machine,
-        at.event.uses,
-        at.event.tick,
-        at.event.moved,
-        slopes,
-        agenda,
-    );
-}
-
 /// Runs the tick after `tick`. The due states and the conditions to be evaluated are already
 /// removed from the event queue. The error is the variable that overflows. After an error the
-/// store is unspecified, except for the capacity for rows.
-pub(crate) fn run_event_with_conditions<L: Ledger>(
+/// store is unspecified, except for the capacity for rows. A state that is not affected was not
+/// due, and its line and due tick do not change.
+pub(crate) fn run_due_event<L: Ledger>(
     m: &Machine,
     q: &Quantizer,
     tick: u64,
@@ -332,8 +227,14 @@ pub(crate) fn run_event_with_conditions<L: Ledger>(
     steps: &mut Steps<L>,
 ) -> Result<(), Over>
     requires { HasDueRemoved m.now tick s.old }
-    ensures { IsEventRun m.now q.now.name tick s.old s.new (overflow_of result) steps.old
+    ensures visited { IsEventRun m.now q.now.name tick s.old s.new (overflow_of result) steps.old
         steps.new }
+    ensures kept { overflow_of result ≡ None → (j : ℕ) → j < state_count m.now
+        → is_touched m.now (tick + 1) (snapshot_of tick s.old) (snapshot_of (tick + 1) s.new) j
+        ≡ false
+        → (line_at s.new.lines.items j ≡ line_at s.old.lines.items j)
+        × (due_at s.new.agenda j ≡ due_at s.old.agenda j)
+        × (is_listed s.old.moved.items j ≡ false) }
 {
     let at = ChangedConditions {
         machine: m,
@@ -376,6 +277,12 @@ fn continue_after_handlers<L: Ledger>(m: &Machine, tick: u64, s: &mut Store, ste
     ensures stands { IsStoreAt m.now tick s.new }
     ensures snapshot { snapshot_of tick s.new ≡ snapshot_left m.now tick s.old }
     ensures rows { s.new.rows ≡ s.old.rows }
+    ensures kept { (j : ℕ) → j < state_count m.now
+        → goes_from tick
+        (int_at (states_with s.old.lines.items tick s.old.moved.items s.old.work.x) j)
+        (int_at s.old.levels.items j) (slope_at m.now j s.old.levels.items s.old.work.d)
+        (line_at s.old.lines.items j) ≡ true
+        → line_at s.new.lines.items j ≡ line_at s.old.lines.items j }
     ensures counted { steps.new
         ≡ steps.old
         + replaced_lines_from (state_count m.now) tick

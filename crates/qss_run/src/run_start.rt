@@ -20,9 +20,8 @@ use std::alloc::{AllocError, Global};
 /// absolute row sums, or a bound up to which no row exceeds its limits. `uses`: the rows and
 /// conditions that read each variable. `agenda`: the event queue, with an index for each state,
 /// then for each condition, then one for conditions that became true during the handlers (`rising`:
-/// whether one did). Buffers for one tick: `moved` (due and reinitialized states), `touched`
-/// (affected states), `changed` (conditions to be evaluated), `fired` (due branches), `assigned`
-/// (discrete variables).
+/// whether one did). Buffers for one tick: `moved` (due and reinitialized states), `changed`
+/// (conditions to be evaluated), `fired` (due branches), `assigned` (discrete variables).
 #[derive(Drop)]
 pub(crate) struct Store {
     pub conditions: Conditions,
@@ -32,7 +31,6 @@ pub(crate) struct Store {
     pub slopes: Vec<i128>,
     pub weights: Weights,
     pub moved: Vec<u32>,
-    pub touched: Vec<u32>,
     pub changed: Vec<u32>,
     pub fired: Vec<u32>,
     pub assigned: Vec<u32>,
@@ -62,7 +60,7 @@ fn blank_run_store(alloc: Global, m: &Machine) -> Result<Store, AllocError>
     let levels = event_start_levels(alloc, m)?;
     let states = levels.len();
     let conditions = condition_set.branches.len();
-    let (moved, changed, fired, assigned, touched) = start_number_lists(
+    let (moved, changed, fired, assigned) = start_number_lists(
         alloc,
         states,
         conditions,
@@ -89,32 +87,29 @@ fn blank_run_store(alloc: Global, m: &Machine) -> Result<Store, AllocError>
         rising: false,
         agenda,
         rows,
-        touched,
         work,
     })
 }
 
 // Empty lists with capacity for the indices of moved states, of changed conditions, of due
-// branches, of assigned variables and of touched states.
+// branches and of assigned variables.
 fn start_number_lists(
     alloc: Global,
     states: usize,
     conditions: usize,
     assigned: usize,
-) -> Result<(Vec<u32>, Vec<u32>, Vec<u32>, Vec<u32>, Vec<u32>), AllocError>
+) -> Result<(Vec<u32>, Vec<u32>, Vec<u32>, Vec<u32>), AllocError>
     ensures { IfOk result
         (λ lists. (vec_capacity lists.0 ≡ states)
         × (vec_capacity lists.1 ≡ conditions)
         × (vec_capacity lists.2 ≡ conditions)
-        × (vec_capacity lists.3 ≡ assigned)
-        × (vec_capacity lists.4 ≡ states)) }
+        × (vec_capacity lists.3 ≡ assigned)) }
 {
     let moved = Vec::with_capacity(alloc, states)?;
     let changed = Vec::with_capacity(alloc, conditions)?;
     let fired = Vec::with_capacity(alloc, conditions)?;
     let assigned = Vec::with_capacity(alloc, assigned)?;
-    let touched = Vec::with_capacity(alloc, states)?;
-    Ok((moved, changed, fired, assigned, touched))
+    Ok((moved, changed, fired, assigned))
 }
 
 // For each state: a placeholder line, the slope 0 and the absolute row sum 0.

@@ -1,12 +1,12 @@
 -- Names from outside the lemmas of this crate that several of its proofs cite, passed on from one place.
-pub use Rattle.std.proofs.Common.{[], ℕ, ℤ, ◌&&◌, ◌*ℤ◌, ◌*◌, ◌++◌, ◌+ℤ◌, ◌+◌, ◌-ℤ◌, ◌-◌, ◌<◌, ◌==◌}
-pub use Rattle.std.proofs.Common.{◌^◌, ◌∙◌, ◌∷◌, ◌≡◌, ◌≢◌, ◌≤ℤ◌, ◌≤◌, ◌⊎◌, ap, append-nil}
-pub use Rattle.std.proofs.Common.{append_assoc, ap₂, arith, below_more, Bool, count_by, eqb, false}
-pub use Rattle.std.proofs.Common.{flat_map, get_or, inl, inr, length, List, not, pos, refl, rules}
-pub use Rattle.std.proofs.Common.{set, subst, sym, take, true}
+pub use Rattle.std.proofs.Common.{[], ℕ, ℤ, ◌*ℤ◌, ◌*◌, ◌++◌, ◌+ℤ◌, ◌+◌, ◌-ℤ◌, ◌-◌, ◌<◌, ◌==◌, ◌^◌}
+pub use Rattle.std.proofs.Common.{◌∙◌, ◌∷◌, ◌≡◌, ◌≢◌, ◌≤ℤ◌, ◌≤◌, ◌⊎◌, ap, append-nil, append_assoc}
+pub use Rattle.std.proofs.Common.{ap₂, arith, below_more, Bool, count_by, eqb, false, flat_map}
+pub use Rattle.std.proofs.Common.{get_or, inl, inr, length, List, not, pos, refl, rules, set, subst}
+pub use Rattle.std.proofs.Common.{sym, take, true}
 pub use Rattle.std.proofs.Math.IntN.{pos-*ℤ-pos, zero-*ℤ}
-pub use Rattle.std.proofs.lemmas.Bool.{and_parts, cases_Bool, cases_eq, cases_lt, eq-eqb, eqb-false}
-pub use Rattle.std.proofs.lemmas.Bool.{eqb-true, iff_false, or_cases, or_left, or_parts, or_right}
+pub use Rattle.std.proofs.lemmas.Bool.{and_parts, cases_Bool, cases_eq, cases_lt, eqb-false}
+pub use Rattle.std.proofs.lemmas.Bool.{iff_false, or_cases, or_parts}
 pub use Rattle.std.proofs.lemmas.Bool.Decides.{Decides-int_eq, nat_tests}
 pub use Rattle.std.proofs.lemmas.Int.{ints, to_z-of_z, unsigned_abs-mul}
 pub use Rattle.std.proofs.lemmas.List.{get_or-set_other, get_or-set_same, get_or_default}
@@ -21,15 +21,14 @@ pub use Rattle.std.specs.List.{position, range_with_len, sum_by}
 pub use Rattle.std.specs.List.Sorted.{IsStrictlyIncreasing}
 pub use Rattle.std.specs.Option.{option_or}
 pub use Rattle.std.specs.Ordering.{int_eq}
-pub use Rattle.std.specs.Prelude.{◌||◌, All, Err, if◌then◌else◌, is_some, None, Option, Some}
+pub use Rattle.std.specs.Prelude.{◌||◌, All, if◌then◌else◌, is_some, None, Option, Some}
 pub use Rattle.std.specs.Prelude.{vec_capacity, vec_len}
 pub use mir.Syntax.{w128, w64}
 pub use mir.Val.{of_z, to_z}
 pub use Rattle.mu_num.proofs.Integers.{add-mul}
 pub use Rattle.mu_num.proofs.RisingNumbers.{few_numbers, not_before}
-pub use Rattle.mu_num.proofs.SizeTests.{passes-within}
 pub use Rattle.mu_num.proofs.Tables.{int_at-tabulate}
-pub use Rattle.mu_num.proofs.Tests.{if-false}
+pub use Rattle.mu_num.proofs.Tests.{eqb-true, if-false}
 pub use Rattle.mu_num.proofs.Writes.{among_at, among_more, index_of, written_all, written_more}
 pub use Rattle.mu_num.proofs.Writes.{written_on}
 pub use Rattle.mu_num.specs.IndexedSums.{abs_of, first_exceeding, int_at, sum_over, tabulate}
@@ -38,9 +37,8 @@ pub use Rattle.mu_num.specs.Sizes.{exceeds, IsWithin}
 pub use Rattle.mu_num.specs.Writes.{IsFirstOf, IsWritten}
 pub use Rattle.qss_sched.specs.Ranks.{due_at}
 pub use Rattle.qss_machine.proofs.Among.{among_readers, lists_more}
-pub use Rattle.qss_machine.proofs.KeptReaders.{coefficients_kept, coefficients_many, rows_below}
-pub use Rattle.qss_machine.proofs.KeptReaders.{rows_kept, rows_kept_all, rows_many}
-pub use Rattle.qss_machine.proofs.Unread.{unread_at, unread_overweight, unread_slope}
+pub use Rattle.qss_machine.proofs.KeptReaders.{rows_below, rows_kept, rows_kept_all, rows_many}
+pub use Rattle.qss_machine.proofs.Unread.{unread_at, unread_slope}
 pub use Rattle.qss_machine.specs.MachineLimits.{IsRow}
 pub use Rattle.qss_machine.specs.Machines.{discrete_count, level_unit, mode_coefficient_at}
 pub use Rattle.qss_machine.specs.Machines.{quantum_of, row_at, row_coefficient, slope_at}
@@ -55,21 +53,16 @@ pub use Rattle.qss_machine.specs.declared.machine_parts.Product.{Product}
 pub use Rattle.qss_machine.specs.declared.machine_parts.Row.{Row}
 pub use Rattle.qss_machine.specs.declared.machine_parts.SlopeRow.{SlopeRow}
 pub use Rattle.qss_quant.specs.IntegratorLines.{IsLineWithinQuantum, Line, state_at}
-pub use Rattle.qss_hand.specs.Values.{Values}
 pub use Rattle.qss_hand.specs.Works.{overflow_of}
-pub use Rattle.qss_hand.specs.declared.handler_statements.Over.{Over}
-pub use Rattle.qss_events.proofs.DueFirsts.{first_of, none_of}
 pub use Rattle.qss_events.proofs.Firsts.{first_is}
 pub use Rattle.qss_events.proofs.LevelRows.{row_of}
 pub use Rattle.qss_events.proofs.LightRows.{row_is_light}
 pub use Rattle.qss_events.proofs.Lines.{line_here}
-pub use Rattle.qss_events.proofs.Overs.{all_within, clash}
-pub use Rattle.qss_events.proofs.Ranges.{none_passes, position-none}
+pub use Rattle.qss_events.proofs.Overs.{all_within}
+pub use Rattle.qss_events.proofs.Ranges.{position-none}
 pub use Rattle.qss_events.specs.AllowedLevels.{IsAllowedLevel}
 pub use Rattle.qss_events.specs.Schedules.{IsDue, no_line, no_row, weights_at}
-pub use Rattle.qss_states.specs.Advancing.{Advancing, advancing_of, behind, HaveAdvanced, IsAlong}
-pub use Rattle.qss_states.specs.Advancing.{reached}
-pub use Rattle.qss_states.specs.EventContexts.{AreMovedTo}
+pub use Rattle.qss_states.specs.EventContexts.{AreMovedTo, HasLeft}
 pub use Rattle.qss_states.specs.KeptWeights.{AreWeights}
 pub use Rattle.qss_states.specs.LevelChanges.{AreRequantized}
 pub use Rattle.qss_states.specs.LineReplacements.{goes_from, has_level_and_slope, IsCounted}
@@ -78,8 +71,8 @@ pub use Rattle.qss_states.specs.RowLimits.{IsLeastPast, IsWeighed}
 pub use Rattle.qss_states.specs.RowSums.{AreSumsBefore, IsSumAfterLevelChange, sum_at, taken_by}
 pub use Rattle.qss_states.specs.SafeBounds.{AllowsBound, AreSmall, AreUpToAt, excess, half_limit}
 pub use Rattle.qss_states.specs.SafeBounds.{IsSafeBound, IsUpTo}
-pub use Rattle.qss_states.specs.SlopeUpdates.{AreScheduled, HaveSlopesUpdated, IsOneScheduled}
-pub use Rattle.qss_states.specs.SlopeUpdates.{MayUpdateSlope, Schedules}
+pub use Rattle.qss_states.specs.SlopeUpdates.{AreScheduled, HaveSlopesUpdated, MayUpdateSlope}
+pub use Rattle.qss_states.specs.SlopeUpdates.{Schedules}
 pub use Rattle.qss_states.specs.StateLines.{IsRestartedFrom, line_at, states_at, states_with}
 pub use Rattle.qss_states.specs.SumMarks.{AreMarked, AreReaderSums, IsSlopeAt, listed_rows}
 pub use Rattle.qss_states.specs.Variables.{AreAssigned}

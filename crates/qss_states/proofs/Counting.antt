@@ -82,15 +82,3 @@ none_below (suc n) p h =
 
 pub count_none : (n : ℕ) (p : ℕ → Bool) → ((j : ℕ) → j < n → p j ≡ false) → count_by p (range_with_len 0 n) ≡ 0
 count_none n p h = count_is n p ∙ none_below n p h
-
-one_few : (b : Bool) → one_if b ≤ 1
-one_few true = omega arith
-one_few false = omega arith
-
-few_below : (n : ℕ) (p : ℕ → Bool) → below n p ≤ n
-few_below zero p = omega arith
-few_below (suc n) p = omega (arith, few_below n p, one_few (p n))
-
--- no more than all pass
-pub count_few : (n : ℕ) (p : ℕ → Bool) → count_by p (range_with_len 0 n) ≤ n
-count_few n p = omega (arith, count_is n p, few_below n p)

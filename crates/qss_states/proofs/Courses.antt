@@ -1,14 +1,13 @@
 -- States of which some go on at new slopes, step by step.
 use Rattle.qss_states.proofs.Common
 use Common.{[], ℕ, ℤ, ◌++◌, ◌+◌, ◌<◌, ◌==◌, ◌∙◌, ◌∷◌, ◌≡◌, among_more, ap, AreScheduled, arith}
-use Common.{cases_eq, due_at, eqb, eqb-false, false, get_or, get_or-set_other, get_or-set_same}
-use Common.{has_level_and_slope, HaveSlopesUpdated, inl, inr, int_at, is_listed}
-use Common.{IsLineWithinQuantum, IsOneScheduled, IsRestartedFrom, IsWithin, length, length-set}
-use Common.{level_unit, Line, line_at, List, list_any-append, Machine, MayUpdateSlope, no_line}
-use Common.{None, Option, or_cases, or_parts, quantum_of, refl, Schedules, set, state_at}
-use Common.{state_count, subst, sym, take, true}
-use Rattle.mu_num.proofs.Tests.{eqb-true}
-use Rattle.qss_states.specs.SlopeUpdates.{StaysOrRestarts}
+use Common.{cases_eq, due_at, eqb, eqb-false, eqb-true, false, get_or, get_or-set_other}
+use Common.{get_or-set_same, has_level_and_slope, HaveSlopesUpdated, inl, inr, int_at, is_listed}
+use Common.{IsLineWithinQuantum, IsRestartedFrom, IsWithin, length, length-set, level_unit, Line}
+use Common.{line_at, List, list_any-append, Machine, MayUpdateSlope, no_line, None, Option}
+use Common.{or_cases, or_parts, quantum_of, refl, Schedules, set, state_at, state_count, subst, sym}
+use Common.{take, true}
+use Rattle.qss_states.specs.SlopeUpdates.{IsOneScheduled, StaysOrRestarts}
 
 -- ---- one state
 
@@ -27,7 +26,9 @@ module _ (m : Machine) (tick : ℕ) (level slope : ℤ) (j : ℕ) where
     not_later = goes_on.not_later;
     small = subst (IsWithin 88) (sym goes_on.here) may.small;
     near = subst (λ x. IsLineWithinQuantum (level_unit m) x level (quantum_of m j level)) (sym goes_on.here) may.near;
-    due = λ e. goes_on.is_due;
+    own_level = goes_on.own_level;
+    is_set = λ e. goes_on.own_slope;
+    is_due = goes_on.is_due;
   }
 
   -- a line at its new slope stays at it

@@ -83,15 +83,6 @@ module _ (tick : ℕ) (lines : List Line) (moved : List ℕ) (numbers : AreRisin
           subst (IsWithin 88) (int_at-states_at lines tick j inside ∙ sym (at_arrival.each j e)) (all_within 88 (states_at lines tick) none j (pos 0) known)
       by_among j h (inr e) = subst (IsWithin 88) (sym (at_arrival.others j e)) (small j (pos 0) (omega (arith, h, at_arrival.as_many)))
 
--- the states at a tick, where those that did not move are near their levels
-pub arrived_at : (m : Machine) (tick : ℕ) (lines : List Line) (moved : List ℕ) (levels : List ℤ) → length lines ≡ state_count m →
-    ((j : ℕ) → j < state_count m → is_listed moved j ≡ false → is_within_quantum m j (state_at (line_at lines j) tick) (int_at levels j) ≡ true) → AreMovedTo m moved (states_at lines tick) levels (states_at lines tick)
-arrived_at m tick lines moved levels as_many near = record {
-  as_many = length-states_at lines tick ∙ as_many;
-  own = λ j e. refl;
-  near = λ j h e. ap (λ z. is_within_quantum m j z (int_at levels j)) (int_at-states_at lines tick j (omega (arith, h, as_many))) ∙ near j h e;
-}
-
 module _ (m : Machine) (moved : List ℕ) (x old fresh : List ℤ) (numbers : AreRisingBelow (state_count m) moved) (many : length old ≡ state_count m) (off : DiffersOnlyAt moved old fresh) where
   -- the first moved state whose level passes a limit is the first of all
   pub levels_over : (first : Option ℕ) → All (IsWithin 43) old → IsFirstOf (λ j. exceeds 43 (int_at fresh j)) moved first → first ≡ first_exceeding 43 fresh

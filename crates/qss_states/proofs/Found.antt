@@ -1,8 +1,8 @@
 -- The first of some numbers that passes a test, while they are gone through.
 use Rattle.qss_states.proofs.Common
-use Common.{ℕ, ◌+◌, ◌<◌, ◌≡◌, ◌≤◌, below_more, Bool, false, first_of, get_or, if◌then◌else◌}
-use Common.{IsFirstOf, IsStrictlyIncreasing, length, List, None, none_of, Option, option_or, Some}
-use Common.{true}
+use Common.{ℕ, ◌+◌, ◌<◌, ◌≡◌, ◌≤◌, below_more, Bool, false, get_or, if◌then◌else◌, IsFirstOf}
+use Common.{IsStrictlyIncreasing, length, List, None, Option, option_or, Some, true}
+use Rattle.qss_events.proofs.DueFirsts.{first_of, none_of}
 
 -- none of the first i numbers passed, or the one that was found is the first of all
 abbrev pub IsFoundIn : (ℕ → Bool) → List ℕ → ℕ → Option ℕ → Type 0

@@ -2,10 +2,11 @@
 use Rattle.qss_states.proofs.Common
 use Common.{ℕ, ℤ, ◌+◌, ◌<◌, ◌∙◌, ◌≡◌, ◌≢◌, All, ap, arith, below_more, Bool, due_at}
 use Common.{exceeds_row_limits, FitsSigned, get_or, get_or-map-range_with_len, get_or-set_other}
-use Common.{get_or-set_same, get_or_default, int_at, ints, IsLineWithinQuantum, IsRestartedFrom}
-use Common.{IsWithin, length, length-map-range_with_len, level_unit, Line, line_at, List, Machine}
-use Common.{no_line, None, of_z, Option, pos, quantum_of, row_is_light, set, slope_at, state_at}
-use Common.{state_count, subst, sym, tabulate, to_z, to_z-of_z, true, w128, w64}
+use Common.{get_or-set_same, get_or_default, int_at, ints, IsDue, IsLineWithinQuantum}
+use Common.{IsRestartedFrom, IsWithin, length, length-map-range_with_len, level_unit, Line, line_at}
+use Common.{line_here, List, Machine, no_line, None, of_z, Option, pos, quantum_of, refl}
+use Common.{row_is_light, set, slope_at, state_at, state_count, subst, sym, tabulate, to_z}
+use Common.{to_z-of_z, true, w128, w64}
 use Rattle.std.specs.Bool.{IsTrue}
 use Rattle.std.specs.Prelude.{position}
 use Rattle.qss_states.specs.EventContexts.{AreStatesOf, CanSchedule, CanScheduleOne}
@@ -85,3 +86,36 @@ module _ {at : NewSlopes} {j : ℕ} {lines : List Line} {dues : List (Option ℕ
 pub near_along : (m : Machine) (j : ℕ) (x y l k : ℤ) → x ≡ y → l ≡ k → IsLineWithinQuantum (level_unit m) y k (quantum_of m j k) → IsLineWithinQuantum (level_unit m) x l (quantum_of m j l)
 near_along m j x y l k same own near =
     subst (λ z. IsLineWithinQuantum (level_unit m) z l (quantum_of m j l)) (sym same) (subst (λ v. IsLineWithinQuantum (level_unit m) y v (quantum_of m j v)) (sym own) near)
+
+-- ---- one state goes on
+
+-- a line at its tick
+own_state : (tick : ℕ) (line : Line) → line.tick ≡ tick → state_at line tick ≡ line.x
+own_state tick line here = subst (λ (t : ℕ). state_at line t ≡ line.x) here (line_here line.tick line.x line.slope line.level)
+
+-- a line at a slope and a level, which are these
+pub line_with : (line old new : Line) (slope level s l : ℤ) → old ≡ line → s ≡ slope → l ≡ level → new ≡ record old { slope = s; level = l } → new ≡ record line { slope = slope; level = level }
+line_with line old new slope level s l of_line of_slope of_level is =
+    is ∙ ap (λ (i : Line). record i { slope = s; level = l }) of_line ∙ ap (λ (z : ℤ). record line { slope = z; level = l }) of_slope
+    ∙ ap (λ (z : ℤ). record line { slope = slope; level = z }) of_level
+
+module _ (m : Machine) (tick j : ℕ) (slope level : ℤ) (line new : Line) (here : line.tick ≡ tick) (is : new ≡ record line { slope = slope; level = level }) where
+  -- it is near its level
+  pub near_on : IsLineWithinQuantum (level_unit m) (state_at line tick) level (quantum_of m j level) → IsLineWithinQuantum (level_unit m) new.x new.level (quantum_of m j new.level)
+  near_on near =
+      subst (λ (l : Line). IsLineWithinQuantum (level_unit m) l.x l.level (quantum_of m j l.level)) (sym is)
+      (subst (λ (x : ℤ). IsLineWithinQuantum (level_unit m) x level (quantum_of m j level)) (own_state tick line here) near)
+
+  -- and goes on with its due tick
+  pub goes_on_from : (due : Option ℕ) → IsDue m new.tick j new due → IsRestartedFrom m tick (state_at line tick) level slope j new due
+  goes_on_from due found =
+      let after : Line = record line { slope = slope; level = level } in
+      let from_own : IsDue m line.tick j after due = subst (λ (l : Line). IsDue m l.tick j l due) is found in
+      subst (λ (l : Line). IsRestartedFrom m tick (state_at line tick) level slope j l due) (sym is)
+      (record {
+        not_later = omega (arith, here);
+        here = own_state tick after here ∙ sym (own_state tick line here);
+        own_slope = refl;
+        own_level = refl;
+        is_due = subst (λ (t : ℕ). IsDue m t j after due) here from_own;
+      })

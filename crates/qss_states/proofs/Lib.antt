@@ -16,5 +16,4 @@ mod Terms
 mod Allowed
 mod Found
 mod Taken
-pub mod Gathering
 mod Kept

@@ -1,8 +1,9 @@
 -- Sums that are marked and then computed, each once.
 use Rattle.qss_states.proofs.Common
 use Common.{[], ℕ, ℤ, ◌+◌, ◌<◌, ◌∙◌, ◌∷◌, ◌≡◌, among_more, append-nil, AreMarked, arith, cases_Bool}
-use Common.{eqb, eqb-true, flat_map, get_or, inl, inr, int_at, is_listed, IsWritten, length, List}
-use Common.{or_cases, or_parts, pos, subst, sym, take, true}
+use Common.{eqb, flat_map, get_or, inl, inr, int_at, is_listed, IsWritten, length, List, or_cases}
+use Common.{or_parts, pos, subst, sym, take, true}
+use Rattle.std.proofs.lemmas.Bool.{eqb-true}
 use Rattle.std.proofs.lemmas.List.Folds.{list_any_at}
 use Rattle.qss_machine.proofs.Among.{among_all}
 use Rattle.qss_states.specs.SumMarks.{AreMarkedOr}

@@ -1,9 +1,11 @@
 -- How often lines go on otherwise.
 use Rattle.qss_states.proofs.Common
-use Common.{ℕ, ℤ, ◌&&◌, ◌+◌, ◌<◌, ◌∙◌, ◌≡◌, ◌≢◌, ◌≤◌, and_parts, ap, arith, Bool, cases_Bool}
-use Common.{count_by, Decides-int_eq, false, goes_from, has_level_and_slope, inl, inr, int_at}
-use Common.{int_eq, IsAlong, Line, line_at, line_here, List, not, range_with_len, refl}
-use Common.{replaced_lines, state_at, subst, sym, true}
+use Common.{ℕ, ℤ, ◌+◌, ◌<◌, ◌∙◌, ◌≡◌, ◌≢◌, ◌≤◌, and_parts, ap, arith, Bool, cases_Bool, count_by}
+use Common.{Decides-int_eq, false, goes_from, has_level_and_slope, inl, inr, int_at, int_eq, Line}
+use Common.{line_at, line_here, List, not, range_with_len, refl, replaced_lines, state_at, subst}
+use Common.{sym, true}
+use Rattle.std.proofs.Common.{◌&&◌}
+use Rattle.qss_states.specs.LineReplacements.{IsAlong}
 use Rattle.std.proofs.lemmas.Bool.{and_from, not_from_true}
 use Rattle.qss_states.proofs.Counting.{one_if, count_none, count_one}
 

@@ -58,21 +58,31 @@ module _ (m : Machine) (tick : ℕ) (x levels slopes : List ℤ) (moved : List �
       ]
 
   -- and may go on at another slope
-  pub may_reslope_seated : All (IsWithin 88) states → (j : ℕ) → j < state_count m → (line_at first.lines j).tick ≤ tick →
+  pub may_reslope_seated : All (IsWithin 88) states → (j : ℕ) → j < state_count m → (line_at first.lines j).tick < tick →
+      (is_listed moved j ≡ false → (line_at first.lines j).level ≡ int_at levels j) →
       IsLineWithinQuantum (level_unit m) (int_at states j) (int_at levels j) (quantum_of m j (int_at levels j)) →
       (is_listed moved j ≡ false → (line_at first.lines j).level ≡ int_at levels j → IsDue m tick j (line_at first.lines j) (due_at first.dues j)) →
       MayUpdateSlope m tick (int_at levels j) (int_at slopes j) j (line_at between.lines j) (due_at between.dues j)
-  may_reslope_seated small j h begun near due =
+  may_reslope_seated small j h earlier own_level near due =
+      let begun : (line_at first.lines j).tick ≤ tick = omega (arith, earlier) in
       let all : length states ≡ state_count m = length-map-range_with_len (λ k. if is_listed moved k then int_at x k else state_at (line_at first.lines k) tick) 0 (length first.lines) ∙ many in
       record {
         not_later = still_begun m tick x levels slopes moved first between on j begun;
         small = subst (IsWithin 88) (sym (at_state j h)) (small j (pos 0) (omega (arith, h, all)));
         near = subst (λ z. IsLineWithinQuantum (level_unit m) z (int_at levels j) (quantum_of m j (int_at levels j))) (sym (at_state j h)) near;
-        due = λ own_level. elim (cases_Bool (is_listed moved j)) [
+        own_level = elim (cases_Bool (is_listed moved j)) [
+          | inl among ↦ (on.own j among).own_level
+          | inr none ↦ ap (λ (l : Line). l.level) (on.others.lines j none) ∙ own_level none
+        ];
+        is_set = λ here. elim (cases_Bool (is_listed moved j)) [
+          | inl among ↦ (on.own j among).own_slope
+          | inr none ↦ absurd (omega (arith, earlier, here, ap (λ (l : Line). l.tick) (on.others.lines j none)))
+        ];
+        is_due = elim (cases_Bool (is_listed moved j)) [
           | inl among ↦ (on.own j among).is_due
           | inr none ↦
               subst (λ (l : Line). IsDue m tick j l (due_at between.dues j)) (sym (on.others.lines j none))
-              (subst (IsDue m tick j (line_at first.lines j)) (sym (on.others.dues.others j none)) (due none (ap (λ (l : Line). l.level) (sym (on.others.lines j none)) ∙ own_level)))
+              (subst (IsDue m tick j (line_at first.lines j)) (sym (on.others.dues.others j none)) (due none (own_level none)))
         ];
       }
 

@@ -1,8 +1,8 @@
 -- Sums of rows where states take their levels one after another.
 use Rattle.qss_states.proofs.Common
 use Common.{[], ℕ, ℤ, ◌*ℤ◌, ◌+ℤ◌, ◌+◌, ◌-ℤ◌, ◌<◌, ◌==◌, ◌^◌, ◌∙◌, ◌∷◌, ◌≡◌, ◌≢◌, ◌≤◌, abs_of, ap}
-use Common.{AreRisingBelow, arith, cases_Bool, DiffersOnlyAt, exceeds_row_limits, false, get_or}
-use Common.{get_or-set_other, get_or-set_same, inl, inr, int_at, int_at-tabulate, is_listed}
+use Common.{AreRisingBelow, arith, cases_Bool, DiffersOnlyAt, eqb-true, exceeds_row_limits, false}
+use Common.{get_or, get_or-set_other, get_or-set_same, inl, inr, int_at, int_at-tabulate, is_listed}
 use Common.{IsSumAfterLevelChange, IsWithin, IsWritten, length, length-map, length-set, Line, List}
 use Common.{Machine, mode_coefficient, mode_coefficient_at, None, or_cases, or_parts, pos}
 use Common.{reading_coefficients, reading_rows, refl, row_at, row_coefficient, row_is_light}
@@ -12,7 +12,7 @@ use Rattle.std.proofs.Common.{fold}
 use Rattle.std.proofs.lemmas.List.{get_or-map}
 use Rattle.std.proofs.lemmas.List.Sums.{fold-append}
 use Rattle.std.specs.Prelude.{unsigned_abs, position}
-use Rattle.mu_num.proofs.Tests.{eqb-true, eqb-false}
+use Rattle.mu_num.proofs.Tests.{eqb-false}
 use Rattle.qss_machine.proofs.Distinct.{coefficient_small}
 use Rattle.qss_states.specs.declared.row_sum_changes.RowSum.{RowSum}
 use Rattle.qss_states.specs.declared.row_sum_changes.RowSum.TheVariants.{Weight}

@@ -1,23 +1,19 @@
 -- States that take their new levels one after another.
 use Rattle.qss_states.proofs.Common
-use Common.{[], ℕ, ℤ, ◌++◌, ◌+◌, ◌<◌, ◌∙◌, ◌≡◌, ◌≢◌, ◌≤◌, ◌⊎◌, All, all_within, among_more, ap}
-use Common.{append-nil, append_assoc, AreMovedTo, AreRequantized, arith, Bool, DiffersOnlyAt}
-use Common.{eq-eqb, eqb, eqb-false, eqb-true, exceeds, false, first_exceeding, get_or}
-use Common.{get_or-set_other, get_or-set_same, if◌then◌else◌, index_of, inl, inr, int_at, is_listed}
-use Common.{IsAllowedLevel, IsFirstOf, IsNextLevel, IsStrictlyIncreasing, IsWithin, length}
-use Common.{length-set, level_rows, List, Machine, None, Option, option_or, or_cases, or_left}
-use Common.{or_parts, or_right, pos, refl, Row, row_of, set, Some, states_at, subst, sym, take}
-use Common.{take_all, true, written_more}
-use Rattle.qss_states.specs.LevelChanges.{AreRequantizedOnArrival, taken_row}
+use Common.{[], ℕ, ℤ, ◌++◌, ◌+◌, ◌<◌, ◌∙◌, ◌≡◌, ◌≢◌, ◌≤◌, ◌⊎◌, among_more, ap, append-nil}
+use Common.{append_assoc, AreRequantized, arith, Bool, DiffersOnlyAt, eqb, eqb-false, exceeds}
+use Common.{false, get_or, get_or-set_other, get_or-set_same, if◌then◌else◌, index_of, inl, inr}
+use Common.{int_at, is_listed, IsAllowedLevel, IsFirstOf, IsNextLevel, IsStrictlyIncreasing, length}
+use Common.{length-set, List, Machine, None, Option, option_or, or_cases, or_parts, pos, refl, Row}
+use Common.{row_of, set, Some, subst, sym, take, take_all, true, written_more}
+use Rattle.std.proofs.lemmas.Bool.{eq-eqb, eqb-true, or_left, or_right}
 use Rattle.std.proofs.lemmas.List.{get_or-take, length-take-le}
 use Rattle.std.proofs.lemmas.List.Kept.{AllPairs-from_increasing}
 use Rattle.std.specs.List.{flat_map}
 use Rattle.qss_quant.specs.declared.quantizer.Rule.{Rule}
 use Rattle.mu_num.proofs.RisingNumbers.{due_rows_more}
-use Rattle.qss_states.specs.declared.event_contexts.Arrival.{Arrival}
-use Rattle.qss_states.specs.EventContexts.{CanTakeOnArrival}
-use Rattle.qss_states.proofs.DueLevels.{same_rows, levels_over, levels_allowed, rows_of_moved}
-use Rattle.qss_states.proofs.DueLevels.{written_off, arrived_at}
+use Rattle.qss_states.specs.LevelChanges.{taken_row}
+use Rattle.qss_states.proofs.DueLevels.{same_rows}
 
 -- ---- one more of rising numbers
 
@@ -131,68 +127,3 @@ module _ (m : Machine) (name : Option Rule) (tick : ℕ) (states : List ℤ) (ol
   pub taken_all : (moved : List ℕ) (i : ℕ) (kept new : List ℤ) (rows : List Row) (first : Option ℕ) → length moved ≤ i → AreRequantized m name tick states (take i moved) old kept new before rows first →
       AreRequantized m name tick states moved old kept new before rows first
   taken_all moved i kept new rows first h done = subst (λ (places : List ℕ). AreRequantized m name tick states places old kept new before rows first) (take_all i moved h) done
-
--- ---- what all states then do
-
-module _ (at : Arrival) (name : Option Rule) (old kept : List ℤ) (before rows : List Row) (over : Option ℕ) (can : CanTakeOnArrival at old)
-    (passed : (var : ℕ) → first_exceeding 88 (states_at at.lines.now at.tick) ≡ Some var → over ≡ Some var)
-    (taken : first_exceeding 88 (states_at at.lines.now at.tick) ≡ None →
-    (new : List ℤ) × AreRequantized at.machine.now name at.tick (states_at at.lines.now at.tick) at.moved.now old kept new before rows over) where
-  abbrev states : List ℤ
-  states = states_at at.lines.now at.tick
-
-  are : AreMovedTo at.machine.now at.moved.now states old states
-  are = arrived_at at.machine.now at.tick at.lines.now at.moved.now old can.arrival.lines.up_to.as_many can.arrival.others_near
-
-  off : (none : first_exceeding 88 states ≡ None) → DiffersOnlyAt at.moved.now old (taken none).0
-  off none = written_off at.moved.now _ old old (taken none).0 refl (taken none).1.allowed
-
-  first : (none : first_exceeding 88 states ≡ None) → over ≡ first_exceeding 43 (taken none).0
-  first none = levels_over at.machine.now at.moved.now states old (taken none).0 can.arrival.lines.numbers can.levels (off none) over can.small_levels (taken none).1.found
-
-  -- the new levels, and what overflows
-  pub on_arrival : (new : List ℤ) × AreRequantizedOnArrival at name old kept new (first_exceeding 43 new) over
-  on_arrival = by_over (first_exceeding 88 states) refl
-    where
-      by_over : (o : Option ℕ) → first_exceeding 88 states ≡ o → (new : List ℤ) × AreRequantizedOnArrival at name old kept new (first_exceeding 43 new) over
-      by_over (Some var) e = (
-        old,
-        record {
-          over_is = passed var e ∙ sym (ap (λ o. option_or o (first_exceeding 43 old)) e);
-          allowed = λ none. let clash : Some var ≡ None = sym e ∙ none in absurd (cc);
-          others = record { as_many = refl; others = λ j other. refl };
-          levels = λ none. let clash : Some var ≡ None = sym (passed var e) ∙ none in absurd (cc);
-        },
-      )
-      by_over None e = (
-        (taken e).0,
-        record {
-          over_is = first e ∙ sym (ap (λ o. option_or o (first_exceeding 43 (taken e).0)) e);
-          allowed = λ none.
-              levels_allowed at.machine.now at.moved.now states old (taken e).0 can.arrival.lines.numbers can.levels (off e) states are (IsAllowedLevel name) (taken e).1.allowed.each;
-          others = off e;
-          levels = (taken e).1.levels;
-        },
-      )
-
-  -- where nothing overflows no state exceeded its limit
-  none_passed : over ≡ None → first_exceeding 88 states ≡ None
-  none_passed none = by_over (first_exceeding 88 states) refl
-    where
-      by_over : (o : Option ℕ) → first_exceeding 88 states ≡ o → first_exceeding 88 states ≡ None
-      by_over None e = e
-      by_over (Some var) e = let clash : Some var ≡ None = sym (passed var e) ∙ none in absurd (cc)
-
-  -- and the levels are within their limit, with their rows
-  pub small_then : over ≡ None → All (IsWithin 43) kept
-  small_then none =
-      let calm = none_passed none in
-      subst (All (IsWithin 43)) (sym ((taken calm).1.levels none)) (all_within 43 (taken calm).0 (sym (first calm) ∙ none))
-
-  pub rows_then : over ≡ None → rows ≡ before ++ level_rows at.tick old kept states
-  rows_then none =
-      let calm = none_passed none in
-      (taken calm).1.own_rows none
-      ∙ ap (λ (more : List Row). before ++ more)
-      (rows_of_moved at.machine.now at.moved.now states old (taken calm).0 can.arrival.lines.numbers can.levels (off calm) states are at.tick
-      ∙ ap (λ (l : List ℤ). level_rows at.tick old l states) (sym ((taken calm).1.levels none)))

@@ -4,9 +4,10 @@ use Common.{ℕ, ℤ, ◌++◌, ◌<◌, ◌||◌, ◌∙◌, ◌≡◌, among_r
 use Common.{cases_Bool, DiffersOnlyAt, discrete_count, exceeds, exceeds_row_limits, false}
 use Common.{fill_by_all, flat_map, inl, inr, int_at, int_at-tabulate, is_listed, IsWeighed}
 use Common.{IsWritten, length, length-map-range_with_len, List, list_any-append, Machine, mode_fits}
-use Common.{no_row, None, none_passes, not, or_parts, pos, position, reading_rows, row_at}
-use Common.{row_is_light, state_count, subst, sym, true, unread_at, unread_overweight, weight_at}
-use Common.{weights_at}
+use Common.{no_row, None, not, or_parts, pos, position, reading_rows, row_at, row_is_light}
+use Common.{state_count, subst, sym, true, unread_at, weight_at, weights_at}
+use Rattle.qss_events.proofs.Ranges.{none_passes}
+use Rattle.qss_machine.proofs.Unread.{unread_overweight}
 use Rattle.std.specs.Prelude.{MatchBool}
 use Rattle.qss_states.proofs.Assigned.{modes_stay, weight_stays, overweight_stays}
 

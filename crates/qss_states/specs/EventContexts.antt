@@ -24,12 +24,10 @@ use Rattle.qss_states.specs.declared.event_contexts.HandlerArrival.{HandlerArriv
 use Rattle.qss_states.specs.declared.event_contexts.Mode.{Mode}
 use Rattle.qss_states.specs.declared.event_contexts.NewLevels.{NewLevels}
 use Rattle.qss_states.specs.declared.event_contexts.NewSlopes.{NewSlopes}
-use Rattle.qss_states.specs.declared.event_contexts.EventLevels.{EventLevels}
 use Rattle.qss_states.specs.declared.kept_weights.Weights.{Weights}
 use Rattle.qss_states.specs.Variables.{AreAssignedFrom, AreWithin}
 use Rattle.qss_states.specs.StateLines.{states_at, states_with, line_at, AreLinesWithDue, MayMove}
 use Rattle.qss_states.specs.StateLines.{IsRestartedFrom}
-use Rattle.qss_states.specs.Advancing.{CanAdvance, reached}
 use Rattle.qss_states.specs.SlopeUpdates.{Schedules, MayUpdateSlope}
 use Rattle.qss_states.specs.KeptWeights.{AreWeights, AreWeightsBefore}
 use Rattle.qss_states.specs.RowSums.{sum_at, AreLevelsOfLines, HadSums}
@@ -89,17 +87,6 @@ pub record CanFollow (kind : RowSum) (at : NewLevels) (discretes sums : List ℤ
   pub many_lines : length lines ≡ state_count at.machine.now
   pub before : WereSums kind at discretes sums lines
 
--- the slopes of all rows, within 100 bits, may be updated for a new level of a state, and the
--- states of its readers be listed
-pub record CanFollowLevel (at : EventLevels) (state : ℕ) (slopes : List ℤ) (lines : List Line) (touched : List ℕ) (room : ℕ) : Type 0 where
-  pub new : AreNewLevels at.event
-  pub mode : IsMode (record { machine = at.event.machine; discretes = at.discretes })
-  pub known : state < state_count at.event.machine.now
-  pub many_slopes : length slopes ≡ state_count at.event.machine.now
-  pub small_slopes : (j : ℕ) → j < state_count at.event.machine.now → IsWithin 100 (int_at slopes j)
-  pub many_lines : length lines ≡ state_count at.event.machine.now
-  pub can : CanAdvance at.event.tick lines touched room
-
 -- absolute row sums and lines at the old levels, and at discrete values
 abbrev pub WereWeights : NewLevels → List ℤ → Weights → List Line → Type 0
 WereWeights at discretes weights lines =
@@ -122,31 +109,20 @@ pub record CanUpdateAfterHandlers (at : NewLevels) (left : HandlerResult) (lines
 abbrev pub HasLeft : Machine → ℕ → ℤ → ℤ → Type 0
 HasLeft m j state level = IsAway (level_unit m) state level (quantum_of m j level)
 
--- the moved states may arrive at a tick of a run: along their lines they leave the quanta of these
--- levels; the others exceed no limit and are within their quanta
-pub record CanArrive (at : Arrival) (levels : List ℤ) : Type 0 where
-  pub uses : at.uses.now ≡ uses_of at.machine.now
-  pub lines : AreLinesWithDue at.machine.now at.tick at.lines.now at.moved.now
-  pub moved_away : (j : ℕ) → is_listed at.moved.now j ≡ true →
-      HasLeft at.machine.now j (state_at (line_at at.lines.now j) at.tick) (int_at levels j)
-  pub others_near : (j : ℕ) → j < state_count at.machine.now → is_listed at.moved.now j ≡ false →
-      is_within_quantum at.machine.now j (state_at (line_at at.lines.now j) at.tick) (int_at levels j) ≡ true
-
--- the moved states may take new levels on such an arrival, from a level of each state, within the
--- limit
-pub record CanTakeOnArrival (at : Arrival) (levels_old : List ℤ) : Type 0 where
-  pub arrival : CanArrive at levels_old
-  pub levels : length levels_old ≡ state_count at.machine.now
-  pub small_levels : AreLevels levels_old
+-- these states are at least one quantum away from their levels
+abbrev pub HaveLeft : Machine → List ℕ → List ℤ → List ℤ → Type 0
+HaveLeft m moved x levels = (j : ℕ) → is_listed moved j ≡ true → HasLeft m j (int_at x j) (int_at levels j)
 
 -- the moved states may take new levels at these states, from a level of each state, within the
--- limits; after the rows so far there is capacity for one row of each state
-pub record CanRequantize (at : Arrival) (x levels_old : List ℤ) (taken capacity : ℕ) : Type 0 where
-  pub states : length x ≡ state_count at.machine.now
+-- limits; they have left their quanta, unless they may have joined; after the rows so far there is
+-- capacity for one row of each state
+pub record CanRequantize (at : Arrival) (levels_old : List ℤ) (taken capacity : ℕ) : Type 0 where
+  pub states : length at.states.now ≡ state_count at.machine.now
   pub levels : length levels_old ≡ state_count at.machine.now
   pub moved : AreRisingBelow (state_count at.machine.now) at.moved.now
-  pub small_states : (j : ℕ) → is_listed at.moved.now j ≡ true → IsState (int_at x j)
+  pub small_states : (j : ℕ) → is_listed at.moved.now j ≡ true → IsState (int_at at.states.now j)
   pub small_levels : AreLevels levels_old
+  pub left : at.joined ≡ false → HaveLeft at.machine.now at.moved.now at.states.now levels_old
   pub room : taken + state_count at.machine.now ≤ capacity
 
 -- the level of each line, within the limit, and the absolute row sums of all rows at these levels
@@ -195,43 +171,21 @@ pub record AreStatesOf (m : Machine) (x : List ℤ) : Type 0 where
   pub as_many : length x ≡ state_count m
   pub small : AreStates x
 
--- the slopes of all rows at the new levels, at an event-free change of levels
-abbrev pub quiet_slopes : EventLevels → List ℤ
-quiet_slopes at = new_slopes at.event at.discretes.now
-
 -- these states are within the quanta of these levels, at which, with these discrete values, no row
 -- exceeds its limits
 pub record AreLevelsFor (m : Machine) (states levels discretes : List ℤ) : Type 0 where
   pub near : (j : ℕ) → j < state_count m → IsLineWithinQuantum (level_unit m) (int_at states j) (int_at levels j) (quantum_of m j (int_at levels j))
   pub light : position (exceeds_row_limits m levels discretes) m.rows ≡ None
 
--- slopes, lines and due ticks before the moved states took these levels; a state that did not move
--- and whose level did not change has a valid due tick
+-- slopes, lines and due ticks before the moved states took these levels; no line has moved to the
+-- tick yet; a state that did not move and whose level did not change has a valid due tick
 pub record HeldBefore (m : Machine) (tick : ℕ) (moved : List ℕ) (levels discretes slopes_old : List ℤ) (lines_old : List Line) (dues_old : List (Option ℕ)) : Type 0 where
   pub may_move : MayMove tick lines_old
+  pub earlier : (j : ℕ) → j < state_count m → (line_at lines_old j).tick < tick
   pub before : HadSums Slope m moved levels discretes slopes_old lines_old
   pub own_slope : (j : ℕ) → j < state_count m → (line_at lines_old j).slope ≡ int_at slopes_old j
   pub due : (j : ℕ) → j < state_count m → is_listed moved j ≡ false → (line_at lines_old j).level ≡ int_at levels j →
       IsDue m tick j (line_at lines_old j) (due_at dues_old j)
-
--- the moved states may continue at their new levels, and all states at their new slopes; no line
--- has moved to the tick yet
-pub record CanUpdateSlopesOf (at : EventLevels) (slopes_old : List ℤ) (lines_old : List Line) (dues_old : List (Option ℕ)) : Type 0 where
-  pub new : AreNewLevelsAt at.event at.discretes.now
-  pub levels : AreLevelsFor at.event.machine.now (states_at lines_old at.event.tick) at.event.levels.now at.discretes.now
-  pub one_each : HasOneEach at.event.machine.now slopes_old lines_old dues_old
-  pub held : HeldBefore at.event.machine.now at.event.tick at.event.moved.now at.event.levels.now at.discretes.now slopes_old lines_old dues_old
-  pub earlier : (j : ℕ) → j < state_count at.event.machine.now → (line_at lines_old j).tick < at.event.tick
-
--- all states continue from a tick at the new levels and slopes, in an event queue of the same
--- length; the moves of lines are at most those of the moved states and their readers
-pub record AreAllScheduled (at : EventLevels) (slopes_new : List ℤ) (old new : Schedules) (steps_old steps_new : ℕ) : Type 0 where
-  pub slopes : slopes_new ≡ quiet_slopes at
-  pub lines : (j : ℕ) → j < state_count at.event.machine.now →
-      IsRestartedFrom at.event.machine.now at.event.tick (state_at (line_at old.lines j) at.event.tick) (int_at at.event.levels.now j)
-      (slope_at at.event.machine.now j at.event.levels.now at.discretes.now) j (line_at new.lines j) (due_at new.dues j)
-  pub places : length new.dues ≡ length old.dues
-  pub counted : steps_new ≤ steps_old + count_by (is_listed (reached at.event.machine.now at.event.moved.now)) (range_with_len 0 (state_count at.event.machine.now))
 
 -- the states after handlers: the moved ones as the handlers left them, the others along their lines
 abbrev pub states_left : NewLevels → HandlerResult → List Line → List ℤ

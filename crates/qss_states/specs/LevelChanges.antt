@@ -17,9 +17,7 @@ use Rattle.mu_num.specs.ListedPlaces.{DiffersOnlyAt}
 use Rattle.qss_events.specs.AllowedLevels.{IsAllowedLevel}
 use Rattle.mu_num.specs.Writes.{IsFirstOf, IsWritten}
 use Rattle.mu_num.specs.Limits.{bits_of_level, bits_of_state, AreLevels}
-use Rattle.qss_states.specs.declared.event_contexts.Arrival.{Arrival}
 use Rattle.qss_states.specs.EventContexts.{AreMovedTo}
-use Rattle.qss_states.specs.StateLines.{states_at}
 
 -- the row of a state that takes a level, if the level changes
 abbrev pub row_of_level : ℕ → ℕ → ℤ → ℤ → ℤ → List Row
@@ -47,19 +45,6 @@ pub record AreRequantized (m : Machine) (name : Option Rule) (tick : ℕ) (state
   pub off : DiffersOnlyAt places old kept
   pub levels : first ≡ None → kept ≡ new
   pub own_rows : first ≡ None → rows ≡ before ++ flat_map (taken_row tick states old new) places
-
--- new levels on an arrival, which differ only for moved states: allowed if no state exceeds its
--- limit, and set if nothing overflows
-pub record AreRequantizedOnArrival (at : Arrival) (name : Option Rule) (old kept new : List ℤ) (later over : Option ℕ) : Type 0 where
-  pub over_is : over ≡ option_or (first_exceeding bits_of_state (states_at at.lines.now at.tick)) later
-  pub allowed : first_exceeding bits_of_state (states_at at.lines.now at.tick) ≡ None → AreNextLevels (IsAllowedLevel name) at.machine.now (states_at at.lines.now at.tick) old new
-  pub others : DiffersOnlyAt at.moved.now old new
-  pub levels : over ≡ None → kept ≡ new
-
--- levels within the limit that were set on arrival, and a row for each that changed
-pub record AreTakenOnArrival (at : Arrival) (old new : List ℤ) (rows : List Row) : Type 0 where
-  pub small : AreLevels new
-  pub own_rows : rows ≡ level_rows at.tick old new (states_at at.lines.now at.tick)
 
 -- new levels that differ only for the moved states: allowed, and set if nothing overflows
 pub record AreRequantizedAt (m : Machine) (name : Option Rule) (moved : List ℕ) (x old kept new : List ℤ) (later over : Option ℕ) : Type 0 where

@@ -11,4 +11,3 @@ pub mod RowSums
 pub mod LineReplacements
 pub mod EventContexts
 pub mod LevelChanges
-pub mod Advancing

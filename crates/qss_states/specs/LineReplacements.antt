@@ -1,10 +1,17 @@
 -- Defines when a line is replaced, and how replacements are counted.
-use Rattle.std.specs.Prelude.{◌≡◌, ℕ, ◌+◌, Bool, not, ◌&&◌, List, ℤ, count_by}
+use Rattle.std.specs.Prelude.{◌≡◌, ℕ, ◌+◌, ◌≤◌, Bool, not, ◌&&◌, List, ℤ, count_by}
 use Rattle.std.specs.List.{range_with_len}
 use Rattle.std.specs.Ordering.{int_eq}
 use Rattle.mu_num.specs.IndexedSums.{int_at}
 use Rattle.qss_quant.specs.IntegratorLines.{Line, state_at}
 use Rattle.qss_states.specs.StateLines.{line_at}
+
+-- a line has the same state at a tick as before, and the same slope and level
+pub record IsAlong (tick : ℕ) (old new : Line) : Type 0 where
+  pub not_later : new.tick ≤ tick
+  pub here : state_at new tick ≡ state_at old tick
+  pub same_slope : new.slope ≡ old.slope
+  pub same_level : new.level ≡ old.level
 
 -- whether a line has this level and slope
 abbrev pub has_level_and_slope : ℤ → ℤ → Line → Bool

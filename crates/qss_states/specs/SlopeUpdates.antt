@@ -11,13 +11,21 @@ use Rattle.qss_states.specs.StateLines.{line_at, IsRestartedFrom}
 use Rattle.qss_states.specs.LineReplacements.{has_level_and_slope}
 use Rattle.qss_events.specs.Schedules.{IsDue}
 
--- a line may continue from a tick at this level and slope: its state is within the quantum, and its
--- due tick is valid if its level does not change
+-- a line may continue from a tick at a level: it is at the tick, and its state is within the
+-- quantum of the level
+pub record MaySchedule (m : Machine) (tick j : ℕ) (level : ℤ) (line : Line) : Type 0 where
+  pub here : line.tick ≡ tick
+  pub near : IsLineWithinQuantum (level_unit m) (state_at line tick) level (quantum_of m j level)
+
+-- a line at this level may continue from a tick at this slope: its state is within the quantum, its
+-- due tick is valid, and it has the slope if it is at the tick
 pub record MayUpdateSlope (m : Machine) (tick : ℕ) (level slope : ℤ) (j : ℕ) (line : Line) (found : Option ℕ) : Type 0 where
   pub not_later : line.tick ≤ tick
   pub small : IsState (state_at line tick)
   pub near : IsLineWithinQuantum (level_unit m) (state_at line tick) level (quantum_of m j level)
-  pub due : line.level ≡ level → IsDue m tick j line found
+  pub own_level : line.level ≡ level
+  pub is_set : line.tick ≡ tick → line.slope ≡ slope
+  pub is_due : IsDue m tick j line found
 
 -- the due ticks with this property do not change, and the event queue has the same length
 pub record DuesStay (Such : ℕ → Type 0) (old new : List (Option ℕ)) : Type 0 where

@@ -32,14 +32,6 @@ pub(crate) struct NewSlopes<'a> {
     pub slopes: &'a [i128],
 }
 
-/// New levels at a tick at which only states are due, and the discrete values. The discrete values
-/// do not change. They are in units of 2^-f and at most 2^43 in absolute value.
-#[derive(Clone, Copy)]
-pub struct EventLevels<'a> {
-    pub event: NewLevels<'a>,
-    pub discretes: &'a [i64],
-}
-
 /// The result of the handlers of a tick. `assigned`: the indices of the assigned discrete
 /// variables, counted after the states. `states`: in units of 2^-(f+p+k) and at most 2^88 in
 /// absolute value, valid only for the moved states. `before` and `discretes`: the discrete values
@@ -52,21 +44,10 @@ pub struct HandlerResult<'a> {
     pub discretes: &'a [i64],
 }
 
-/// A machine at a tick below 2^32 at which states arrive along their lines: the rows and conditions
-/// that read each variable, the lines of all states, and the indices of the states that move
-/// (increasing).
-#[derive(Clone, Copy)]
-pub struct Arrival<'a> {
-    pub machine: &'a Machine,
-    pub uses: &'a Uses,
-    pub tick: u64,
-    pub lines: &'a [Integrator],
-    pub moved: &'a [u32],
-}
-
-/// An arrival after its handlers: also the indices of the assigned discrete variables, counted
-/// after the states, and the values after the handlers. The states among these values are valid
-/// only for the moved states.
+/// A machine at a tick below 2^32 after its handlers: the rows and conditions that read each
+/// variable, the lines of all states, and the indices of the states that move (increasing) and of
+/// the assigned discrete variables, counted after the states. `work`: the values after the handlers.
+/// The states among these values are valid only for the moved states.
 #[derive(Clone, Copy)]
 pub struct HandlerArrival<'a> {
     pub machine: &'a Machine,
@@ -76,4 +57,16 @@ pub struct HandlerArrival<'a> {
     pub moved: &'a [u32],
     pub assigned: &'a [u32],
     pub work: &'a Work,
+}
+
+/// A machine at a tick at which states have moved: their indices (increasing), and the states,
+/// valid only for the moved ones. `joined`: whether a moved state may be within its quantum, as a
+/// reinitialized state may be. If not, each of them has left its quantum.
+#[derive(Clone, Copy)]
+pub(crate) struct Arrival<'a> {
+    pub machine: &'a Machine,
+    pub tick: u64,
+    pub moved: &'a [u32],
+    pub states: &'a [i128],
+    pub joined: bool,
 }

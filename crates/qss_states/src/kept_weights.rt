@@ -51,39 +51,6 @@ impl Weights {
         weigh_all_kept_rows(m, levels, d, self.of_rows.as_mut_slice());
     }
 
-    /// Updates the sums, at these discrete values, for the new levels of the moved states. The old
-    /// levels are those of their lines. The error is the least row that exceeds its limits. After
-    /// an error, the sums are unspecified. The sums are maintained from the first time that a moved
-    /// level is greater than the bound.
-    pub(crate) fn update_weights(
-        &mut self,
-        at: &NewLevels,
-        d: &[i64],
-        lines: &[Integrator],
-    ) -> Result<(), Over>
-        requires ready { AreNewLevelsAt at.now d.now }
-        requires lines { length lines.now ≡ state_count at.now.machine.now }
-        requires before { WereWeights at.now d.now self.old lines.now }
-        ensures overflow { overflow_of result ≡ first_row_exceeding at.now d.now }
-        ensures weights { overflow_of result ≡ None
-            → AreWeights at.now.machine.now at.now.levels.now d.now self.new }
-        ensures stay { StayKept self.old self.new }
-        ensures off { self.old.kept ≡ false
-            → AreUpToAt self.old.bound at.now.levels.now 0 at.now.moved.now
-            → self.new.kept ≡ false }
-    {
-        if self.kept {
-            let of_rows = self.of_rows.as_mut_slice();
-            return refresh_row_sums(at, d, lines, of_rows);
-        }
-        if are_places_within(at.levels, at.moved, 0, self.bound) {
-            return Ok(());
-        }
-        self.kept = true;
-        let of_rows = self.of_rows.as_mut_slice();
-        weigh_kept_within_limit(at.machine, at.levels, d, of_rows)
-    }
-
     /// Updates the sums for the new levels of the moved states and the new values of the assigned
     /// discrete variables. The old levels are those of the lines. The error is the least row that
     /// exceeds its limits. After an error, the sums are unspecified. The sums are maintained from
@@ -129,23 +96,6 @@ pub(crate) fn weigh_all_kept_rows(m: &Machine, levels: &[i64], d: &[i64], weight
     for row in 0..weights.len() {
         weights[row] = m.weight(row as u32, levels, d);
     }
-}
-
-/// Updates the absolute row sums of all rows, at these discrete values, for the new levels of the
-/// moved states. The old levels are those of their lines. The error is the least row that exceeds
-/// its limits.
-pub(crate) fn refresh_row_sums(
-    at: &NewLevels,
-    d: &[i64],
-    lines: &[Integrator],
-    weights: &mut [i128],
-) -> Result<(), Over>
-    requires { CanFollow sum.Weight at.now d.now weights.old lines.now }
-    ensures overflow { overflow_of result ≡ first_row_exceeding at.now d.now }
-    ensures weights { weights.new ≡ weights_at at.now.machine.now at.now.levels.now d.now }
-{
-    update_all_row_sums(RowSum::Weight, at, d, lines, weights);
-    least_exceeding_reader(at.uses, at.moved, weights, Ok(()))
 }
 
 /// The error of the least row that reads one of these variables and whose absolute row sum exceeds

@@ -1,12 +1,12 @@
 //! Sets the new levels of the states that are due at one tick, and updates the absolute row sums. A
 //! level that changes has a row.
 
-ghost use Rattle.std.specs.Prelude.{◌≡◌, ◌+◌, ◌<◌, ◌≤◌, ◌^◌, ◌++◌, if◌then◌else◌, ℕ, List, ℤ, None, Some, length, pos, vec_len, vec_capacity, true, false, position};
-ghost use Rattle.qss_states.specs.Prelude.{option_or, overflow_of, exceeds, first_exceeding, state_count, discrete_count, level_rows, state_at, AreRisingBelow, IsFirstOf, IsWritten, tick_limit, bits_of_level, bits_of_state, IsLevel, AreLevels, exceeds_row_limits};
-ghost use Rattle.qss_states.specs.EventContexts.{AreMovedTo, CanRequantize, CanTakeOnArrival, HoldsLevels, IsHandlerArrival, CanArrive};
+ghost use Rattle.std.specs.Prelude.{◌≡◌, ◌+◌, ◌<◌, ◌≤◌, ◌++◌, [], if◌then◌else◌, List, ℤ, None, Some, length, pos, vec_len, vec_capacity, true, false, position};
+ghost use Rattle.qss_states.specs.Prelude.{option_or, overflow_of, exceeds, first_exceeding, int_at, state_count, level_unit, level_rows, state_at, AreRisingBelow, IsAllowedLevel, IsFirstOf, IsNextLevel, IsWritten, tick_limit, bits_of_level, IsLevel, IsState, AreLevels, exceeds_row_limits};
+ghost use Rattle.qss_states.specs.EventContexts.{AreMovedTo, CanRequantize, HasLeft, HaveLeft, HoldsLevels, IsHandlerArrival};
 ghost use Rattle.qss_states.specs.KeptWeights.{AreWeights};
-ghost use Rattle.qss_states.specs.LevelChanges.{AreRequantized, AreRequantizedOnArrival, AreRequantizedAt, AreTakenOnArrival, HasTaken, HaveOneMore};
-ghost use Rattle.qss_states.specs.StateLines.{line_at, passes_at, states_at, CanArriveWithin, HaveArrivedWithin, MayArrive};
+ghost use Rattle.qss_states.specs.LevelChanges.{AreRequantized, AreRequantizedAt, HasTaken, HaveOneMore};
+ghost use Rattle.qss_states.specs.StateLines.{line_at, passes_at, CanArriveWithin, HaveArrivedWithin, MayArrive};
 
 use crate::event_contexts::{Arrival, HandlerArrival, HandlerResult, NewLevels};
 use crate::kept_weights::Weights;
@@ -17,7 +17,7 @@ use qss_machine::{Row, RowKind};
 use qss_quant::{Integrator, Quantizer};
 
 /// Sets the new levels of the moved states after handlers that assigned these discrete variables.
-/// The rows are those of the handlers and then those of the levels. It updates the absolute row
+/// If the handlers did nothing, each moved state has left its quantum. The rows are those of the handlers and then those of the levels. It updates the absolute row
 /// sums. The error is the state whose level is more than 2^43 in absolute value, or whose row
 /// exceeds its limits. After an error, levels, sums and rows are unspecified.
 pub fn requantize_after_handlers(
@@ -30,6 +30,8 @@ pub fn requantize_after_handlers(
     requires ready { IsHandlerArrival at.now }
     requires held { HoldsLevels at.now.machine.now at.now.lines.now at.now.work.now.pre
         levels.old weights.old }
+    requires left { at.now.work.now.log ≡ []
+        → HaveLeft at.now.machine.now at.now.moved.now at.now.work.now.x levels.old }
     requires room { length at.now.work.now.log + state_count at.now.machine.now
         ≤ vec_capacity rows.old }
     ensures taken { (new : List ℤ) × AreRequantizedAt at.now.machine.now q.now.name
@@ -53,12 +55,12 @@ pub fn requantize_after_handlers(
     let x = work.x.as_slice();
     let arrival = Arrival {
         machine: at.machine,
-        uses: at.uses,
         tick: at.tick,
-        lines: at.lines,
         moved: at.moved,
+        states: x,
+        joined: !work.log.as_slice().is_empty(),
     };
-    requantize_states(&arrival, q, x, levels, rows)?;
+    requantize_states(&arrival, q, levels, rows)?;
     let pre = work.pre.as_slice();
     let d = work.d.as_slice();
     let new = NewLevels {
@@ -75,47 +77,6 @@ pub fn requantize_after_handlers(
         discretes: d,
     };
     weights.update_weights_after_handlers(&new, &handled, at.lines)
-}
-
-/// Moves the due states and sets their new levels. The rows are only those of the levels. It
-/// updates the absolute row sums. The error is the state that exceeds 2^88 on arrival, whose level
-/// exceeds 2^43, or whose row exceeds its limits. After an error, levels, sums and rows are
-/// unspecified.
-pub fn requantize_moved(
-    at: &Arrival,
-    q: &Quantizer,
-    work: &Work,
-    levels: &mut [i64],
-    weights: &mut Weights,
-    rows: &mut Vec<Row>,
-) -> Result<(), Over>
-    requires ready { CanArrive at.now levels.old }
-    requires discretes { length work.now.d ≡ discrete_count at.now.machine.now }
-    requires small_discretes { AreLevels work.now.d }
-    requires held { HoldsLevels at.now.machine.now at.now.lines.now work.now.d
-        levels.old weights.old }
-    requires room { state_count at.now.machine.now ≤ vec_capacity rows.old }
-    ensures taken { (new : List ℤ) × AreRequantizedOnArrival at.now q.now.name
-        levels.old levels.new new
-        (option_or (first_exceeding bits_of_level new)
-        (position (exceeds_row_limits at.now.machine.now new work.now.d) at.now.machine.now.rows))
-        (overflow_of result) }
-    ensures kept { overflow_of result ≡ None
-        → AreTakenOnArrival at.now levels.old levels.new rows.new.items }
-    ensures weights { overflow_of result ≡ None
-        → AreWeights at.now.machine.now levels.new work.now.d weights.new }
-    ensures room { vec_capacity rows.new ≡ vec_capacity rows.old }
-{
-    requantize_due(at, q, levels, rows)?;
-    let new = NewLevels {
-        machine: at.machine,
-        uses: at.uses,
-        tick: at.tick,
-        moved: at.moved,
-        levels,
-    };
-    let d = work.d.as_slice();
-    weights.update_weights(&new, d, at.lines)
 }
 
 /// Moves the due states to a tick below 2^32 along their lines. The error is the least state that
@@ -150,21 +111,22 @@ fn begin_requantized_rows(rows: &mut Vec<Row>, log: &[Row])
 pub(crate) fn requantize_states(
     at: &Arrival,
     q: &Quantizer,
-    x: &[i128],
     levels: &mut [i64],
     rows: &mut Vec<Row>,
 ) -> Result<(), Over>
-    requires { CanRequantize at.now x.now levels.old (vec_len rows.old) (vec_capacity rows.old) }
+    requires { CanRequantize at.now levels.old (vec_len rows.old) (vec_capacity rows.old) }
     ensures taken { (new : List ℤ) × AreRequantizedAt at.now.machine.now q.now.name
-        at.now.moved.now x.now levels.old levels.new new (first_exceeding bits_of_level new)
+        at.now.moved.now at.now.states.now levels.old levels.new new
+        (first_exceeding bits_of_level new)
         (overflow_of result) }
     ensures size_limit { overflow_of result ≡ None → AreLevels levels.new }
     ensures rows { overflow_of result ≡ None
-        → (states : List ℤ) → AreMovedTo at.now.machine.now at.now.moved.now x.now levels.old states
+        → (states : List ℤ)
+        → AreMovedTo at.now.machine.now at.now.moved.now at.now.states.now levels.old states
         → rows.new.items ≡ rows.old.items ++ level_rows at.now.tick levels.old levels.new states }
     ensures room { vec_capacity rows.new ≡ vec_capacity rows.old }
 {
-    requantize_due_levels(at, q, x, levels, rows)
+    requantize_due_levels(at, q, levels, rows)
 }
 
 // Sets the new levels of the moved states, with a row for each level that changes. The error is
@@ -172,13 +134,12 @@ pub(crate) fn requantize_states(
 fn requantize_due_levels(
     at: &Arrival,
     q: &Quantizer,
-    x: &[i128],
     levels: &mut [i64],
     rows: &mut Vec<Row>,
 ) -> Result<(), Over>
-    requires { CanRequantize at.now x.now levels.old (vec_len rows.old) (vec_capacity rows.old) }
-    ensures taken { (new : List ℤ) × AreRequantized at.now.machine.now q.now.name at.now.tick x.now
-        at.now.moved.now levels.old levels.new new rows.old.items rows.new.items
+    requires { CanRequantize at.now levels.old (vec_len rows.old) (vec_capacity rows.old) }
+    ensures taken { (new : List ℤ) × AreRequantized at.now.machine.now q.now.name at.now.tick
+        at.now.states.now at.now.moved.now levels.old levels.new new rows.old.items rows.new.items
         (overflow_of result) }
     ensures room { vec_capacity rows.new ≡ vec_capacity rows.old }
 {
@@ -186,11 +147,33 @@ fn requantize_due_levels(
     let mut first = Ok(());
     for state in at.moved {
         let j = *state as usize;
-        let fresh = requantize_level(at.machine, q, *state, x[j], levels[j], unit);
-        let past = set_requantized_within_limit(rows, at.tick, *state, &mut levels[j], fresh, x[j]);
+        let x = at.states[j];
+        let fresh = level_on_arrival(at, q, *state, levels[j], unit);
+        let past = set_requantized_within_limit(rows, at.tick, *state, &mut levels[j], fresh, x);
         first = first_requantized_past(first, *state, past);
     }
     first
+}
+
+// The new level of a moved state. A state that has left its quantum gets the result of the rule
+// without another test.
+#[inline(always)]
+fn level_on_arrival(at: &Arrival, q: &Quantizer, state: u32, level: i64, unit: i128) -> i128
+    requires state { state < state_count at.now.machine.now }
+    requires states { length at.now.states.now ≡ state_count at.now.machine.now }
+    requires small_state { IsState (int_at at.now.states.now state) }
+    requires small_level { IsLevel level }
+    requires unit { unit ≡ level_unit at.now.machine.now }
+    requires left { at.now.joined ≡ false
+        → HasLeft at.now.machine.now state (int_at at.now.states.now state) level }
+    ensures { IsNextLevel (IsAllowedLevel q.now.name) at.now.machine.now state
+        (int_at at.now.states.now state) level result }
+{
+    let x = at.states[state as usize];
+    if at.joined {
+        return requantize_level(at.machine, q, state, x, level, unit);
+    }
+    q.answer(x, level, unit)
 }
 
 /// Sets the level of a state, and appends a row if the level changes, unless the new level exceeds
@@ -267,69 +250,6 @@ fn first_requantized_or(first: Result<(), Over>, state: u32) -> Result<(), Over>
     ensures { overflow_of result ≡ option_or (overflow_of first) (Some state) }
 {
     first.and(Err(Over { var: state }))
-}
-
-/// Moves the due states and sets their new levels. The error is the state that exceeds its limit on
-/// arrival, or whose level does.
-pub(crate) fn requantize_due(
-    at: &Arrival,
-    q: &Quantizer,
-    levels: &mut [i64],
-    rows: &mut Vec<Row>,
-) -> Result<(), Over>
-    requires ready { CanTakeOnArrival at.now levels.old }
-    requires room { state_count at.now.machine.now ≤ vec_capacity rows.old }
-    ensures taken { (new : List ℤ) × AreRequantizedOnArrival at.now q.now.name
-        levels.old levels.new new (first_exceeding bits_of_level new) (overflow_of result) }
-    ensures kept { overflow_of result ≡ None
-        → AreTakenOnArrival at.now levels.old levels.new rows.new.items }
-    ensures room { vec_capacity rows.new ≡ vec_capacity rows.old }
-{
-    rows.clear();
-    requantize_on_arrival(at, q, levels, rows)
-}
-
-// Moves the due states to the tick, and sets their levels to the results of the rule, with a row
-// for each level that changes. Each of these states has left its quantum. The error is the least
-// state that exceeds its limit on arrival, else the least state whose new level exceeds its limit.
-fn requantize_on_arrival(
-    at: &Arrival,
-    q: &Quantizer,
-    levels: &mut [i64],
-    rows: &mut Vec<Row>,
-) -> Result<(), Over>
-    requires ready { CanTakeOnArrival at.now levels.old }
-    requires room { vec_len rows.old + state_count at.now.machine.now ≤ vec_capacity rows.old }
-    ensures passed { (var : ℕ)
-        → first_exceeding bits_of_state (states_at at.now.lines.now at.now.tick) ≡ Some var
-        → overflow_of result ≡ Some var }
-    ensures taken { first_exceeding bits_of_state (states_at at.now.lines.now at.now.tick) ≡ None
-        → (new : List ℤ) × AreRequantized at.now.machine.now q.now.name at.now.tick
-        (states_at at.now.lines.now at.now.tick)
-        at.now.moved.now levels.old levels.new new rows.old.items rows.new.items
-        (overflow_of result) }
-    ensures room { vec_capacity rows.new ≡ vec_capacity rows.old }
-{
-    let unit = at.machine.level_unit();
-    let mut first = Ok(());
-    for state in at.moved {
-        let j = *state as usize;
-        let value = state_to_requantize(at.lines, at.tick, *state);
-        if exceeds_power_of_two(value, STATE_BITS) {
-            return Err(Over { var: *state });
-        }
-        let fresh = q.answer(value, levels[j], unit);
-        let past = set_requantized_within_limit(
-            rows,
-            at.tick,
-            *state,
-            &mut levels[j],
-            fresh,
-            value,
-        );
-        first = first_requantized_past(first, *state, past);
-    }
-    first
 }
 
 // The state with this index at a tick, along its line.

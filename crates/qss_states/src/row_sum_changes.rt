@@ -34,6 +34,7 @@ pub(crate) fn update_sums_of_slopes(
 
 /// Updates the sums of all rows, at these discrete values, for the new levels of the moved states.
 /// The old levels are those of their lines.
+#[inline(always)]
 pub(crate) fn update_all_row_sums(
     kind: RowSum,
     at: &NewLevels,
@@ -70,6 +71,7 @@ fn row_sum_level(kind: RowSum, level: i64) -> i64
 }
 
 // Updates the sums of the rows that read a state, for the change of its level.
+#[inline(always)]
 fn update_row_sums(
     kind: RowSum,
     at: &Mode,

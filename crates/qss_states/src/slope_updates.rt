@@ -3,11 +3,11 @@
 
 ghost use Rattle.std.specs.Prelude.{◌≡◌, ◌+◌, ◌<◌, ◌≤◌, ◌∷◌, [], ℕ, All, length, pos, true, false, vec_capacity, flat_map, List, ℤ, None};
 ghost use Rattle.qss_states.specs.Prelude.{IsWithin, int_at, state_count, discrete_count, level_unit, slope_at, quantum_of, reading_rows, uses_of, state_at, IsLineWithinQuantum, due_at, is_listed, IsWritten, tick_limit, IsLevel, IsSlope};
-ghost use Rattle.qss_states.specs.Words.{CanAdvance, HaveAdvanced, advancing_of, MaySchedule, reached, line_at, MayMove, IsRestartedFrom, AreScheduled, MayUpdateSlope, IsOneScheduled, HaveSlopesUpdated, IsSumAfterLevelChange, CanAddUp, CanFollow, CanFollowLevel, CanSchedule, CanUpdateSlopesOf, AreAllScheduled, quiet_slopes, CanUpdateSlopes, CanScheduleOne, AreStatesOf, CanUpdateAfterHandlers, CanRestart, first_row_exceeding, new_slopes, states_left, WereSums, has_level_and_slope, IsCounted, goes_from, replaced_lines_from, IsCountedFrom, AreReaderSums, AreReadersMarkedOr, AreMarkedOr, IsSlopeAt};
+ghost use Rattle.qss_states.specs.Words.{MaySchedule, line_at, MayMove, IsRestartedFrom, AreScheduled, MayUpdateSlope, IsOneScheduled, HaveSlopesUpdated, CanAddUp, CanSchedule, CanUpdateSlopes, CanScheduleOne, AreStatesOf, CanUpdateAfterHandlers, CanRestart, first_row_exceeding, new_slopes, states_left, WereSums, has_level_and_slope, IsCounted, goes_from, replaced_lines_from, IsCountedFrom, AreReaderSums, AreReadersMarkedOr, AreMarkedOr, IsSlopeAt};
 ghost use Rattle.qss_states.specs.declared.row_sum_changes.RowSum.TheVariants as sum;
 
-use crate::event_contexts::{EventLevels, HandlerResult, Mode, NewLevels, NewSlopes};
-use crate::row_sum_changes::{RowSum, sum_difference, update_sums_of_slopes};
+use crate::event_contexts::{HandlerResult, NewLevels, NewSlopes};
+use crate::row_sum_changes::update_sums_of_slopes;
 use crate::sum_marks::{is_sum_marked, mark_reader_sums};
 use qss_events::event_tick_leaving_level;
 use qss_machine::{Machine, Uses};
@@ -51,38 +51,6 @@ pub fn update_slopes_after_handlers<L: Ledger>(
     restart_state_slopes(&on, handled.states, lines, agenda, steps);
     update_reader_slopes(&on, at.moved, lines, agenda, steps);
     update_reader_slopes(&on, handled.assigned, lines, agenda, steps);
-}
-
-/// Updates the slopes of all rows for the new levels of the moved states. The moved states, and
-/// those whose rows read one of them, continue from the tick at their new slopes. Each gets its new
-/// due tick, exactly once. The lines and due ticks of other states do not change. `touched` is a
-/// buffer for the indices of the affected states. `steps` counts the lines that move.
-pub fn update_slopes_of<L: Ledger>(
-    at: &EventLevels,
-    slopes: &mut [i128],
-    lines: &mut [Integrator],
-    touched: &mut Vec<u32>,
-    agenda: &mut Agenda,
-    steps: &mut Steps<L>,
-)
-    requires ready { CanUpdateSlopesOf at.now slopes.old lines.old agenda.old }
-    requires room { state_count at.now.event.machine.now ≤ vec_capacity touched.old }
-    ensures gone_on { AreAllScheduled at.now slopes.new
-        (record { lines = lines.old; dues = agenda.old })
-        (record { lines = lines.new; dues = agenda.new }) steps.old steps.new }
-    ensures kept { (j : ℕ)
-        → is_listed (reached at.now.event.machine.now at.now.event.moved.now) j ≡ false
-        → (line_at lines.new j ≡ line_at lines.old j)
-        × (due_at agenda.new j ≡ due_at agenda.old j) }
-    ensures room { vec_capacity touched.new ≡ vec_capacity touched.old }
-{
-    touched.clear();
-    update_slopes_for_levels(at, slopes, lines, touched, steps);
-    let on = NewSlopes {
-        event: at.event,
-        slopes,
-    };
-    schedule_new_slopes(&on, touched.as_slice(), lines, agenda);
 }
 
 // Updates the slopes of all rows for the new levels of the moved states and the new values of the
@@ -226,6 +194,7 @@ fn restart_state_slopes<L: Ledger>(
 // Restarts the line of a moved state at a tick from its state, at its level and slope. It schedules
 // the tick at which the state leaves its quantum. A line that already continues in this way is not
 // changed.
+#[inline(always)]
 fn restart_state_slope<L: Ledger>(
     at: &NewSlopes,
     j: u32,
@@ -265,6 +234,7 @@ fn restart_state_slope<L: Ledger>(
 
 /// Replaces a line by `here`, from the tick of `here` on, unless it already continues in this way.
 /// It returns whether it was replaced.
+#[inline(always)]
 pub(crate) fn replace_line<L: Ledger>(
     line: &mut Integrator,
     here: &Integrator,
@@ -290,6 +260,7 @@ pub(crate) fn replace_line<L: Ledger>(
 
 /// Continues the lines of the states whose rows read one of these variables from a tick at their
 /// new levels and slopes.
+#[inline(always)]
 pub(crate) fn update_reader_slopes<L: Ledger>(
     at: &NewSlopes,
     variables: &[u32],
@@ -316,6 +287,7 @@ pub(crate) fn update_reader_slopes<L: Ledger>(
 }
 
 // Continues the lines of these states from a tick at their new levels and slopes.
+#[inline(always)]
 fn update_slopes<L: Ledger>(
     at: &NewSlopes,
     states: &[u32],
@@ -338,8 +310,9 @@ fn update_slopes<L: Ledger>(
     }
 }
 
-// Continues the line of a state from a tick at its new level and slope. A line that already has
-// both is not changed.
+// Continues the line of a state from a tick at its new slope. A line that already has this slope is
+// not changed. A line that is already at the tick has it.
+#[inline(always)]
 fn update_slope<L: Ledger>(
     at: &NewSlopes,
     j: u32,
@@ -364,13 +337,10 @@ fn update_slope<L: Ledger>(
     ensures counted { IsCounted (state_count at.now.event.machine.now) at.now.event.levels.now
         at.now.slopes.now lines.old lines.new steps.old steps.new }
 {
-    let slope = at.slopes[j as usize];
-    let level = at.event.levels[j as usize];
-    let line = &lines[j as usize];
-    if line.slope == slope && line.level == level {
+    let line = &mut lines[j as usize];
+    if line.tick == at.event.tick || line.slope == at.slopes[j as usize] {
         return;
     }
-    let line = &mut lines[j as usize];
     line.move_to(at.event.tick, steps);
     schedule_new_slope(at, j, lines, agenda);
 }
@@ -392,7 +362,6 @@ pub(crate) fn schedule_new_slope(
         (state_at (line_at lines.old j) at.now.event.tick)
         (record { lines = lines.old; dues = agenda.old })
         (record { lines = lines.new; dues = agenda.new }) }
-    ensures same_tick { (line_at lines.new j).tick ≡ (line_at lines.old j).tick }
 {
     let slope = at.slopes[j as usize];
     let level = at.event.levels[j as usize];
@@ -409,160 +378,4 @@ fn set_slope_and_level(line: &mut Integrator, slope: i128, level: i64)
 {
     line.slope = slope;
     line.level = level;
-}
-
-// Updates the slopes of all rows for the new levels of the moved states. It adds these states and
-// those whose rows read them to the affected ones.
-fn update_slopes_for_levels<L: Ledger>(
-    at: &EventLevels,
-    slopes: &mut [i128],
-    lines: &mut [Integrator],
-    touched: &mut Vec<u32>,
-    steps: &mut Steps<L>,
-)
-    requires ready { CanFollow sum.Slope at.now.event at.now.discretes.now slopes.old
-        lines.old }
-    requires allowed { CanAdvance at.now.event.tick lines.old touched.old.items
-        (vec_capacity touched.old) }
-    ensures slopes { slopes.new ≡ quiet_slopes at.now }
-    ensures gathered { HaveAdvanced at.now.event.tick
-        (reached at.now.event.machine.now at.now.event.moved.now)
-        (advancing_of lines.old touched.old steps.old)
-        (advancing_of lines.new touched.new steps.new) }
-{
-    for state in at.event.moved {
-        update_slopes_for_level(at, *state, slopes, lines, touched, steps);
-    }
-}
-
-// Updates the slopes of the rows that read a moved state for its new level. It adds this state and
-// the states of these rows to the affected ones.
-fn update_slopes_for_level<L: Ledger>(
-    at: &EventLevels,
-    state: u32,
-    slopes: &mut [i128],
-    lines: &mut [Integrator],
-    touched: &mut Vec<u32>,
-    steps: &mut Steps<L>,
-)
-    requires { CanFollowLevel at.now state slopes.old lines.old touched.old.items
-        (vec_capacity touched.old) }
-    ensures slopes { IsWritten (pos 0)
-        (IsSumAfterLevelChange sum.Slope at.now.event.machine.now state
-        (line_at lines.old state).level
-        (int_at at.now.event.levels.now state) at.now.discretes.now slopes.old)
-        (reading_rows at.now.event.machine.now state) slopes.old slopes.new }
-    ensures gathered { HaveAdvanced at.now.event.tick
-        (state ∷ reading_rows at.now.event.machine.now state)
-        (advancing_of lines.old touched.old steps.old)
-        (advancing_of lines.new touched.new steps.new) }
-{
-    let line = &lines[state as usize];
-    let old = line.level;
-    advance_line(at.event.tick, state, lines, touched, steps);
-    update_row_slopes(at, state, old, slopes, lines, touched, steps);
-}
-
-// Moves the line of a state to a tick and adds the state to the affected ones, unless the line is
-// already there.
-fn advance_line<L: Ledger>(
-    tick: u64,
-    j: u32,
-    lines: &mut [Integrator],
-    touched: &mut Vec<u32>,
-    steps: &mut Steps<L>,
-)
-    requires allowed { CanAdvance tick lines.old touched.old.items (vec_capacity touched.old) }
-    requires known { j < length lines.old }
-    ensures { HaveAdvanced tick (j ∷ [])
-        (advancing_of lines.old touched.old steps.old)
-        (advancing_of lines.new touched.new steps.new) }
-{
-    let line = &mut lines[j as usize];
-    if move_line(line, tick, steps) {
-        touched.push_reserved(j);
-    }
-}
-
-// Moves a line to a tick, unless it is already there. It returns whether it moved.
-fn move_line<L: Ledger>(line: &mut Integrator, tick: u64, steps: &mut Steps<L>) -> bool
-    requires later { line.old.tick ≤ tick }
-    requires tick_limit { tick ≤ tick_limit }
-    requires size_limit { IsWithin 89 (state_at line.old tick) }
-    ensures moved { result ≡ true
-        → (line.old.tick ≡ tick → ⊥)
-        × (line.new ≡ record line.old { tick = tick; x = state_at line.old tick })
-        × (steps.new ≡ steps.old + 1) }
-    ensures left { result ≡ false
-        → (line.old.tick ≡ tick) × (line.new ≡ line.old) × (steps.new ≡ steps.old) }
-{
-    if line.tick == tick {
-        return false;
-    }
-    line.move_to(tick, steps);
-    true
-}
-
-// Updates the slopes of the rows that read a state for its new level, and adds the states of these
-// rows to the affected ones. `old` is the level before.
-fn update_row_slopes<L: Ledger>(
-    at: &EventLevels,
-    state: u32,
-    old: i64,
-    slopes: &mut [i128],
-    lines: &mut [Integrator],
-    touched: &mut Vec<u32>,
-    steps: &mut Steps<L>,
-)
-    requires ready { CanFollowLevel at.now state slopes.old lines.old touched.old.items
-        (vec_capacity touched.old) }
-    requires old { IsLevel old }
-    ensures slopes { IsWritten (pos 0)
-        (IsSumAfterLevelChange sum.Slope at.now.event.machine.now state old
-        (int_at at.now.event.levels.now state) at.now.discretes.now slopes.old)
-        (reading_rows at.now.event.machine.now state) slopes.old slopes.new }
-    ensures gathered { HaveAdvanced at.now.event.tick
-        (reading_rows at.now.event.machine.now state)
-        (advancing_of lines.old touched.old steps.old)
-        (advancing_of lines.new touched.new steps.new) }
-{
-    let mode = Mode {
-        machine: at.event.machine,
-        discretes: at.discretes,
-    };
-    let rows = at.event.uses.rows_of(state);
-    let coefficients = at.event.uses.coefficients_of(state);
-    let new = at.event.levels[state as usize];
-    for place in 0..rows.len() {
-        let row = rows[place];
-        let own = coefficients[place];
-        let change = sum_difference(RowSum::Slope, &mode, own, row, state, old, new);
-        slopes[row as usize] += change;
-        advance_line(at.event.tick, row, lines, touched, steps);
-    }
-}
-
-// Sets the slopes and levels of these states, whose lines are at a tick, and schedules the ticks at
-// which they leave their quanta.
-fn schedule_new_slopes(
-    at: &NewSlopes,
-    states: &[u32],
-    lines: &mut [Integrator],
-    agenda: &mut Agenda,
-)
-    requires on { CanSchedule at.now lines.old agenda.old }
-    requires states { All (λ j. j < state_count at.now.event.machine.now) states.now }
-    requires ready { (j : ℕ) → is_listed states.now j ≡ true
-        → MaySchedule at.now.event.machine.now at.now.event.tick j
-        (int_at at.now.event.levels.now j)
-        (line_at lines.old j) }
-    ensures { AreScheduled at.now.event.machine.now at.now.event.tick
-        at.now.event.levels.now at.now.slopes.now states.now
-        (λ j. state_at (line_at lines.old j) at.now.event.tick)
-        (record { lines = lines.old; dues = agenda.old })
-        (record { lines = lines.new; dues = agenda.new }) }
-{
-    for j in states {
-        schedule_new_slope(at, *j, lines, agenda);
-    }
 }

@@ -8,7 +8,7 @@ use Common.{touched_after, truths_are, Values}
 use Rattle.qss_states.specs.Variables.{AreSlopesOf}
 use Rattle.qss_run.proofs.Apart.{alike_then}
 use Rattle.qss_run.proofs.OwnConditions.{settled_fits, still_fits, rest_watched, same_settled}
-use Rattle.qss_run.proofs.QuietTick.{value_small, condition_bounded}
+use Rattle.qss_run.proofs.SmallValues.{value_small, condition_bounded}
 use Rattle.qss_run.proofs.Settling.{among_settling, unread_by}
 use Rattle.qss_run.proofs.Untouched.{each_watched}
 use Rattle.qss_run.proofs.condition_detectors.update_detectors_after_handlers.Goals as goal
@@ -131,7 +131,6 @@ returns c =
         before = ap (λ (v : Values). length v.pre) work ∙ fits.before;
         room = record {
           moved = fits.room.moved;
-          touched = fits.room.touched;
           changed = fits.room.changed;
           fired = fits.room.fired;
           assigned = fits.room.assigned;

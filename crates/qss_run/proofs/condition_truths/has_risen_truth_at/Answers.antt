@@ -1,7 +1,7 @@
 -- A condition that became true is found, since it is one of those apart.
-use Rattle.qss_run.proofs.Common.{◌∙◌, ◌≡◌, arith, became_true, false, get_or, none_due, sym}
+use Rattle.qss_run.proofs.Common.{◌∙◌, ◌≡◌, arith, became_true, false, get_or, sym}
+use Rattle.qss_events.proofs.Risen.{none_due, some_due}
 use Rattle.std.proofs.Common.{below_more}
-use Rattle.qss_events.proofs.Risen.{some_due}
 use Rattle.qss_run.proofs.Called.{none_but_these}
 use Rattle.qss_run.proofs.condition_truths.has_risen_truth_at.Goals as goal
 

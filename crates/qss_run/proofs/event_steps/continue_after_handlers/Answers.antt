@@ -1,12 +1,12 @@
 -- What goes on after the handlers of a tick.
 use Rattle.qss_run.proofs.Common
 use Common.{ℕ, ℤ, ◌+◌, ◌<◌, ◌∙◌, ◌≡◌, All, ap, AreAssignedFrom, AreDetectorsUpTo, AreLinesAt}
-use Common.{AreRisingBelow, AreWithin, arith, Conditions, conditions, conditions_few, detector_at}
-use Common.{detector_states_of, due_at, firing_flags, FitsMachine, flag_at, int_at, IsDetectorAt}
-use Common.{IsRestartedFrom, IsStoreAt, IsWithin, length, line_at, List, list_any, pos, refl}
-use Common.{reinitialized_of, replaced_lines_from, same_length, slope_at, slopes_small, snapshot_of}
-use Common.{state_count, states_at, states_with, Store, subst, sym, tabulate, truths, Values}
-use Common.{with_items, with_items_is}
+use Common.{AreRisingBelow, AreWithin, arith, Bool, Conditions, conditions, conditions_few}
+use Common.{detector_at, detector_states_of, due_at, firing_flags, FitsMachine, flag_at, goes_from}
+use Common.{int_at, int_at-tabulate, IsDetectorAt, IsRestartedFrom, IsStoreAt, IsWithin, length}
+use Common.{Line, line_at, List, list_any, pos, refl, reinitialized_of, replaced_lines_from}
+use Common.{same_length, slope_at, slopes_small, snapshot_of, state_count, states_at, states_with}
+use Common.{Store, subst, sym, tabulate, truths, Values, with_items, with_items_is}
 use Rattle.qss_states.specs.EventContexts.{AreLevelsFor, HeldBefore}
 use Rattle.qss_run.proofs.AfterHandlers.{length-states_with, same_states, same_slopes, same_worlds}
 use Rattle.qss_run.proofs.AfterHandlers.{lead_to, watched_up_to}
@@ -72,7 +72,6 @@ update_detectors_after_handlers-requires-clause-fits g c =
       before = fits.before;
       room = record {
         moved = fits.room.moved;
-        touched = fits.room.touched;
         changed = fits.room.changed;
         fired = fits.room.fired;
         assigned = fits.room.assigned;
@@ -219,7 +218,6 @@ returns g c =
       before = base.before;
       room = record {
         moved = base.room.moved;
-        touched = base.room.touched;
         changed = base.room.changed;
         fired = base.room.fired;
         assigned = base.room.assigned;
@@ -263,6 +261,16 @@ returns g c =
       stands = subst (IsStoreAt m t) (sym same) again.1;
       snapshot = ap (snapshot_of t) same ∙ snapshot;
       rows = ap (λ (v : Store). v.rows) same;
+      kept = λ j inside so.
+          let goes : (xs : List ℤ) (l : List ℤ) (slope : ℤ) (ls : List Line) → Bool = λ xs l slope ls. goes_from t (int_at xs j) (int_at l j) slope (line_at ls j) in
+          ap (λ (v : Store). line_at v.lines.items j) same ∙ ap (λ ls. line_at ls j) of_lines
+          ∙ c.update_slopes_after_handlers.ensures.kept j inside
+          (ap (λ xs. goes xs c.as_slice-2.result.now (int_at slopes j) c.as_mut_slice-2.result.now) here
+          ∙ ap (λ l. goes y l (int_at slopes j) c.as_mut_slice-2.result.now) c.as_slice-2.ensures.value
+          ∙ ap (λ z. goes y s.levels.items z c.as_mut_slice-2.result.now) (ap (λ v. int_at v j) slopes_are ∙ int_at-tabulate (state_count m) (λ k. slope_at m k s.levels.items s.work.d) j inside)
+          ∙ ap (λ ls. goes y s.levels.items (slope_at m j s.levels.items s.work.d) ls) c.as_mut_slice-2.ensures.value
+          ∙ so)
+          ∙ ap (λ ls. line_at ls j) c.as_mut_slice-2.ensures.value;
       counted = c.update_slopes_after_handlers.ensures.counted
           ∙ ap (λ xs. c.args.steps.now + replaced_lines_from (state_count m) t xs c.as_slice-2.result.now slopes c.as_mut_slice-2.result.now) here
           ∙ ap (λ l. c.args.steps.now + replaced_lines_from (state_count m) t y l slopes c.as_mut_slice-2.result.now) c.as_slice-2.ensures.value

@@ -14,8 +14,8 @@ returns-clause-visited g c =
       record {
         leads = are.leads;
         is_next = ap (λ n. n + 1) are.as_many;
-        is_step = subst (λ w. IsStep (IsAllowedLevel c.args.q.now.name) c.args.m.now t w (snapshot_unless over (snapshot_of t c.run_event.new.s))) (sym are.reached) c.run_event.ensures.stepped;
+        is_step = subst (λ w. IsStep (IsAllowedLevel c.args.q.now.name) c.args.m.now t w (snapshot_unless over (snapshot_of t c.run_event.new.s))) (sym are.reached) c.run_event.ensures.visited.stepped;
       },
-      (λ none. c.run_event.ensures.rows none ∙ ap (λ w. tick_rows c.args.m.now t w (snapshot_of t c.run_event.new.s)) (sym are.reached)),
-      subst (λ w. c.run_event.new.steps ≤ c.args.steps.now + touches_at c.args.m.now t w (snapshot_unless over (snapshot_of t c.run_event.new.s))) (sym are.reached) c.run_event.ensures.counted,
+      (λ none. c.run_event.ensures.visited.rows none ∙ ap (λ w. tick_rows c.args.m.now t w (snapshot_of t c.run_event.new.s)) (sym are.reached)),
+      subst (λ w. c.run_event.new.steps ≤ c.args.steps.now + touches_at c.args.m.now t w (snapshot_unless over (snapshot_of t c.run_event.new.s))) (sym are.reached) c.run_event.ensures.visited.counted,
     )

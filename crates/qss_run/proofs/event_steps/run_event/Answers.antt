@@ -1,7 +1,7 @@
 -- What is to be evaluated at the next tick was removed from the event queue.
 use Rattle.qss_run.proofs.Common
-use Common.{◌+◌, ◌∙◌, ◌≡◌, ap, arith, became_true, conditions, conditions_few, flag_at, is_listed}
-use Common.{length, state_count, Store, sym}
+use Common.{◌+◌, ◌<◌, ◌∙◌, ◌≡◌, ap, arith, became_true, conditions, conditions_few, flag_at}
+use Common.{is_listed, length, state_count, Store, sym}
 use Rattle.qss_run.proofs.Jumps.{dues_later}
 use Rattle.qss_run.proofs.Takes.{none_left_before, none_called_before, is_taken, none_to_call}
 use Rattle.qss_run.proofs.event_steps.run_event.Goals as goal
@@ -69,8 +69,8 @@ take_due_conditions-requires-clause-none_before g c =
     (omega (arith, fits.places, c.len-states.ensures, s.lines.ok.0, fits.lines, ap length c.as_slice-after_handlers.ensures.value, fits.own_conditions.after_handlers))
     (λ place due e. omega (arith, dues_later c.args.m.now c.args.tick s c.requires.stands place due e)))
 
-pub run_event_of_states-requires-clause-ready : goal.run_event_of_states-requires-clause-ready
-run_event_of_states-requires-clause-ready g c =
+pub run_due_event-requires : goal.run_due_event-requires
+run_due_event-requires g c =
     let m = c.args.m.now in
     let s : Store = c.args.s.now in
     let fits = c.requires.stands.fits in
@@ -86,29 +86,16 @@ run_event_of_states-requires-clause-ready g c =
       in_time = c.requires.in_time;
     }
 
-pub run_event_with_conditions-requires : goal.run_event_with_conditions-requires
-run_event_with_conditions-requires g c =
-    let m = c.args.m.now in
+pub returns-clause-visited : goal.returns-clause-visited
+returns-clause-visited g c =
+    let visited = c.run_due_event.ensures.visited in
+    record { stepped = visited.stepped; rows = visited.rows; stands = visited.stands; room = visited.room; counted = visited.counted }
+
+pub returns-clause-kept : goal.returns-clause-kept
+returns-clause-kept g c none j inside unaffected =
     let s : Store = c.args.s.now in
-    let fits = c.requires.stands.fits in
-    let states : c.len-states.result ≡ state_count m = omega (arith, c.len-states.ensures, s.lines.ok.0, fits.lines) in
-    let places : c.len-conditions.result ≡ length (conditions m) = omega (arith, c.len-conditions.ensures, s.conditions.branches.ok.0, fits.own_conditions.branches.as_many) in
-    record {
-      taken = (
-        s.agenda,
-        is_taken m c.args.tick s c.len-states.result c.len-conditions.result c.as_slice-at_arrival.result.now c.as_slice-after_handlers.result.now c.take_due_states.new.moved c.take_due_conditions.new.changed
-            c.make_risen_truths_due.new.agenda c.take_due_states.new.agenda c.take_due_conditions.new.agenda c.requires.stands states places c.as_slice-at_arrival.ensures.value c.as_slice-after_handlers.ensures.value
-            c.make_risen_truths_due.ensures c.take_due_states.ensures.due c.take_due_states.ensures.out.without c.take_due_conditions.ensures.changing c.take_due_conditions.ensures.taken c.take_due_states.ensures.out.room c.take_due_conditions.ensures.room,
-      );
-      in_time = c.requires.in_time;
-    }
-
-pub returns-then-is_empty : goal.returns-then-is_empty
-returns-then-is_empty g c =
-    let visited = c.run_event_of_states.ensures.visited in
-    record { stepped = visited.stepped; rows = visited.rows; stands = visited.stands; room = visited.room; counted = visited.counted }
-
-pub returns-else-is_empty : goal.returns-else-is_empty
-returns-else-is_empty g c =
-    let visited = c.run_event_with_conditions.ensures in
-    record { stepped = visited.stepped; rows = visited.rows; stands = visited.stands; room = visited.room; counted = visited.counted }
+    let known : j < c.len-states.result = omega (arith, inside, c.len-states.ensures, s.lines.ok.0, c.requires.stands.fits.lines) in
+    let kept = c.run_due_event.ensures.kept none j inside unaffected in (
+      kept.0,
+      kept.1 ∙ c.take_due_conditions.ensures.taken.before j known ∙ c.take_due_states.ensures.out.without.others j kept.2 ∙ c.make_risen_truths_due.ensures.states j known,
+    )

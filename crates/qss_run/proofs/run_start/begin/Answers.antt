@@ -50,7 +50,6 @@ returns c =
       before = fits.before;
       room = record {
         moved = fits.room.moved;
-        touched = fits.room.touched;
         changed = fits.room.changed;
         fired = fits.room.fired;
         assigned = fits.room.assigned;

@@ -50,7 +50,6 @@ returns c =
         before = ap length of_pre ∙ length-map m.discretes (λ (d : DiscreteInfo). d.d0);
         room = record {
           moved = omega (arith, c.in_ok-moved.ensures.0, states);
-          touched = omega (arith, c.in_ok-moved.ensures.4, states);
           changed = omega (arith, c.in_ok-moved.ensures.1, places);
           fired = omega (arith, c.in_ok-moved.ensures.2, places);
           assigned = omega (arith, c.in_ok-moved.ensures.3, c.capacity.ensures, ap (λ (v : Values). v.room) c.work.view_is, room);

@@ -1,12 +1,25 @@
 -- The absolute row sums are those at the levels before.
 use Rattle.qss_states.proofs.Common
-use Common.{ℕ, ℤ, ◌∙◌, ◌≡◌, All, ap, AreMovedTo, AreWeights, arith, clash, DiffersOnlyAt, Err}
-use Common.{exceeds_row_limits, first_exceeding, int_at, is_some, IsWithin, length, List, None}
-use Common.{Over, overflow_of, pos, position, rules, state_count, subst, sym, true, Values}
+use Common.{[], ℕ, ℤ, ◌∙◌, ◌∷◌, ◌≡◌, All, ap, AreMovedTo, AreWeights, arith, Bool, DiffersOnlyAt}
+use Common.{eqb, eqb-true, exceeds_row_limits, false, first_exceeding, HasLeft, int_at, is_some}
+use Common.{IsWithin, length, List, None, not, overflow_of, pos, position, refl, rules, state_count}
+use Common.{subst, sym, true}
+use Rattle.qss_events.proofs.Overs.{clash}
+use Rattle.std.specs.Prelude.{Err}
+use Rattle.qss_hand.specs.declared.handler_statements.Over.{Over}
+use Rattle.qss_hand.specs.Values.{Values}
 use Rattle.qss_states.specs.Variables.{AreAssignedFrom}
 use Rattle.qss_states.proofs.DueLevels.{moved_inside}
 use Rattle.qss_states.proofs.FirstOvers.{over_first, over_second}
 use Rattle.qss_states.proofs.requantization.requantize_after_handlers.Goals as goal
+
+not_false : (b : Bool) → not b ≡ false → b ≡ true
+not_false true e = refl
+not_false false e = absurd (cc)
+
+nothing : {R : Type 0} (rows : List R) → length rows ≡ 0 → rows ≡ []
+nothing [] e = refl
+nothing (row ∷ rows) e = absurd (omega (arith, e))
 
 pub requantize_states-requires : goal.requantize_states-requires
 requantize_states-requires g c =
@@ -22,6 +35,11 @@ requantize_states-requires g c =
           subst (λ (xs : List ℤ). IsWithin 88 (int_at xs j)) (sym of_x)
           (fits.small_states j (pos 0) (omega (arith, moved_inside n moved c.requires.ready.moved j among, fits.states)));
       small_levels = c.requires.held.of_lines.small;
+      left = λ calm j among.
+          let of_log : c.as_slice-2.result.now ≡ c.args.at.now.work.now.log = c.as_slice-2.ensures.value ∙ ap (λ (v : Values). v.log) c.work.view_is in
+          let empty : eqb (length c.as_slice-2.result.now) 0 ≡ true = sym c.is_empty.ensures ∙ not_false c.is_empty.result calm in
+          let none : c.args.at.now.work.now.log ≡ [] = sym of_log ∙ nothing c.as_slice-2.result.now (eqb-true (length c.as_slice-2.result.now) 0 empty) in
+          subst (λ (xs : List ℤ). HasLeft c.args.at.now.machine.now j (int_at xs j) (int_at c.args.levels.now j)) (sym of_x) (c.requires.left none j among);
       room = search rules;
     }
 

@@ -1,7 +1,7 @@
 -- The level exceeds its limit, or it is taken.
 use Rattle.qss_states.proofs.Common
-use Common.{◌++◌, ◌∙◌, ◌≡◌, ap, exceeds, false, of_z, passes-within, refl, sym, to_z, to_z-of_z}
-use Common.{w128}
+use Common.{◌++◌, ◌∙◌, ◌≡◌, ap, exceeds, false, of_z, refl, sym, to_z, to_z-of_z, w128}
+use Rattle.mu_num.proofs.SizeTests.{passes-within}
 use Rattle.qss_states.specs.LevelChanges.{row_of_level}
 use Rattle.qss_states.proofs.requantization.set_requantized_within_limit.Goals as goal
 

@@ -1,11 +1,11 @@
 -- One more row.
 use Rattle.qss_states.proofs.Common
-use Common.{ℕ, ℤ, ◌*ℤ◌, ◌+ℤ◌, ◌-ℤ◌, ◌<◌, ◌^◌, ◌∙◌, ◌≡◌, ◌≤◌, ap, arith, coefficients_kept}
-use Common.{coefficients_many, FitsSigned, get_or, int_at, ints, IsSumAfterLevelChange, IsWithin}
-use Common.{IsWritten, length, length-set, List, mode_coefficient_at, not_before, of_z, pos}
-use Common.{reading_coefficients, reading_rows, row_coefficient, rows_kept, rows_many, rules}
-use Common.{state_count, subst, sym, taken_by, to_z, to_z-of_z, unsigned_abs, w128, w64}
-use Common.{written_all, written_more}
+use Common.{ℕ, ℤ, ◌*ℤ◌, ◌+ℤ◌, ◌-ℤ◌, ◌<◌, ◌^◌, ◌∙◌, ◌≡◌, ◌≤◌, ap, arith, FitsSigned, get_or, int_at}
+use Common.{ints, IsSumAfterLevelChange, IsWithin, IsWritten, length, length-set, List}
+use Common.{mode_coefficient_at, not_before, of_z, pos, reading_coefficients, reading_rows}
+use Common.{row_coefficient, rows_kept, rows_many, rules, state_count, subst, sym, taken_by, to_z}
+use Common.{to_z-of_z, unsigned_abs, w128, w64, written_all, written_more}
+use Rattle.qss_machine.proofs.KeptReaders.{coefficients_kept, coefficients_many}
 use Rattle.qss_states.proofs.Shifting.{readers_as_many, reader_numbers, own_coefficient}
 use Rattle.qss_states.proofs.Shifting.{small_coefficient}
 use Rattle.qss_states.proofs.row_sum_changes.update_row_sums.Goals.{After-coefficients_of-coefficients}

@@ -2,13 +2,11 @@
 use Rattle.qss_states.proofs.Common
 use Common.{◌∙◌, ◌≡◌, ap, arith, Bool, due_at, false, get_or-set_other, has_level_and_slope, int_at}
 use Common.{IsLineWithinQuantum, IsRestartedFrom, level_unit, Line, line_at, line_here, no_line}
-use Common.{not, of_z, quantum_of, refl, state_at, state_count, subst, sym, w128, w64}
-use Rattle.qss_states.specs.Advancing.{MaySchedule}
+use Common.{not, of_z, quantum_of, refl, state_at, state_count, subst, sym, w128}
+use Rattle.qss_states.specs.SlopeUpdates.{MaySchedule}
 use Rattle.qss_states.proofs.Counting.{one_if}
 use Rattle.qss_states.proofs.GoingOn.{line_read, moved_read}
 use Rattle.qss_states.proofs.Renewed.{goes_otherwise, goes_so, one_renewed}
-use Rattle.qss_states.proofs.slope_updates.update_slope.Goals.{else-line-slope-via-then-line-slope+else-line-level}
-use Rattle.qss_states.proofs.slope_updates.update_slope.Goals.{else-line-slope-via-else-line-slope}
 use Rattle.qss_states.proofs.slope_updates.update_slope.Goals as goal
 
 pub schedule_new_slope-requires-clause-ready : goal.schedule_new_slope-requires-clause-ready
@@ -18,7 +16,7 @@ schedule_new_slope-requires-clause-ready g c =
     let lines = c.args.lines.now in
     let level = int_at c.args.at.now.event.levels.now c.args.j in
     let old : Line = line_at lines c.args.j in
-    let moved = moved_read c.requires.allowed tick c.index-lines-j-2.result c.move_to.new.self c.move_to.ensures.moved in
+    let moved = moved_read c.requires.allowed tick c.index-lines-j.result c.move_to.new.self c.move_to.ensures.moved in
     subst (MaySchedule m tick c.args.j level) (sym moved)
     (record {
       here = refl;
@@ -33,7 +31,7 @@ returns-clause-goes_on g c =
     let lines = c.args.lines.now in
     let old : Line = line_at lines j in
     let on = c.schedule_new_slope.ensures.goes_on in
-    let moved = moved_read c.requires.allowed tick c.index-lines-j-2.result c.move_to.new.self c.move_to.ensures.moved in
+    let moved = moved_read c.requires.allowed tick c.index-lines-j.result c.move_to.new.self c.move_to.ensures.moved in
     record {
       own = subst (λ x. IsRestartedFrom m tick x (int_at c.args.at.now.event.levels.now j) (int_at c.args.at.now.slopes.now j) j (line_at c.schedule_new_slope.new.lines j) (due_at c.schedule_new_slope.new.agenda j))
           (ap (λ (l : Line). state_at l tick) moved ∙ line_here tick (state_at old tick) old.slope old.level) on.own;
@@ -47,11 +45,8 @@ returns-clause-counted g c =
     let level = int_at c.args.at.now.event.levels.now j in
     let slope = int_at c.args.at.now.slopes.now j in
     let on = returns-clause-goes_on g c in
-    let read = c.line.view_is ∙ line_read c.requires.allowed c.index-lines-j.result in
-    let other : has_level_and_slope level slope (line_at lines j) ≡ false = goes_otherwise level slope (line_at lines j) (λ own_level own_slope. elim c.else-line-slope.branch [
-      | else-line-slope-via-then-line-slope+else-line-level w ↦ w.if-line-level.false (ap (of_z w64) (ap (λ (l : Line). l.level) read ∙ own_level))
-      | else-line-slope-via-else-line-slope w ↦ w.if-line-slope.false (ap (of_z w128) (ap (λ (l : Line). l.slope) read ∙ own_slope))
-    ]) in
+    let read = line_read c.requires.allowed c.index-lines-j.result in
+    let other : has_level_and_slope level slope (line_at lines j) ≡ false = goes_otherwise level slope (line_at lines j) (λ own_level own_slope. c.if-line-at-2.false (ap (of_z w128) (ap (λ (l : Line). l.slope) (c.line.view_is ∙ read) ∙ own_slope))) in
     one_renewed (state_count c.args.at.now.event.machine.now) j (λ k. has_level_and_slope (int_at c.args.at.now.event.levels.now k) (int_at c.args.at.now.slopes.now k)) lines c.schedule_new_slope.new.lines
     c.args.steps.now c.move_to.new.steps c.requires.allowed.known (goes_so level slope (line_at c.schedule_new_slope.new.lines j) on.own.own_level on.own.own_slope) on.others.lines
     (omega (arith, c.move_to.ensures.counted, ap (λ (b : Bool). one_if (not b)) other))

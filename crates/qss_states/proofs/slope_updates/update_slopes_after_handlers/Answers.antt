@@ -53,7 +53,7 @@ update_reader_slopes-requires-clause-allowed g c =
       };
       each = λ j h.
           may_reslope_seated m c.args.at.now.tick c.args.handled.now.states.now c.args.at.now.levels.now c.update_slopes_from_handlers.new.slopes c.args.at.now.moved.now first between c.restart_state_slopes.ensures.go_on many c.requires.small_states j h
-          (held.may_move.later j (omega (arith, h, many))) (c.requires.levels.near j h) (held.due j h);
+          (held.earlier j h) (λ none. held.before.1.levels.of_lines.own_levels j h ∙ sym (held.before.1.levels.off.others j none)) (c.requires.levels.near j h) (held.due j h);
     }
 
 pub update_reader_slopes-requires-2-clause-allowed : goal.update_reader_slopes-requires-2-clause-allowed
@@ -73,7 +73,7 @@ update_reader_slopes-requires-2-clause-allowed g c =
       each = λ j h.
           let may : MayUpdateSlope m c.args.at.now.tick (int_at c.args.at.now.levels.now j) (int_at c.update_slopes_from_handlers.new.slopes j) j (line_at c.restart_state_slopes.new.lines j) (due_at c.restart_state_slopes.new.agenda j) =
           may_reslope_seated m c.args.at.now.tick c.args.handled.now.states.now c.args.at.now.levels.now c.update_slopes_from_handlers.new.slopes c.args.at.now.moved.now first between c.restart_state_slopes.ensures.go_on many c.requires.small_states j h
-          (held.may_move.later j (omega (arith, h, many))) (c.requires.levels.near j h) (held.due j h) in
+          (held.earlier j h) (λ none. held.before.1.levels.of_lines.own_levels j h ∙ sym (held.before.1.levels.off.others j none)) (c.requires.levels.near j h) (held.due j h) in
           may_reslope_again m c.args.at.now.tick (int_at c.args.at.now.levels.now j) (int_at c.update_slopes_from_handlers.new.slopes j) j (line_at c.restart_state_slopes.new.lines j) (line_at c.update_reader_slopes.new.lines j)
           (due_at c.restart_state_slopes.new.agenda j) (due_at c.update_reader_slopes.new.agenda j) may (c.update_reader_slopes.ensures.resloped.each j h);
     }

@@ -3,25 +3,27 @@ use Rattle.qss_run.proofs.Common
 use Common.{ℕ, ℤ, ◌++◌, ◌+◌, ◌∙◌, ◌≡◌, ◌≤◌, All, ap, AreAlikeBut, AreAssignedFrom, AreMovedTo}
 use Common.{AreNextLevels, AreRisingBelow, AreSumsBefore, AreWeights, arith, Bool, clash}
 use Common.{condition_at, Conditions, conditions, detector_at, DetectorView, DiffersOnlyAt, due_at}
-use Common.{Err, exceeds_row_limits, first_exceeding, flag_at, handlers_at, HandlerState}
-use Common.{handling_from, holds_at, int_at, int_at-states_at, is_listed, is_reinitialized, is_some}
-use Common.{IsAllowedLevel, IsDetectorAt, IsHandlerEffect, IsSmall, IsWithin, length, level_rows}
-use Common.{line_at, List, may_move, moved_states, None, Ok, Option, option_or, overflow_of}
-use Common.{position, refl, replaced_lines_from, rules, same_length, Slope, slope_at, Snapshot}
-use Common.{snapshot_of, state_at, state_count, states_at, states_with, Store, subst, sym, tabulate}
-use Common.{touches_at, true, truth, truths, value_at, Values, vec_capacity, with_items}
+use Common.{Err, exceeds_row_limits, first_exceeding, flag_at, goes_from, handlers_at, HandlerState}
+use Common.{handling_from, HaveLeft, holds_at, int_at, int_at-states_at, int_at-tabulate, is_listed}
+use Common.{is_reinitialized, is_some, IsAllowedLevel, IsDetectorAt, IsHandlerEffect, IsSmall}
+use Common.{IsWithin, length, level_rows, line_at, List, moved_states, None, Ok, Option, option_or}
+use Common.{overflow_of, position, refl, replaced_lines_from, rules, same_length, Slope, slope_at}
+use Common.{Snapshot, snapshot_of, state_at, state_count, states_at, states_with, Store, subst, sym}
+use Common.{tabulate, touches_at, true, truth, truths, value_at, Values, vec_capacity, with_items}
 use Common.{with_items_is}
+use Rattle.qss_states.proofs.DueLevels.{may_move}
 use Rattle.qss_run.proofs.AfterHandlers.{same_worlds}
 use Rattle.qss_run.proofs.Crossed.{none_early, reinits_known, later_dues, flag_same, rest_as_before}
 use Rattle.qss_run.proofs.Crossed.{watched_then, watched_still, moved_to, near_after, due_after}
 use Rattle.qss_run.proofs.Crossed.{conditions_stay}
 use Rattle.qss_run.proofs.Handled.{rows_handled}
-use Rattle.qss_run.proofs.QuietVisits.{levels_before, lines_then, own_slope, rest_small}
+use Rattle.qss_run.proofs.Kept.{have_left, not_due, on_line, same_due}
+use Rattle.qss_run.proofs.DueRemoved.{earlier, levels_before, lines_then, own_slope, rest_small}
 use Rattle.qss_run.proofs.Reinits.{kept_state}
-use Rattle.qss_run.proofs.Touched.{renewals_from_touched}
+use Rattle.qss_run.proofs.Touched.{goes_on_from, IsUntouched, renewals_from_touched, untouched}
 use Rattle.qss_run.proofs.Visits.{arrives, handles_from, both_none, early, late, steps_to, end_of}
 use Rattle.qss_run.proofs.Visits.{levels_small}
-use Rattle.qss_run.proofs.event_steps.run_event_with_conditions.Goals as goal
+use Rattle.qss_run.proofs.event_steps.run_due_event.Goals as goal
 
 pub handle_changed_conditions-requires-clause-ready : goal.handle_changed_conditions-requires-clause-ready
 handle_changed_conditions-requires-clause-ready g c =
@@ -61,8 +63,8 @@ handle_changed_conditions-requires-clause-ready g c =
       taken = record { later = later_dues m c.args.tick agenda s taken c.requires.in_time; none = taken.without.states };
     }
 
-pub returns-in_err-handle_changed_conditions : goal.returns-in_err-handle_changed_conditions
-returns-in_err-handle_changed_conditions g c =
+pub returns-in_err-handle_changed_conditions-clause-visited : goal.returns-in_err-handle_changed_conditions-clause-visited
+returns-in_err-handle_changed_conditions-clause-visited g c =
     let m = c.args.m.now in
     let t = c.args.tick + 1 in
     let s : Store = c.args.s.now in
@@ -84,6 +86,16 @@ returns-in_err-handle_changed_conditions g c =
       room = refl;
       counted = omega arith;
     }
+
+pub returns-in_err-handle_changed_conditions-clause-kept : goal.returns-in_err-handle_changed_conditions-clause-kept
+returns-in_err-handle_changed_conditions-clause-kept g c none =
+    let given : c.from_residual.result ≡ Err c.in_err-handle_changed_conditions.field-0.0 = search rules in
+    clash (overflow_of c.from_residual.result) (ap is_some (ap overflow_of given)) none
+
+pub returns-in_err-requantize_after_handlers-clause-kept : goal.returns-in_err-requantize_after_handlers-clause-kept
+returns-in_err-requantize_after_handlers-clause-kept g c none =
+    let given : c.from_residual-in_err-requantize_after_handlers.result ≡ Err c.in_err-requantize_after_handlers.field-0.0 = search rules in
+    clash (overflow_of c.from_residual-in_err-requantize_after_handlers.result) (ap is_some (ap overflow_of given)) none
 
 pub requantize_after_handlers-requires-clause-ready : goal.requantize_after_handlers-requires-clause-ready
 requantize_after_handlers-requires-clause-ready g c =
@@ -133,6 +145,27 @@ requantize_after_handlers-requires-clause-held g c =
           (subst (λ l. AreWeights m l s.work.d s.weights) (sym c.as_mut_slice.ensures.value) stands.own_weights);
     }
 
+pub requantize_after_handlers-requires-clause-left : goal.requantize_after_handlers-requires-clause-left
+requantize_after_handlers-requires-clause-left g c idle =
+    let m = c.args.m.now in
+    let t = c.args.tick + 1 in
+    let s : Store = c.args.s.now in
+    let agenda : List (Option ℕ) = c.requires.taken.0 in
+    let taken = c.requires.taken.1 in
+    let h : HandlerState = handling_from m t (states_at c.as_slice.result.now t) s.work.d s.conditions.at_arrival.items s.conditions.after_handlers.items in
+    let is_h : h ≡ handlers_at m t (snapshot_of c.args.tick s) =
+    handles_from m c.args.tick (record s { agenda = agenda }) taken.stands c.as_slice.result.now s.conditions.at_arrival.items s.conditions.after_handlers.items
+    c.as_slice.ensures.value refl refl in
+    let calm : overflow_of c.handle_changed_conditions.result ≡ None =
+    ap overflow_of c.in_ok-handle_changed_conditions.was in
+    let moved = c.handle_changed_conditions.new.moved.items in
+    let assigned = c.handle_changed_conditions.new.assigned.items in
+    let new : Values = c.handle_changed_conditions.new.work in
+    let handled : IsHandlerEffect m t s.lines.items s.moved.items moved assigned s.work new h =
+    subst (λ ls. IsHandlerEffect m t ls s.moved.items moved assigned s.work new h) c.as_slice.ensures.value (c.handle_changed_conditions.ensures.handled calm) in
+    subst (λ js. HaveLeft m js new.x c.as_mut_slice.result.now) (sym c.as_slice-4.ensures.value)
+    (subst (HaveLeft m moved new.x) (sym c.as_mut_slice.ensures.value) (have_left m c.args.tick agenda s taken c.requires.in_time moved assigned new h handled is_h idle))
+
 pub requantize_after_handlers-requires-clause-room : goal.requantize_after_handlers-requires-clause-room
 requantize_after_handlers-requires-clause-room g c =
     let m = c.args.m.now in
@@ -156,8 +189,8 @@ requantize_after_handlers-requires-clause-room g c =
       c.requires.taken.1.stands.fits.room.rows,
     )
 
-pub returns-in_err-requantize_after_handlers : goal.returns-in_err-requantize_after_handlers
-returns-in_err-requantize_after_handlers g c =
+pub returns-in_err-requantize_after_handlers-clause-visited : goal.returns-in_err-requantize_after_handlers-clause-visited
+returns-in_err-requantize_after_handlers-clause-visited g c =
     let m = c.args.m.now in
     let t = c.args.tick + 1 in
     let s : Store = c.args.s.now in
@@ -261,7 +294,6 @@ continue_after_handlers-requires g c =
         before = handled.fits.before;
         room = record {
           moved = omega (arith, c.handle_changed_conditions.ensures.moved_room, fits.room.moved);
-          touched = fits.room.touched;
           changed = fits.room.changed;
           fired = omega (arith, c.handle_changed_conditions.ensures.fired_room, fits.room.fired);
           assigned = omega (arith, c.handle_changed_conditions.ensures.assigned_room, fits.room.assigned);
@@ -306,6 +338,7 @@ continue_after_handlers-requires g c =
         may_move = may_move (lines_then m c.args.tick agenda s taken c.requires.in_time
             (ap (λ ls. first_exceeding 88 (states_at ls t)) (sym c.as_slice.ensures.value)
             ∙ none_early m t (states_at c.as_slice.result.now t) s.work.d s.conditions.at_arrival.items s.conditions.after_handlers.items calm_h));
+        earlier = earlier m c.args.tick agenda s taken c.requires.in_time;
         before = (
           s.levels.items,
           subst (λ p. AreSumsBefore Slope m moved levels p s.slopes.items s.lines.items s.levels.items) (sym of_pre)
@@ -316,8 +349,8 @@ continue_after_handlers-requires g c =
       };
     }
 
-pub returns : goal.returns
-returns g c =
+pub returns-clause-visited : goal.returns-clause-visited
+returns-clause-visited g c =
     let m = c.args.m.now in
     let t = c.args.tick + 1 in
     let s : Store = c.args.s.now in
@@ -394,3 +427,60 @@ returns g c =
       room = ap (λ v. vec_capacity v) c.continue_after_handlers.ensures.rows ∙ c.requantize_after_handlers.ensures.room;
       counted = omega (arith, counted, touched);
     }
+
+pub returns-clause-kept : goal.returns-clause-kept
+returns-clause-kept g c none j inside unaffected =
+    let m = c.args.m.now in
+    let t = c.args.tick + 1 in
+    let s : Store = c.args.s.now in
+    let agenda : List (Option ℕ) = c.requires.taken.0 in
+    let taken = c.requires.taken.1 in
+    let h : HandlerState = handling_from m t (states_at c.as_slice.result.now t) s.work.d s.conditions.at_arrival.items s.conditions.after_handlers.items in
+    let is_h : h ≡ handlers_at m t (snapshot_of c.args.tick s) =
+    handles_from m c.args.tick (record s { agenda = agenda }) taken.stands c.as_slice.result.now s.conditions.at_arrival.items s.conditions.after_handlers.items
+    c.as_slice.ensures.value refl refl in
+    let calm : overflow_of c.handle_changed_conditions.result ≡ None =
+    ap overflow_of c.in_ok-handle_changed_conditions.was in
+    let moved = c.handle_changed_conditions.new.moved.items in
+    let assigned = c.handle_changed_conditions.new.assigned.items in
+    let new : Values = c.handle_changed_conditions.new.work in
+    let handled : IsHandlerEffect m t s.lines.items s.moved.items moved assigned s.work new h =
+    subst (λ ls. IsHandlerEffect m t ls s.moved.items moved assigned s.work new h) c.as_slice.ensures.value (c.handle_changed_conditions.ensures.handled calm) in
+    let fresh : List ℤ = c.requantize_after_handlers.ensures.taken.0 in
+    let to : AreMovedTo m c.as_slice-4.result.now new.x c.as_mut_slice.result.now h.states =
+    subst (λ js. AreMovedTo m js new.x c.as_mut_slice.result.now h.states) (sym c.as_slice-4.ensures.value)
+    (subst (λ l. AreMovedTo m moved new.x l h.states) (sym c.as_mut_slice.ensures.value) (moved_to m c.args.tick agenda s taken c.requires.in_time moved assigned new h handled)) in
+    let allowed : AreNextLevels (IsAllowedLevel c.args.q.now.name) m h.states s.levels.items fresh =
+    subst (λ l. AreNextLevels (IsAllowedLevel c.args.q.now.name) m h.states l fresh) c.as_mut_slice.ensures.value (c.requantize_after_handlers.ensures.taken.1.allowed h.states to) in
+    let fine : overflow_of c.requantize_after_handlers.result ≡ None =
+    ap overflow_of c.in_ok-requantize_after_handlers.was in
+    let levels : List ℤ = (with_items s.levels c.requantize_after_handlers.new.levels).items in
+    let are_fresh : levels ≡ fresh = with_items_is s.levels c.requantize_after_handlers.new.levels (c.requantize_after_handlers.auto.levels ∙ c.as_mut_slice.ensures.len) ∙ c.requantize_after_handlers.ensures.taken.1.levels fine in
+    let allowed_now : AreNextLevels (IsAllowedLevel c.args.q.now.name) m h.states s.levels.items levels =
+    subst (λ l. AreNextLevels (IsAllowedLevel c.args.q.now.name) m h.states s.levels.items l) (sym are_fresh) allowed in
+    let fits = taken.stands.fits in
+    let w : Snapshot = snapshot_of c.args.tick s in
+    let last : Store = c.continue_after_handlers.new.s in
+    let next : Snapshot = snapshot_of t last in
+    let x : List ℤ = states_with s.lines.items t moved new.x in
+    let next_levels : next.levels ≡ levels = ap (λ (v : Snapshot). v.levels) c.continue_after_handlers.ensures.snapshot in
+    let next_discretes : next.discretes ≡ new.d = ap (λ (v : Snapshot). v.discretes) c.continue_after_handlers.ensures.snapshot in
+    let slopes : List ℤ = tabulate (state_count m) (λ k. slope_at m k levels new.d) in
+    let still : IsUntouched m t w next j = untouched m t w next j unaffected in
+    let goes : goes_from t (int_at x j) (int_at next.levels j) (int_at slopes j) (line_at s.lines.items j) ≡ true =
+    goes_on_from m t w next taken.stands.stands_for.left.one_each (ap length next_levels ∙ same_length s.levels c.requantize_after_handlers.new.levels ∙ fits.levels)
+    fits.values.discretes (ap length next_discretes ∙ handled.fits.discretes) s.lines.items slopes
+    (λ k known. (taken.stands.stands_for.lines k known).own_level) (λ k known. (taken.stands.stands_for.lines k known).own_slope)
+    (ap (λ l. tabulate (state_count m) (λ k. slope_at m k l new.d)) (sym next_levels) ∙ ap (λ d. tabulate (state_count m) (λ k. slope_at m k next.levels d)) (sym next_discretes))
+    x j inside still (on_line m c.args.tick agenda s taken c.requires.in_time moved assigned new h handled is_h c.args.q.now.name levels allowed_now next next_levels j inside still) in
+    let line : line_at last.lines.items j ≡ line_at s.lines.items j =
+    c.continue_after_handlers.ensures.kept j inside
+    (ap (λ l. goes_from t (int_at x j) (int_at l j) (slope_at m j levels new.d) (line_at s.lines.items j)) (sym next_levels)
+    ∙ ap (λ z. goes_from t (int_at x j) (int_at next.levels j) z (line_at s.lines.items j)) (sym (int_at-tabulate (state_count m) (λ k. slope_at m k levels new.d) j inside))
+    ∙ goes) in (
+      line,
+      same_due m c.args.tick agenda s taken c.requires.in_time moved assigned new h handled is_h c.args.q.now.name levels allowed_now next next_levels j inside still
+          c.handle_changed_conditions.new.agenda last.agenda (c.handle_changed_conditions.ensures.without calm) (line_at last.lines.items j) line
+          (c.continue_after_handlers.ensures.stands.stands_for.dues j inside),
+      not_due m c.args.tick agenda s taken c.requires.in_time moved assigned new h handled is_h c.args.q.now.name levels allowed_now next next_levels j inside still,
+    )
