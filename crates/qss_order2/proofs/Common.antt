@@ -61,6 +61,7 @@ pub use Rattle.qss_machine.specs.declared.machine_parts.Entry.{Entry}
 pub use Rattle.qss_machine.specs.declared.machine_parts.Product.{Product}
 pub use Rattle.qss_machine.specs.declared.machine_parts.SlopeRow.{SlopeRow}
 pub use Rattle.qss_machine.specs.declared.machine_parts.StateInfo.{StateInfo}
+pub use Rattle.qss_hand.specs.Works.{overflow_of}
 pub use Rattle.qss_rows.specs.Simulations.{text_in}
 pub use Rattle.qss_order2.specs.Calls.{AreSilent2, end_of, tick_of, view_of}
 pub use Rattle.qss_order2.specs.Events.{IsNext2, IsStarted, IsVisit2, LeadsSilently2, Overflows}

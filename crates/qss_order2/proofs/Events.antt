@@ -1,8 +1,8 @@
 -- After an event a simulator stands within its limits.
 use Rattle.qss_order2.proofs.Common
 use Common.{ℕ, ℤ, ◌+◌, ◌∙◌, ◌≡◌, ◌≤◌, ap, arith, Done, end_of, Events, first_exceeding_limit}
-use Common.{IsNext2, Machine, motion_at, None, Option, Outcome2, Over, refl, Some, Stands, Store}
-use Common.{tick_of, view_of}
+use Common.{IsNext2, Machine, motion_at, None, Option, Outcome2, Over, overflow_of, refl, Some}
+use Common.{Stands, Store, tick_of, view_of}
 
 none_over : (o : Option ℕ) (tick : ℕ) → 0 + 1 ≤ tick → ((var : ℕ) → o ≡ Some var → tick ≡ 0) →
     o ≡ None
@@ -17,7 +17,7 @@ pub within_then : (Rule : ℤ → ℤ → ℤ → Type 0) (m : Machine) (from : 
 within_then Rule m from s (Events tick) to after n stands e =
     let there = stands e in
     ap (λ (t : ℕ). first_exceeding_limit m (motion_at m after.motion t).levels
-    after.motion.changes.items) n.1.here ∙ there.over ∙ none_over after.over tick (omega (
+    after.motion.changes.items) n.1.here ∙ there.over ∙ none_over (overflow_of after.over) tick (omega (
       arith,
       n.1.is_next,
     )) there.at_start

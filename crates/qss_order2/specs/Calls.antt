@@ -3,6 +3,8 @@ use Rattle.std.specs.Prelude.{◌≡◌, ℕ, ◌+◌, ℤ, List, length, Option
 use Rattle.qss_machine.specs.declared.compiled_machine.Machine.{Machine}
 use Rattle.qss_order2.specs.declared.outcome2.Outcome2.{Outcome2}
 use Rattle.qss_order2.specs.declared.outcome2.Outcome2.TheVariants.{Events, Done, Over}
+use Rattle.qss_hand.specs.Works.{overflow_of}
+use Rattle.qss_order2.specs.declared.order2_events.EventStep.{EventStep}
 use Rattle.qss_order2.specs.declared.order2_start.Store.{Store}
 use Rattle.qss_order2.specs.SecondSteps.{SecondSnapshot, second_snapshot_unless}
 use Rattle.qss_order2.specs.SecondRuns.{last_second_snapshot, tick_rows2}
@@ -39,11 +41,12 @@ pub record AreSilent2 (Rule : ℤ → ℤ → ℤ → Type 0) (m : Machine) (fro
   pub as_many : from + length silent ≡ tick
   pub reached : last_second_snapshot w0 silent ≡ w
 
--- a store advanced to a tick: event-free ticks, then one more tick whose rows it holds
-abbrev pub HasLooked : (ℤ → ℤ → ℤ → Type 0) → Machine → ℕ → Store → ℕ → Store → Type 0
-HasLooked Rule m tick old next new =
+-- a store advanced by an event step: event-free ticks, then one more tick whose rows it holds
+abbrev pub HasLooked : (ℤ → ℤ → ℤ → Type 0) → Machine → ℕ → Store → EventStep → Store → Type 0
+HasLooked Rule m tick old step new =
     (silent : List SecondSnapshot)
-    × IsVisit2 Rule m tick (snapshot_of (motion_at m old.motion tick)) silent next
-    (second_snapshot_unless new.over (snapshot_of (motion_at m new.motion next)))
-    × (new.over ≡ None → new.rows.items ≡ tick_rows2 m next (last_second_snapshot
-    (snapshot_of (motion_at m old.motion tick)) silent) (snapshot_of (motion_at m new.motion next)))
+    × IsVisit2 Rule m tick (snapshot_of (motion_at m old.motion tick)) silent step.tick
+    (second_snapshot_unless (overflow_of step.ran) (snapshot_of (motion_at m new.motion step.tick)))
+    × (overflow_of step.ran ≡ None → new.rows.items ≡ tick_rows2 m step.tick (last_second_snapshot
+    (snapshot_of (motion_at m old.motion tick)) silent)
+    (snapshot_of (motion_at m new.motion step.tick)))

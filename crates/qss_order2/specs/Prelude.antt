@@ -10,6 +10,7 @@ pub use Rattle.mu_num.specs.Limits.{IsSecondLevel, IsSecondState, IsSlope, IsSta
 pub use Rattle.mu_num.specs.ListedPlaces.{AreRisingBelow, is_listed}
 pub use Rattle.mu_num.specs.Sizes.{IsPositiveWithin, IsWithin, exceeds}
 pub use Rattle.mu_num.specs.Writes.{IsWritten}
+pub use Rattle.qss_hand.specs.Works.{overflow_of}
 pub use Rattle.qss_machine.specs.Legitimate.{start_coefficient, start_constant_part}
 pub use Rattle.qss_machine.specs.MachineLimits.{AreProducts}
 pub use Rattle.qss_machine.specs.Machines.{discrete_count, level_unit, start_discretes, state_count}

@@ -14,6 +14,7 @@ use Rattle.mu_num.specs.IndexedSums.{int_at, tabulate, abs_of}
 use Rattle.mu_num.specs.Limits.{look_span, bits_of_second_state, IsSecondState}
 use Rattle.qss_machine.specs.Machines.{state_count, discrete_count, level_unit}
 use Rattle.qss_machine.specs.Legitimate.{start_coefficient}
+use Rattle.qss_hand.specs.Works.{overflow_of}
 use Rattle.qss_order2.specs.declared.order2_motion.Motion.{Motion}
 use Rattle.qss_order2.specs.declared.order2_motion.Place.{Place}
 use Rattle.qss_order2.specs.declared.order2_start.Store.{Store}
@@ -379,10 +380,10 @@ pub record HasSettled (Rule : ℤ → ℤ → ℤ → Type 0) (m : Machine) (lef
 pub record Stands (m : Machine) (tick : ℕ) (s : Store) : Type 0 where
   pub fits : FitsMachine m s
   pub over : first_exceeding_limit m (motion_at m s.motion tick).levels s.motion.changes.items ≡
-      s.over
-  pub at_start : (var : ℕ) → s.over ≡ Some var → tick ≡ 0
-  pub goes : s.over ≡ None → IsGoing m tick s
-  pub dues : s.over ≡ None → tick < s.window →
+      overflow_of s.over
+  pub at_start : (var : ℕ) → overflow_of s.over ≡ Some var → tick ≡ 0
+  pub goes : overflow_of s.over ≡ None → IsGoing m tick s
+  pub dues : overflow_of s.over ≡ None → tick < s.window →
       KeepsDues m tick s.window (snapshot_of (motion_at m s.motion tick))
       (is_listed s.touched.places) s.dues
 

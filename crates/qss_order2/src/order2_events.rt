@@ -1,24 +1,32 @@
 //! The event step of a second-order run: from one event or limit check to the next.
 
 ghost use Rattle.std.specs.Prelude.{◌≡◌, ◌<◌, ◌≤◌, ◌+◌, ◌-◌, ◌≤ℤ◌, ℕ, ℤ, All, None, Some, true, false};
-ghost use Rattle.qss_order2.specs.Prelude.{is_listed, state_count};
+ghost use Rattle.qss_order2.specs.Prelude.{is_listed, overflow_of, state_count};
 ghost use Rattle.qss_order2.specs.Calls.{HasLooked, view_of, tick_of, end_of};
 ghost use Rattle.qss_order2.specs.Events.{IsNext2};
-ghost use Rattle.qss_order2.specs.Places.{place_in, CanRead};
+ghost use Rattle.qss_order2.specs.Places.{place_in};
 ghost use Rattle.qss_order2.specs.SecondRunLimits.{past_levels};
 ghost use Rattle.qss_order2.specs.SlopeRules.{IsRuled2};
 ghost use Rattle.qss_order2.specs.Stores.{snapshot_at, levels_of, AreLinesCalm, IsOnTheWay, motion_at, HasLists, FitsMachine, Moves, Stands, IsGoing, IsReady, KeepsDues, due_at, until, IsNextLook, HasArrived, AreQuiet, FollowsLevels, MaySettle, HasSettled};
 
 use crate::fixed_machine::FixedMachine;
 use crate::order2_leaving::{next_leaving_look, set_leaving_dues, window};
-use crate::order2_limits::{first_line_past_limit, is_limit_check_needed, is_line_limit_needed};
+use crate::order2_limits::{check_levels, is_limit_check_needed, is_line_limit_needed};
 use crate::order2_motion::{Motion, move_states_by_motion, take_motion_levels};
-use crate::order2_rises::{find_steep_rise, settle_rises};
+use crate::order2_rises::{check_level_slopes, settle_rises};
 use crate::order2_rows::{Kind2, set_end_rows, set_left_rows, set_overflow_row};
 use crate::order2_start::Store;
 use crate::outcome2::Outcome2;
 use crate::slope_rule::SlopeRule;
 use crate::touching::{touch, touch_all};
+use qss_hand::Over;
+
+/// An event step: its tick and its result. The error is the state that exceeds a limit.
+#[derive(Clone, Copy)]
+pub(crate) struct EventStep {
+    pub tick: u64,
+    pub ran: Result<(), Over>,
+}
 
 /// Advances to the next tick with rows, to an overflow, or to the last tick. Allocates no memory.
 pub(crate) fn advance_to_event(
@@ -35,16 +43,23 @@ pub(crate) fn advance_to_event(
     ensures stands { end_of result ≡ None
         → Stands f.now.machine (tick_of f.now.machine.last result) s.new }
 {
-    if let Some(var) = s.over {
-        set_overflow_row(from, var, &mut s.rows);
-        return Outcome2::Over { tick: from, var };
+    if let Err(over) = s.over {
+        set_overflow_row(from, over.var, &mut s.rows);
+        return Outcome2::Over {
+            tick: from,
+            var: over.var,
+        };
     }
     let mut tick = from;
     while tick < f.machine.last {
-        tick = look_for_event(f, rule, tick, s);
-        if let Some(var) = s.over {
-            set_overflow_row(tick, var, &mut s.rows);
-            return Outcome2::Over { tick, var };
+        let step = look_for_event(f, rule, tick, s);
+        tick = step.tick;
+        if let Err(over) = step.ran {
+            set_overflow_row(tick, over.var, &mut s.rows);
+            return Outcome2::Over {
+                tick,
+                var: over.var,
+            };
         }
         if !s.rows.is_empty() {
             return Outcome2::Events { tick };
@@ -54,21 +69,27 @@ pub(crate) fn advance_to_event(
     Outcome2::Done
 }
 
-/// Advances to the next event or limit check, lists the rows of the states that left there, and
-/// returns its tick.
-pub(crate) fn look_for_event(f: &FixedMachine, rule: &SlopeRule, tick: u64, s: &mut Store) -> u64
+/// Advances to the next event or limit check, and lists the rows of the states that left there.
+/// After an error, only the capacity for rows is specified.
+pub(crate) fn look_for_event(
+    f: &FixedMachine,
+    rule: &SlopeRule,
+    tick: u64,
+    s: &mut Store,
+) -> EventStep
     requires stands { Stands f.now.machine tick s.old }
-    requires within { s.old.over ≡ None }
+    requires within { overflow_of s.old.over ≡ None }
     requires tick_limit { tick < f.now.machine.last }
     ensures visited { HasLooked (IsRuled2 rule.now.nearest) f.now.machine tick s.old result s.new }
-    ensures later { tick < result }
-    ensures tick_limit { result ≤ f.now.machine.last }
-    ensures stands { s.new.over ≡ None → Stands f.now.machine result s.new }
+    ensures later { tick < result.tick }
+    ensures tick_limit { result.tick ≤ f.now.machine.last }
+    ensures stands { overflow_of result.ran ≡ None → Stands f.now.machine result.tick s.new }
     ensures fits { FitsMachine f.now.machine s.new }
+    ensures same { s.new.over ≡ s.old.over }
 {
     prepare_event(f, tick, s);
     let ticks = go_on_after_event(f, tick, s);
-    s.over = arrive_at_event(f, rule, tick + ticks, s);
+    let ran = arrive_at_event(f, rule, tick + ticks, s);
     set_left_rows(
         Kind2::Level,
         tick + ticks,
@@ -77,18 +98,22 @@ pub(crate) fn look_for_event(f: &FixedMachine, rule: &SlopeRule, tick: u64, s: &
         s.motion.changes.as_slice(),
         &mut s.rows,
     );
-    tick + ticks
+    EventStep {
+        tick: tick + ticks,
+        ran,
+    }
 }
 
 // Computes the due ticks of all states, up to the end of the window.
 fn prepare_event(f: &FixedMachine, tick: u64, s: &mut Store)
     requires stands { Stands f.now.machine tick s.old }
-    requires within { s.old.over ≡ None }
+    requires within { overflow_of s.old.over ≡ None }
     requires tick_limit { tick < f.now.machine.last }
     ensures fits { FitsMachine f.now.machine s.new }
     ensures ready { IsReady f.now.machine tick s.new }
     ensures same { motion_at f.now.machine s.new.motion tick
         ≡ motion_at f.now.machine s.old.motion tick }
+    ensures over { s.new.over ≡ s.old.over }
 {
     open_event_window(f, tick, s);
     set_leaving_dues(
@@ -104,7 +129,7 @@ fn prepare_event(f: &FixedMachine, tick: u64, s: &mut Store)
 // At the end of a window, moves all states to the tick and begins the next window.
 fn open_event_window(f: &FixedMachine, tick: u64, s: &mut Store)
     requires stands { Stands f.now.machine tick s.old }
-    requires within { s.old.over ≡ None }
+    requires within { overflow_of s.old.over ≡ None }
     requires tick_limit { tick < f.now.machine.last }
     ensures fits { FitsMachine f.now.machine s.new }
     ensures goes { IsGoing f.now.machine tick s.new }
@@ -112,6 +137,7 @@ fn open_event_window(f: &FixedMachine, tick: u64, s: &mut Store)
         (snapshot_at f.now.machine s.new.motion tick) (is_listed s.new.touched.places) s.new.dues }
     ensures same { motion_at f.now.machine s.new.motion tick
         ≡ motion_at f.now.machine s.old.motion tick }
+    ensures over { s.new.over ≡ s.old.over }
 {
     if tick < s.window {
         return;
@@ -120,7 +146,7 @@ fn open_event_window(f: &FixedMachine, tick: u64, s: &mut Store)
     s.window = tick + reach;
     touch_all(f.machine.states.as_slice().len() as u32, &mut s.touched);
     move_all_at_event(f, tick, s.touched.places(), &mut s.motion);
-    s.wild = is_event_window_wild(f, false, s.calm, s.touched.places(), &s.motion, s.window);
+    s.wild = is_line_limit_needed(false, s.calm, s.touched.places(), &s.motion, s.window);
 }
 
 // Moves all states to a tick.
@@ -145,34 +171,6 @@ fn move_all_at_event(f: &FixedMachine, tick: u64, all: &[u32], q: &mut Motion)
     );
 }
 
-// Whether levels were wild, or the level or the level slope of a state of a list may exceed a limit
-// up to the end of a window.
-fn is_event_window_wild(
-    f: &FixedMachine,
-    wild: bool,
-    calm: Option<i128>,
-    list: &[u32],
-    q: &Motion,
-    window: u64,
-) -> bool
-    requires lists { HasLists f.now.machine q.now }
-    requires list { All (λ j. j < state_count f.now.machine) list.now }
-    requires reads { CanRead (state_count f.now.machine) window q.now.places.items
-        q.now.changes.items }
-    ensures was { result ≡ false → wild ≡ false }
-    ensures calm { result ≡ false
-        → (bound : ℤ) × (calm ≡ Some bound) × AreLinesCalm bound list.now q.now window }
-{
-    is_line_limit_needed(
-        wild,
-        calm,
-        list,
-        q.places.as_slice(),
-        q.changes.as_slice(),
-        window,
-    )
-}
-
 // Moves the states that the next event affects to its tick, and returns the number of ticks to it.
 fn go_on_after_event(f: &FixedMachine, tick: u64, s: &mut Store) -> u64
     requires fits { FitsMachine f.now.machine s.old }
@@ -186,7 +184,9 @@ fn go_on_after_event(f: &FixedMachine, tick: u64, s: &mut Store) -> u64
         s.old.motion s.new.motion }
     ensures dues { (j : ℕ) → is_listed s.new.left.items j ≡ false
         → due_at s.new.dues j ≡ due_at s.old.dues j }
-    ensures kept { (s.new.window ≡ s.old.window) × (s.new.wild ≡ s.old.wild) × (s.new.calm ≡ s.old.calm) }
+    ensures kept { (s.new.window ≡ s.old.window) × (s.new.wild ≡ s.old.wild)
+        × (s.new.calm ≡ s.old.calm) }
+    ensures over { s.new.over ≡ s.old.over }
 {
     let ticks = next_leaving_look(f, tick, s.window, &mut s.dues, &mut s.left);
     touch(f, s.left.as_slice(), &mut s.touched);
@@ -223,9 +223,14 @@ fn move_on_at_event(f: &FixedMachine, tick: u64, left: &[u32], touched: &[u32], 
     take_motion_levels(f, left, q.places.as_mut_slice(), q.rises.as_mut_slice());
 }
 
-// Sets the level slopes and the second differences for new levels. Returns the least state that
-// exceeds a limit.
-fn arrive_at_event(f: &FixedMachine, rule: &SlopeRule, tick: u64, s: &mut Store) -> Option<u32>
+// Sets the level slopes and the second differences for new levels. The error is the least state
+// that exceeds a limit.
+fn arrive_at_event(
+    f: &FixedMachine,
+    rule: &SlopeRule,
+    tick: u64,
+    s: &mut Store,
+) -> Result<(), Over>
     requires fits { FitsMachine f.now.machine s.old }
     requires settles { MaySettle f.now.machine tick s.old }
     ensures fits { FitsMachine f.now.machine s.new }
@@ -233,50 +238,39 @@ fn arrive_at_event(f: &FixedMachine, rule: &SlopeRule, tick: u64, s: &mut Store)
         s.old.touched.places
         (levels_of f.now.machine s.old.motion tick)
         s.old.motion s.new.motion
-        result }
+        (overflow_of result) }
     ensures same { s.new
         ≡ record s.old {
           motion = s.new.motion;
           wild = s.new.wild;
           room = s.new.room;
         } }
-    ensures wild { result ≡ None
+    ensures wild { overflow_of result ≡ None
         → s.new.wild ≡ false
         → (s.old.wild ≡ false) × (bound : ℤ) × (s.old.calm ≡ Some bound)
         × AreLinesCalm bound s.old.left.items s.new.motion s.old.window }
 {
-    if let Some(var) = check_event_levels(f, tick, s) {
-        return Some(var);
-    }
-    settle_rises(f, rule, tick, s.left.as_slice(), &mut s.motion);
-    s.wild = is_event_window_wild(f, s.wild, s.calm, s.left.as_slice(), &s.motion, s.window);
-    find_steep_rise(f, s.wild, s.touched.places(), s.motion.changes.as_slice())
+    check_event_levels(f, tick, s)?;
+    settle_rises(f, rule, tick, &s.left, &mut s.motion);
+    s.wild = is_line_limit_needed(s.wild, s.calm, &s.left, &s.motion, s.window);
+    check_level_slopes(f, s.wild, s.touched.places(), &s.motion.changes)
 }
 
-// The least state that exceeds a limit of levels at a tick.
-fn check_event_levels(f: &FixedMachine, tick: u64, s: &mut Store) -> Option<u32>
+// Checks the limits of levels at a tick. The error is the least state that exceeds a limit.
+fn check_event_levels(f: &FixedMachine, tick: u64, s: &mut Store) -> Result<(), Over>
     requires fits { FitsMachine f.now.machine s.old }
     requires settles { MaySettle f.now.machine tick s.old }
     ensures fits { FitsMachine f.now.machine s.new }
     ensures settles { MaySettle f.now.machine tick s.new }
-    ensures past { result
-        ≡ past_levels f.now.machine
-        (levels_of f.now.machine s.old.motion tick) }
+    ensures past { overflow_of result
+        ≡ past_levels f.now.machine (levels_of f.now.machine s.old.motion tick) }
     ensures same { s.new ≡ record s.old { wild = s.new.wild; room = s.new.room } }
     ensures wild { s.new.wild ≡ false → s.old.wild ≡ false }
 {
-    s.wild = is_limit_check_needed(
-        s.wild,
-        s.calm,
-        s.left.as_slice(),
-        s.motion.places.as_slice(),
-    );
-    first_line_past_limit(
-        f,
-        s.wild,
-        s.motion.places.as_slice(),
-        s.motion.changes.as_slice(),
-        tick,
-        s.room.as_mut_slice(),
-    )
+    s.wild = is_limit_check_needed(s.wild, s.calm, &s.left, &s.motion);
+    if !s.wild {
+        return Ok(());
+    }
+    s.motion.list_levels(tick, &mut s.room);
+    check_levels(f, &s.room)
 }

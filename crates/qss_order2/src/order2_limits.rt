@@ -2,15 +2,17 @@
 //! unnecessary.
 
 ghost use Rattle.std.specs.Prelude.{◌≡◌, ◌<◌, ◌≤◌, ◌^◌, ◌≤ℤ◌, ℕ, All, None, Some, true, false, length, ℤ, pos, IfOk};
-ghost use Rattle.qss_order2.specs.Prelude.{IsWithin, exceeds, state_count, is_listed, int_at, first_exceeding, abs_of, variable_limit, bits_of_second_level, bits_of_second_state};
-ghost use Rattle.qss_order2.specs.Places.{levels_in, AreLevelsWithin, AreLinesWithin, place_in, CanRead, IsLineWithin};
+ghost use Rattle.qss_order2.specs.Prelude.{overflow_of, IsWithin, exceeds, state_count, is_listed, int_at, first_exceeding, abs_of, variable_limit, bits_of_second_level, bits_of_second_state};
+ghost use Rattle.qss_order2.specs.Places.{AreLevelsWithin, AreLinesWithin, place_in, CanRead, IsLineWithin};
 ghost use Rattle.qss_order2.specs.SecondRunLimits.{heavy_row, steep_row, IsFlat, past_levels, IsCalmLevel, IsCalmBy};
 ghost use Rattle.qss_order2.specs.SecondSteps.{rise_weight, rise_change_weight};
+ghost use Rattle.qss_order2.specs.Stores.{AreLinesCalm};
 
 use crate::fixed_machine::FixedMachine;
-use crate::order2_motion::{Place, level_in_motion, list_motion_levels};
+use crate::order2_motion::Motion;
 use crate::order2_rises::{is_rise_change_steep, rise_weight_of};
 use mu_num::{SECOND_LEVEL_BITS, SECOND_WEIGHT_BITS, exceeds_power_of_two, unit};
+use qss_hand::Over;
 use qss_sched::repeat_value;
 use std::alloc::{AllocError, Global};
 
@@ -30,20 +32,20 @@ pub(crate) fn has_bend_past_limit(f: &FixedMachine, list: &[u32], changes: &[i12
     false
 }
 
-/// The least row for which the absolute row sum of the level slopes exceeds its limit.
+/// Checks the absolute row sums of the level slopes. The error is the least row that exceeds its
+/// limit.
 #[cold]
 #[inline(never)]
-pub(crate) fn first_bend_past_limit(f: &FixedMachine, changes: &[i128]) -> Option<u32>
+pub(crate) fn check_level_slope_sums(f: &FixedMachine, changes: &[i128]) -> Result<(), Over>
     requires { length changes.now ≡ state_count f.now.machine }
-    ensures { result
-        ≡ steep_row f.now.machine changes.now }
+    ensures { overflow_of result ≡ steep_row f.now.machine changes.now }
 {
     for row in 0..changes.len() {
         if is_bend_past_limit(f, row, changes) {
-            return Some(row as u32);
+            return Err(Over { var: row as u32 });
         }
     }
-    None
+    Ok(())
 }
 
 /// Whether levels were wild, or the level of a state of a list may exceed a limit.
@@ -51,69 +53,45 @@ pub(crate) fn is_limit_check_needed(
     wild: bool,
     calm: Option<i128>,
     list: &[u32],
-    places: &[Place],
+    q: &Motion,
 ) -> bool
-    requires { All (λ j. j < length places.now) list.now }
+    requires { All (λ j. j < length q.now.places.items) list.now }
     ensures was { result ≡ false → wild ≡ false }
     ensures calm { result ≡ false
-        → (bound : ℤ) × (calm ≡ Some bound) × AreLevelsWithin bound list.now places.now }
+        → (bound : ℤ) × (calm ≡ Some bound) × AreLevelsWithin bound list.now q.now.places.items }
 {
     if wild {
         return true;
     }
     match calm {
-        Some(bound) => has_place_above_limit(list, places, bound),
+        Some(bound) => has_place_above_limit(list, q, bound),
         None => true,
     }
 }
 
-/// Whether levels were wild, or for a state of a list, the level, its slope, or the level at a later
-/// tick may exceed a limit.
+/// Whether levels were wild, or for a state of a list, a level up to the end of a window, or the
+/// level slope, may exceed a limit.
 pub(crate) fn is_line_limit_needed(
     wild: bool,
     calm: Option<i128>,
     list: &[u32],
-    places: &[Place],
-    changes: &[i128],
-    tick: u64,
+    q: &Motion,
+    window: u64,
 ) -> bool
-    requires list { All (λ j. j < length places.now) list.now }
-    requires reads { CanRead (length places.now) tick places.now changes.now }
+    requires list { All (λ j. j < length q.now.places.items) list.now }
+    requires reads { CanRead (length q.now.places.items) window q.now.places.items
+        q.now.changes.items }
     ensures was { result ≡ false → wild ≡ false }
     ensures calm { result ≡ false
-        → (bound : ℤ) × (calm ≡ Some bound) × AreLinesWithin bound list.now places.now changes.now tick }
+        → (bound : ℤ) × (calm ≡ Some bound) × AreLinesCalm bound list.now q.now window }
 {
     if wild {
         return true;
     }
     match calm {
-        Some(bound) => has_line_above_limit(list, places, changes, tick, bound),
+        Some(bound) => has_line_above_limit(list, q, window, bound),
         None => true,
     }
-}
-
-/// The least state that exceeds a limit of levels at a tick. If levels are not wild, there is none.
-pub(crate) fn first_line_past_limit(
-    f: &FixedMachine,
-    wild: bool,
-    places: &[Place],
-    changes: &[i128],
-    tick: u64,
-    room: &mut [i128],
-) -> Option<u32>
-    requires places { length places.now ≡ state_count f.now.machine }
-    requires reads { CanRead (length places.now) tick places.now changes.now }
-    requires room { length room.old ≡ state_count f.now.machine }
-    requires calm { wild ≡ false
-        → past_levels f.now.machine (levels_in places.now changes.now tick) ≡ None }
-    ensures { result
-        ≡ past_levels f.now.machine (levels_in places.now changes.now tick) }
-{
-    if !wild {
-        return None;
-    }
-    list_motion_levels(places, changes, tick, room);
-    first_state_past_limits(f, room)
 }
 
 /// The greatest power of two up to which levels exceed no limit, if there is one.
@@ -140,13 +118,12 @@ fn is_bend_past_limit(f: &FixedMachine, row: usize, changes: &[i128]) -> bool
 }
 
 // Whether the absolute value of the level of a state of a list exceeds a bound.
-fn has_place_above_limit(list: &[u32], places: &[Place], bound: i128) -> bool
-    requires { All (λ j. j < length places.now) list.now }
-    ensures { result ≡ false
-        → AreLevelsWithin bound list.now places.now }
+fn has_place_above_limit(list: &[u32], q: &Motion, bound: i128) -> bool
+    requires { All (λ j. j < length q.now.places.items) list.now }
+    ensures { result ≡ false → AreLevelsWithin bound list.now q.now.places.items }
 {
     for state in list {
-        if is_level_above_limit(places[*state as usize].level, bound) {
+        if is_level_above_limit(q.places[*state as usize].level, bound) {
             return true;
         }
     }
@@ -162,20 +139,14 @@ fn is_level_above_limit(z: i128, bound: i128) -> bool
 
 // Whether for a state of a list the level, its slope, or the level at a later tick exceeds a
 // bound.
-fn has_line_above_limit(
-    list: &[u32],
-    places: &[Place],
-    changes: &[i128],
-    tick: u64,
-    bound: i128,
-) -> bool
-    requires list { All (λ j. j < length places.now) list.now }
-    requires reads { CanRead (length places.now) tick places.now changes.now }
+fn has_line_above_limit(list: &[u32], q: &Motion, tick: u64, bound: i128) -> bool
+    requires list { All (λ j. j < length q.now.places.items) list.now }
+    requires reads { CanRead (length q.now.places.items) tick q.now.places.items q.now.changes.items }
     ensures { result ≡ false
-        → AreLinesWithin bound list.now places.now changes.now tick }
+        → AreLinesWithin bound list.now q.now.places.items q.now.changes.items tick }
 {
     for state in list {
-        if is_line_above_limit(places, changes, tick, *state as usize, bound) {
+        if is_line_above_limit(q, tick, *state as usize, bound) {
             return true;
         }
     }
@@ -184,61 +155,53 @@ fn has_line_above_limit(
 
 // Whether the absolute value of a level, of its slope, or of the level at a later tick exceeds a
 // bound.
-fn is_line_above_limit(
-    places: &[Place],
-    changes: &[i128],
-    tick: u64,
-    state: usize,
-    bound: i128,
-) -> bool
-    requires state { state < length places.now }
-    requires reads { CanRead (length places.now) tick places.now changes.now }
+fn is_line_above_limit(q: &Motion, tick: u64, state: usize, bound: i128) -> bool
+    requires state { state < length q.now.places.items }
+    requires reads { CanRead (length q.now.places.items) tick q.now.places.items q.now.changes.items }
     ensures { result ≡ false
-        → IsLineWithin bound (place_in places.now state) (int_at changes.now state) tick }
+        → IsLineWithin bound (place_in q.now.places.items state)
+        (int_at q.now.changes.items state) tick }
 {
-    is_level_above_limit(places[state].level, bound)
-        || is_level_above_limit(changes[state], bound)
-        || is_level_above_limit(level_in_motion(places, changes, tick, state), bound)
+    is_level_above_limit(q.places[state].level, bound)
+        || is_level_above_limit(q.changes[state], bound)
+        || is_level_above_limit(q.level_at(state, tick), bound)
 }
 
-/// The least state whose level exceeds its limit. If there is none, the least row whose absolute
-/// row sum does.
-pub(crate) fn first_state_past_limits(f: &FixedMachine, levels: &[i128]) -> Option<u32>
+/// Checks the limits of levels. The error is the least state whose level exceeds its limit. If
+/// there is none, it is the least row whose absolute row sum exceeds its limit.
+pub(crate) fn check_levels(f: &FixedMachine, levels: &[i128]) -> Result<(), Over>
     requires { length levels.now ≡ state_count f.now.machine }
-    ensures { result ≡ past_levels f.now.machine levels.now }
+    ensures { overflow_of result ≡ past_levels f.now.machine levels.now }
 {
-    if let Some(var) = first_level_past_limit(levels) {
-        return Some(var);
-    }
-    first_row_past_limit(f, levels)
+    check_level_sizes(levels)?;
+    check_level_sums(f, levels)
 }
 
-// The least state whose level exceeds its limit.
-fn first_level_past_limit(levels: &[i128]) -> Option<u32>
+// Checks the size of each level. The error is the least state whose level exceeds its limit.
+fn check_level_sizes(levels: &[i128]) -> Result<(), Over>
     requires { length levels.now ≤ variable_limit }
-    ensures { result ≡ first_exceeding bits_of_second_level levels.now }
+    ensures { overflow_of result ≡ first_exceeding bits_of_second_level levels.now }
 {
     for j in 0..levels.len() {
         if exceeds_power_of_two(levels[j], SECOND_LEVEL_BITS) {
-            return Some(j as u32);
+            return Err(Over { var: j as u32 });
         }
     }
-    None
+    Ok(())
 }
 
-// The least row whose absolute row sum exceeds its limit.
-fn first_row_past_limit(f: &FixedMachine, levels: &[i128]) -> Option<u32>
+// Checks the absolute row sums of levels. The error is the least row that exceeds its limit.
+fn check_level_sums(f: &FixedMachine, levels: &[i128]) -> Result<(), Over>
     requires levels { length levels.now ≡ state_count f.now.machine }
     requires size_limit { All (IsWithin 50) levels.now }
-    ensures { result
-        ≡ heavy_row f.now.machine levels.now }
+    ensures { overflow_of result ≡ heavy_row f.now.machine levels.now }
 {
     for row in 0..levels.len() {
         if is_row_past_limit(f, row, levels) {
-            return Some(row as u32);
+            return Err(Over { var: row as u32 });
         }
     }
-    None
+    Ok(())
 }
 
 // Whether the absolute row sum of a row exceeds its limit.
@@ -260,8 +223,5 @@ fn is_within_calm_limit(alloc: Global, f: &FixedMachine, bits: u8) -> Result<boo
     ensures { IfOk result (λ calm. calm ≡ true → IsCalmLevel f.now.machine (pos (2 ^ bits))) }
 {
     let levels = repeat_value(alloc, unit(bits), f.limits.len())?;
-    match first_state_past_limits(f, levels.as_slice()) {
-        Some(_) => Ok(false),
-        None => Ok(true),
-    }
+    Ok(check_levels(f, &levels).is_ok())
 }

@@ -25,6 +25,36 @@ pub(crate) struct Motion {
     pub bends: Vec<i128>,
 }
 
+impl Motion {
+    /// The level of a state at a tick.
+    pub(crate) fn level_at(&self, state: usize, tick: u64) -> i128
+        requires state { state < length self.now.places.items }
+        requires reads { CanRead (length self.now.places.items) tick self.now.places.items
+            self.now.changes.items }
+        ensures { result
+            ≡ level_on (place_in self.now.places.items state) (int_at self.now.changes.items state)
+            tick }
+    {
+        let p = self.places[state];
+        if p.since == tick {
+            return p.level;
+        }
+        line_after_motion(p.level, self.changes[state], tick - p.since)
+    }
+
+    /// Lists the levels of all states at a tick.
+    pub(crate) fn list_levels(&self, tick: u64, levels: &mut [i128])
+        requires reads { CanRead (length self.now.places.items) tick self.now.places.items
+            self.now.changes.items }
+        requires levels { length levels.old ≡ length self.now.places.items }
+        ensures { levels.new ≡ levels_in self.now.places.items self.now.changes.items tick }
+    {
+        for j in 0..levels.len() {
+            levels[j] = self.level_at(j, tick);
+        }
+    }
+}
+
 /// Moves the states of a list to a tick, with their slopes.
 pub(crate) fn move_states_by_motion(
     list: &[u32],
@@ -82,17 +112,6 @@ pub(crate) fn take_motion_levels(
             motion_difference(new.level, old.level),
             rises,
         );
-    }
-}
-
-/// Lists the levels of all states at a tick.
-pub(crate) fn list_motion_levels(places: &[Place], changes: &[i128], tick: u64, levels: &mut [i128])
-    requires reads { CanRead (length places.now) tick places.now changes.now }
-    requires levels { length levels.old ≡ length places.now }
-    ensures { levels.new ≡ levels_in places.now changes.now tick }
-{
-    for j in 0..levels.len() {
-        levels[j] = level_in_motion(places, changes, tick, j);
     }
 }
 
@@ -235,17 +254,4 @@ pub(crate) fn motion_difference(new: i128, old: i128) -> i128
     ensures { result ≡ int_wrap w128 (new -ℤ old) }
 {
     new.wrapping_sub(old)
-}
-
-/// The level of a state at a tick.
-pub(crate) fn level_in_motion(places: &[Place], changes: &[i128], tick: u64, state: usize) -> i128
-    requires reads { CanRead (length places.now) tick places.now changes.now }
-    requires state { state < length places.now }
-    ensures { result ≡ level_on (place_in places.now state) (int_at changes.now state) tick }
-{
-    let p = places[state];
-    if p.since == tick {
-        return p.level;
-    }
-    line_after_motion(p.level, changes[state], tick - p.since)
 }

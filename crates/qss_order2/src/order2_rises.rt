@@ -2,13 +2,14 @@
 //! start values of the discrete variables.
 
 ghost use Rattle.std.specs.Prelude.{◌≡◌, ◌<◌, ◌≤◌, ◌*ℤ◌, ◌+ℤ◌, [], ◌+◌, ◌*◌, ◌^◌, ℕ, ℤ, All, None, true, false, length, pos, unsigned_abs, MatchOption};
-ghost use Rattle.qss_order2.specs.Prelude.{int_wrap, w128, IsWithin, exceeds, is_listed, IsWritten, state_count, level_unit, int_at, abs_of, variable_limit, bits_of_second_state, IsState, IsSlope, IsSecondState, weighted_sum};
-ghost use Rattle.qss_order2.specs.Words.{levels_in, place_in, change_shift, CanRead, bend_at, steep_row, IsFlat, AreFlatOutside, AreHeld, past_levels, rise_at, rise_change_weight, fine_levels, first_exceeding_limit, AreChanges, IsAnswer, IsRuled2, levels_of, rises_of, bends_of, HasBends, HasLists, HasChanged, absolute_sum};
+ghost use Rattle.qss_order2.specs.Prelude.{overflow_of, int_wrap, w128, IsWithin, exceeds, is_listed, IsWritten, state_count, level_unit, int_at, abs_of, variable_limit, bits_of_second_state, IsState, IsSlope, IsSecondState, weighted_sum};
+ghost use Rattle.qss_order2.specs.Words.{place_in, change_shift, bend_at, steep_row, IsFlat, AreFlatOutside, AreHeld, past_levels, rise_at, rise_change_weight, fine_levels, first_exceeding_limit, AreChanges, IsAnswer, IsRuled2, levels_of, rises_of, bends_of, HasBends, HasLists, HasChanged, absolute_sum};
 
 use crate::fixed_machine::{FixedMachine, add_fixed_column_multiple};
-use crate::order2_limits::{first_bend_past_limit, first_line_past_limit, has_bend_past_limit};
-use crate::order2_motion::{Motion, Place, level_in_motion, motion_difference};
+use crate::order2_limits::{check_level_slope_sums, check_levels, has_bend_past_limit};
+use crate::order2_motion::{Motion, motion_difference};
 use crate::slope_rule::SlopeRule;
+use qss_hand::Over;
 use qss_machine::Entry;
 
 /// Computes slopes, level slopes and second differences at the start. The rule is applied to all
@@ -17,11 +18,11 @@ pub(crate) fn begin_rises(
     f: &FixedMachine,
     rule: &SlopeRule,
     all: &[u32],
-    room: &mut [i128],
+    levels: &mut [i128],
     q: &mut Motion,
-) -> Option<u32>
+) -> Result<(), Over>
     requires lists { HasLists f.now.machine q.old }
-    requires room { length room.old ≡ state_count f.now.machine }
+    requires levels { length levels.old ≡ state_count f.now.machine }
     requires all { All (λ j. j < state_count f.now.machine) all.now }
     requires each { (j : ℕ) → j < state_count f.now.machine → is_listed all.now j ≡ true }
     requires here { (j : ℕ) → j < state_count f.now.machine
@@ -32,36 +33,19 @@ pub(crate) fn begin_rises(
     ensures places { q.new.places ≡ q.old.places }
     ensures changes { AreChanges (IsRuled2 rule.now.nearest) f.now.machine (λ j. true)
         (fine_levels f.now.machine) [] q.new.changes.items }
-    ensures overflow { result ≡ first_exceeding_limit f.now.machine (fine_levels f.now.machine) q.new.changes.items }
-    ensures held { result ≡ None
-        → AreHeld f.now.machine q.new.changes.items }
-    ensures rises { result ≡ None
-        → q.new.rises.items
-        ≡ rises_of f.now.machine (fine_levels f.now.machine) }
-    ensures bends { result ≡ None
-        → q.new.bends.items
-        ≡ bends_of f.now.machine q.new.changes.items }
+    ensures overflow { overflow_of result
+        ≡ first_exceeding_limit f.now.machine (fine_levels f.now.machine) q.new.changes.items }
+    ensures held { overflow_of result ≡ None → AreHeld f.now.machine q.new.changes.items }
+    ensures rises { overflow_of result ≡ None
+        → q.new.rises.items ≡ rises_of f.now.machine (fine_levels f.now.machine) }
+    ensures bends { overflow_of result ≡ None
+        → q.new.bends.items ≡ bends_of f.now.machine q.new.changes.items }
 {
-    set_rises(
-        f,
-        all,
-        q.places.as_slice(),
-        q.changes.as_slice(),
-        0,
-        q.rises.as_mut_slice(),
-    );
-    set_rise_changes(f, rule, all, q.rises.as_slice(), q.changes.as_mut_slice());
-    if let Some(var) = first_line_past_limit(
-        f,
-        true,
-        q.places.as_slice(),
-        q.changes.as_slice(),
-        0,
-        room,
-    ) {
-        return Some(var);
-    }
-    bend(f, all, q.changes.as_slice(), q.bends.as_mut_slice())
+    q.list_levels(0, levels);
+    set_rises(f, all, levels, &mut q.rises);
+    set_rise_changes(f, rule, all, &q.rises, &mut q.changes);
+    check_levels(f, levels)?;
+    bend(f, all, &q.changes, &mut q.bends)
 }
 
 /// Sets the level slopes of the states that left, and the second differences of the rows that read
@@ -132,104 +116,59 @@ pub(crate) fn rise_weight_of(entries: &[Entry], drive: i128, levels: &[i128]) ->
     rise_level_weight(entries, levels) + 64 * rise_drive_size(drive)
 }
 
-/// Computes the slopes of the states of a list at a tick.
-pub(crate) fn set_rises(
-    f: &FixedMachine,
-    list: &[u32],
-    places: &[Place],
-    changes: &[i128],
-    tick: u64,
-    rises: &mut [i128],
-)
+/// Computes the slopes of the states of a list at levels.
+pub(crate) fn set_rises(f: &FixedMachine, list: &[u32], levels: &[i128], rises: &mut [i128])
     requires list { All (λ j. j < state_count f.now.machine) list.now }
-    requires places { length places.now ≡ state_count f.now.machine }
-    requires reads { CanRead (length places.now) tick places.now changes.now }
-    requires levels { All (IsWithin 50) (levels_in places.now changes.now tick) }
+    requires count { length levels.now ≡ state_count f.now.machine }
+    requires size_limit { All (IsWithin 50) levels.now }
     requires rises { length rises.old ≡ state_count f.now.machine }
-    ensures { IsWritten (pos 0)
-        (λ j z. z
-        ≡ rise_at f.now.machine j (levels_in places.now changes.now tick)) list.now
-        rises.old rises.new }
+    ensures { IsWritten (pos 0) (λ j z. z ≡ rise_at f.now.machine j levels.now) list.now rises.old
+        rises.new }
 {
     for state in list {
         let j = *state as usize;
-        rises[j] = rise_at(f, j, places, changes, tick);
+        rises[j] = rise_at(f, j, levels);
     }
 }
 
-// The slope of a state at a tick.
-fn rise_at(f: &FixedMachine, row: usize, places: &[Place], changes: &[i128], tick: u64) -> i128
+// The slope of a state at levels.
+fn rise_at(f: &FixedMachine, row: usize, levels: &[i128]) -> i128
     requires row { row < state_count f.now.machine }
-    requires places { length places.now ≡ state_count f.now.machine }
-    requires reads { CanRead (length places.now) tick places.now changes.now }
-    requires levels { All (IsWithin 50) (levels_in places.now changes.now tick) }
-    ensures { result
-        ≡ rise_at f.now.machine row (levels_in places.now changes.now tick) }
+    requires count { length levels.now ≡ state_count f.now.machine }
+    requires size_limit { All (IsWithin 50) levels.now }
+    ensures { result ≡ rise_at f.now.machine row levels.now }
 {
-    rise_of(f.rows[row].as_slice(), f.drives[row], places, changes, tick)
+    rise_of(f.rows[row].as_slice(), f.drives[row], levels)
 }
 
-/// The slope of a state at a tick. `drive` is the constant part of its row, in the machine's own
+/// The slope of a state at levels. `drive` is the constant part of its row, in the machine's own
 /// units.
-pub(crate) fn rise_of(
-    entries: &[Entry],
-    drive: i128,
-    places: &[Place],
-    changes: &[i128],
-    tick: u64,
-) -> i128
+pub(crate) fn rise_of(entries: &[Entry], drive: i128, levels: &[i128]) -> i128
     requires count_limit { length entries.now ≤ variable_limit }
     requires size_limit { All (λ entry. IsWithin 44 entry.coef) entries.now }
-    requires known { All (λ entry. entry.var < length places.now) entries.now }
-    requires reads { CanRead (length places.now) tick places.now changes.now }
-    requires levels { All (IsWithin 50) (levels_in places.now changes.now tick) }
+    requires known { All (λ entry. entry.var < length levels.now) entries.now }
+    requires levels { All (IsWithin 50) levels.now }
     requires drive { IsSlope drive }
-    ensures value { result
-        ≡ weighted_sum entries.now (levels_in places.now changes.now tick) +ℤ pos 64
-        *ℤ drive }
+    ensures value { result ≡ weighted_sum entries.now levels.now +ℤ pos 64 *ℤ drive }
     ensures bound { IsWithin 107 result }
 {
-    rise_level_sum(entries, places, changes, tick) + 64 * drive
+    rise_level_sum(entries, levels) + 64 * drive
 }
 
-/// Each entry's coefficient times the level of its state at a tick, added up.
-pub(crate) fn rise_level_sum(
-    entries: &[Entry],
-    places: &[Place],
-    changes: &[i128],
-    tick: u64,
-) -> i128
+/// The sum of all coefficients times the levels of their states.
+pub(crate) fn rise_level_sum(entries: &[Entry], levels: &[i128]) -> i128
     requires count_limit { length entries.now ≤ variable_limit }
     requires size_limit { All (λ entry. IsWithin 44 entry.coef) entries.now }
-    requires known { All (λ entry. entry.var < length places.now) entries.now }
-    requires reads { CanRead (length places.now) tick places.now changes.now }
-    requires levels { All (IsWithin 50) (levels_in places.now changes.now tick) }
-    ensures value { result
-        ≡ weighted_sum entries.now (levels_in places.now changes.now tick) }
+    requires known { All (λ entry. entry.var < length levels.now) entries.now }
+    requires levels { All (IsWithin 50) levels.now }
+    ensures value { result ≡ weighted_sum entries.now levels.now }
     ensures bound { unsigned_abs result ≤ 2 ^ 106 }
 {
     let mut sum: i128 = 0;
     for entry in entries {
-        sum += entry_rise_term_at(*entry, places, changes, tick);
+        sum += entry_rise_term(*entry, levels);
     }
     sum
-}
-
-// An entry's coefficient times the level of its state at a tick.
-fn entry_rise_term_at(entry: Entry, places: &[Place], changes: &[i128], tick: u64) -> i128
-    requires size_limit { IsWithin 44 entry.coef }
-    requires known { entry.var < length places.now }
-    requires reads { CanRead (length places.now) tick places.now changes.now }
-    requires levels { All (IsWithin 50) (levels_in places.now changes.now tick) }
-    ensures value { result
-        ≡ entry.coef
-        *ℤ int_at (levels_in places.now changes.now tick) entry.var }
-    ensures bound { unsigned_abs result ≤ 2 ^ 94 }
-{
-    rise_term(
-        entry.coef,
-        level_in_motion(places, changes, tick, entry.var as usize),
-    )
 }
 
 // A coefficient times a level.
@@ -264,49 +203,51 @@ pub(crate) fn set_rise_changes(
 }
 
 // Sets the second differences of the states of a list, unless the absolute row sum of the level
-// slopes exceeds its limit for a row. There is no such row outside the list.
-fn bend(f: &FixedMachine, list: &[u32], changes: &[i128], bends: &mut [i128]) -> Option<u32>
+// slopes exceeds its limit for a row. There is no such row outside the list. The error is the least
+// such row.
+fn bend(
+    f: &FixedMachine,
+    list: &[u32],
+    changes: &[i128],
+    bends: &mut [i128],
+) -> Result<(), Over>
     requires list { All (λ j. j < state_count f.now.machine) list.now }
     requires changes { length changes.now ≡ state_count f.now.machine }
     requires bends { length bends.old ≡ state_count f.now.machine }
     requires flat { AreFlatOutside f.now.machine list.now changes.now }
-    ensures overflow { result
-        ≡ steep_row f.now.machine changes.now }
-    ensures bends { result ≡ None
+    ensures overflow { overflow_of result ≡ steep_row f.now.machine changes.now }
+    ensures bends { overflow_of result ≡ None
         → IsWritten (pos 0) (λ j z. z ≡ bend_at f.now.machine j changes.now) list.now bends.old
         bends.new }
 {
-    if let Some(row) = find_steep_rise(f, true, list, changes) {
-        return Some(row);
-    }
+    check_level_slopes(f, true, list, changes)?;
     set_rise_bends(f, list, changes, bends);
-    None
+    Ok(())
 }
 
-/// The least row for which the absolute row sum of the level slopes exceeds its limit. There is none
-/// outside the list, and none at all unless levels are wild.
-pub(crate) fn find_steep_rise(
+/// Checks the absolute row sums of the level slopes. The error is the least row that exceeds its
+/// limit. There is none outside the list, and none at all unless levels are wild.
+pub(crate) fn check_level_slopes(
     f: &FixedMachine,
     wild: bool,
     list: &[u32],
     changes: &[i128],
-) -> Option<u32>
+) -> Result<(), Over>
     requires list { All (λ j. j < state_count f.now.machine) list.now }
     requires changes { length changes.now ≡ state_count f.now.machine }
     requires flat { AreFlatOutside f.now.machine list.now changes.now }
     requires calm { wild ≡ false
         → (j : ℕ) → j < state_count f.now.machine
         → IsFlat f.now.machine changes.now j }
-    ensures { result
-        ≡ steep_row f.now.machine changes.now }
+    ensures { overflow_of result ≡ steep_row f.now.machine changes.now }
 {
     if !wild {
-        return None;
+        return Ok(());
     }
     if has_bend_past_limit(f, list, changes) {
-        return first_bend_past_limit(f, changes);
+        return check_level_slope_sums(f, changes);
     }
-    None
+    Ok(())
 }
 
 // Sets the second differences of the states of a list.

@@ -14,6 +14,7 @@ use crate::order2_rises::begin_rises;
 use crate::order2_rows::{Kind2, Row2, add_discretes, set_left_rows};
 use crate::slope_rule::SlopeRule;
 use mu_num::floor_div;
+use qss_hand::Over;
 use qss_machine::Machine;
 use qss_sched::{Agenda, PlaceSet, repeat_value};
 use std::alloc::{AllocError, Global};
@@ -24,8 +25,8 @@ use std::alloc::{AllocError, Global};
 /// each state, up to `window`; for the states in `touched`, which the last event affected, it is not
 /// yet computed. `left` has the states that left their quanta at the last event, at the start all
 /// states. Levels and level slopes of absolute value at most `calm` exceed no limit. Unless `wild`
-/// is set, all levels up to `window` and all level slopes are within `calm`. `over` is the state
-/// that exceeds a limit. `room` is a buffer for the levels of all states.
+/// is set, all levels up to `window` and all level slopes are within `calm`. `over` is an error if
+/// a state exceeds a limit at the start. `room` is a buffer for the levels of all states.
 #[derive(Drop)]
 pub(crate) struct Store {
     pub motion: Motion,
@@ -36,7 +37,7 @@ pub(crate) struct Store {
     pub calm: Option<i128>,
     pub wild: bool,
     pub room: Vec<i128>,
-    pub over: Option<u32>,
+    pub over: Result<(), Over>,
     pub rows: Vec<Row2>,
 }
 
@@ -76,7 +77,7 @@ fn blank_order2_store(alloc: Global, f: &FixedMachine) -> Result<Store, AllocErr
         calm: calm_level_limit(alloc, f)?,
         wild: true,
         room: repeat_value(alloc, 0, states)?,
-        over: None,
+        over: Ok(()),
         rows: Vec::with_capacity(alloc, states + states + discretes + 1)?,
     })
 }
@@ -177,13 +178,7 @@ fn begin_order2_store(f: &FixedMachine, rule: &SlopeRule, s: &mut Store)
     ensures rows { s.new.rows.items
         ≡ start_rows f.now.machine (snapshot_at f.now.machine s.new.motion 0) }
 {
-    s.over = begin_rises(
-        f,
-        rule,
-        s.left.as_slice(),
-        s.room.as_mut_slice(),
-        &mut s.motion,
-    );
+    s.over = begin_rises(f, rule, &s.left, &mut s.room, &mut s.motion);
     set_left_rows(
         Kind2::Start,
         0,

@@ -1,9 +1,9 @@
 -- Event steps without rows are silent; the first with rows is the next event.
 use Rattle.qss_order2.proofs.Common
 use Common.{[], ℕ, ◌++◌, ◌==◌, ◌∙◌, ◌∷◌, ◌≡◌, ◌≢◌, ap, arith, end_rows, eqb-false, eqb-true, false}
-use Common.{Global, IsRuled2, IsVisit2, length, List, motion_at, None, Option, refl, Row2}
-use Common.{second_snapshot_unless, SecondSnapshot, snapshot_of, state_count, subst, sym, true, Vec}
-use Common.{vec_len, view_of}
+use Common.{Global, IsRuled2, IsVisit2, length, List, motion_at, None, Option, overflow_of, refl}
+use Common.{Row2, second_snapshot_unless, SecondSnapshot, snapshot_of, state_count, subst, sym}
+use Common.{true, Vec, vec_len, view_of, zero}
 use Rattle.qss_order2.proofs.Motions.{can_move}
 use Rattle.qss_order2.proofs.Advances.{visit_on, rows_on, silent_visit, overflows_at_start}
 use Rattle.qss_order2.proofs.Advances.{overflows_later}
@@ -24,44 +24,44 @@ no_rows v e = empty_list v.items (sym v.ok.0 ∙ eqb-true v.len 0 e)
 pub loop-tick-init : goal.loop-tick-init
 loop-tick-init g c = record {
   stands = c.requires.stands;
-  within = c.in_default.is;
-  began = c.in_default.is;
+  within = ap overflow_of c.in_default.is;
+  began = ap overflow_of c.in_default.is;
   in_time = c.requires.tick_limit;
   are_silent = ([], record { leads = tt; as_many = omega arith; reached = refl });
 }
 
-pub returns-in-Some-clause-next : goal.returns-in-Some-clause-next
-returns-in-Some-clause-next g c = (
+pub returns-in-Err-clause-next : goal.returns-in-Err-clause-next
+returns-in-Err-clause-next g c = (
   record {
     overflows = overflows_at_start (IsRuled2 c.args.rule.now.nearest)
-        (view_of c.args.f.now.machine c.args.from c.args.s.now None) c.args.from c.in-Some.var refl
-        (c.requires.stands.at_start c.in-Some.var c.in-Some.is) (c.requires.stands.over
-        ∙ c.in-Some.is);
+        (view_of c.args.f.now.machine c.args.from c.args.s.now None) c.args.from c.in-Err.over.var refl
+        (c.requires.stands.at_start c.in-Err.over.var (ap overflow_of c.in-Err.is)) (c.requires.stands.over
+        ∙ ap overflow_of c.in-Err.is);
     own_rows = c.set_overflow_row.ensures;
     here = refl;
   },
   refl,
 )
 
-pub returns-in-Some-over-clause-next : goal.returns-in-Some-over-clause-next
-returns-in-Some-over-clause-next g c =
+pub returns-in-Err-ran-clause-next : goal.returns-in-Err-ran-clause-next
+returns-in-Err-ran-clause-next g c =
     let Rule = IsRuled2 c.args.rule.now.nearest in
     let m = c.args.f.now.machine in
     let w0 : SecondSnapshot = snapshot_of (motion_at m c.args.s.now.motion c.args.from) in
     let w : SecondSnapshot = snapshot_of (motion_at m c.loop-tick.s.motion c.loop-tick.tick) in
     let before = c.loop-tick.invariant.are_silent in
-    let visited = c.look_for_event-tick.ensures.visited in
-    let t = c.look_for_event-tick.result in
-    let next : SecondSnapshot = snapshot_of (motion_at m c.look_for_event-tick.new.s.motion t) in
+    let visited = c.look_for_event-step.ensures.visited in
+    let t = c.look_for_event-step.result.tick in
+    let next : SecondSnapshot = snapshot_of (motion_at m c.look_for_event-step.new.s.motion t) in
     let all = visit_on Rule m c.args.from w0 before.0 c.loop-tick.tick w before.1 visited.0 t
-    (second_snapshot_unless c.look_for_event-tick.new.s.over next) visited.1 in (
+    (second_snapshot_unless (overflow_of c.look_for_event-step.result.ran) next) visited.1 in (
       record {
         overflows = overflows_later Rule (view_of m c.args.from c.args.s.now None)
-            (before.0 ++ visited.0) t c.in-Some-over.var (c.requires.stands.over
-            ∙ c.loop-tick.invariant.began) c.look_for_event-tick.ensures.tick_limit
+            (before.0 ++ visited.0) t c.in-Err-ran.over.var (c.requires.stands.over
+            ∙ c.loop-tick.invariant.began) c.look_for_event-step.ensures.tick_limit
             (subst (λ (o : Option ℕ). IsVisit2 Rule m c.args.from w0 (before.0 ++ visited.0) t
-            (second_snapshot_unless o next)) c.in-Some-over.is all);
-        own_rows = c.set_overflow_row-in-Some-over.ensures;
+            (second_snapshot_unless o next)) (ap overflow_of c.in-Err-ran.is) all);
+        own_rows = c.set_overflow_row-in-Err-ran.ensures;
         here = refl;
       },
       refl,
@@ -74,13 +74,13 @@ returns-then-not-is_empty-clause-next g c =
     let w0 : SecondSnapshot = snapshot_of (motion_at m c.args.s.now.motion c.args.from) in
     let w : SecondSnapshot = snapshot_of (motion_at m c.loop-tick.s.motion c.loop-tick.tick) in
     let before = c.loop-tick.invariant.are_silent in
-    let visited = c.look_for_event-tick.ensures.visited in
-    let t = c.look_for_event-tick.result in
-    let next : SecondSnapshot = snapshot_of (motion_at m c.look_for_event-tick.new.s.motion t) in
+    let visited = c.look_for_event-step.ensures.visited in
+    let t = c.look_for_event-step.result.tick in
+    let next : SecondSnapshot = snapshot_of (motion_at m c.look_for_event-step.new.s.motion t) in
     let all = visit_on Rule m c.args.from w0 before.0 c.loop-tick.tick w before.1 visited.0 t
-    (second_snapshot_unless c.look_for_event-tick.new.s.over next) visited.1 in
+    (second_snapshot_unless (overflow_of c.look_for_event-step.result.ran) next) visited.1 in
     let stepped = subst (λ (o : Option ℕ). IsVisit2 Rule m c.args.from w0 (before.0 ++ visited.0) t
-    (second_snapshot_unless o next)) c.in_default-over.is all in (
+    (second_snapshot_unless o next)) (ap overflow_of c.in_default-ran.is) all in (
       before.0 ++ visited.0,
       record {
         goes = record {
@@ -89,11 +89,11 @@ returns-then-not-is_empty-clause-next g c =
               stepped.leads;
         };
         is_next = stepped.is_next;
-        in_time = c.look_for_event-tick.ensures.tick_limit;
+        in_time = c.look_for_event-step.ensures.tick_limit;
         is_step = stepped.is_step;
-        own_rows = visited.2 c.in_default-over.is ∙ rows_on Rule m c.args.from w0 before.0
+        own_rows = visited.2 (ap overflow_of c.in_default-ran.is) ∙ rows_on Rule m c.args.from w0 before.0
             c.loop-tick.tick w before.1 visited.0 t next;
-        some_rows = some_rows c.look_for_event-tick.new.s.rows (sym c.is_empty.ensures
+        some_rows = some_rows c.look_for_event-step.new.s.rows (sym c.is_empty.ensures
             ∙ c.if-not-is_empty.true);
         here = refl;
       },
@@ -101,7 +101,7 @@ returns-then-not-is_empty-clause-next g c =
     )
 
 pub returns-then-not-is_empty-clause-stands : goal.returns-then-not-is_empty-clause-stands
-returns-then-not-is_empty-clause-stands g c e = c.look_for_event-tick.ensures.stands c.in_default-over.is
+returns-then-not-is_empty-clause-stands g c e = c.look_for_event-step.ensures.stands (ap overflow_of c.in_default-ran.is)
 
 pub loop-tick-preserved : goal.loop-tick-preserved
 loop-tick-preserved g c =
@@ -110,21 +110,21 @@ loop-tick-preserved g c =
     let w0 : SecondSnapshot = snapshot_of (motion_at m c.args.s.now.motion c.args.from) in
     let w : SecondSnapshot = snapshot_of (motion_at m c.loop-tick.s.motion c.loop-tick.tick) in
     let before = c.loop-tick.invariant.are_silent in
-    let visited = c.look_for_event-tick.ensures.visited in
-    let t = c.look_for_event-tick.result in
-    let next : SecondSnapshot = snapshot_of (motion_at m c.look_for_event-tick.new.s.motion t) in
+    let visited = c.look_for_event-step.ensures.visited in
+    let t = c.look_for_event-step.result.tick in
+    let next : SecondSnapshot = snapshot_of (motion_at m c.look_for_event-step.new.s.motion t) in
     let all = visit_on Rule m c.args.from w0 before.0 c.loop-tick.tick w before.1 visited.0 t
-    (second_snapshot_unless c.look_for_event-tick.new.s.over next) visited.1 in
+    (second_snapshot_unless (overflow_of c.look_for_event-step.result.ran) next) visited.1 in
     let stepped = subst (λ (o : Option ℕ). IsVisit2 Rule m c.args.from w0 (before.0 ++ visited.0) t
-    (second_snapshot_unless o next)) c.in_default-over.is all in
-    let none = sym (visited.2 c.in_default-over.is ∙ rows_on Rule m c.args.from w0 before.0
+    (second_snapshot_unless o next)) (ap overflow_of c.in_default-ran.is) all in
+    let none = sym (visited.2 (ap overflow_of c.in_default-ran.is) ∙ rows_on Rule m c.args.from w0 before.0
     c.loop-tick.tick w before.1 visited.0 t next)
-    ∙ no_rows c.look_for_event-tick.new.s.rows (sym c.is_empty.ensures ∙ c.if-not-is_empty.false) in
+    ∙ no_rows c.look_for_event-step.new.s.rows (sym c.is_empty.ensures ∙ c.if-not-is_empty.false) in
     record {
-      stands = c.look_for_event-tick.ensures.stands c.in_default-over.is;
-      within = c.in_default-over.is;
+      stands = c.look_for_event-step.ensures.stands (ap overflow_of c.in_default-ran.is);
+      within = ap overflow_of c.look_for_event-step.ensures.same ∙ c.loop-tick.invariant.within;
       began = c.loop-tick.invariant.began;
-      in_time = c.look_for_event-tick.ensures.tick_limit;
+      in_time = c.look_for_event-step.ensures.tick_limit;
       are_silent = (
         (before.0 ++ visited.0) ++ next ∷ [],
         silent_visit Rule m c.args.from w0

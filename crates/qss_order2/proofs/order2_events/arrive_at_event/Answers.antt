@@ -1,9 +1,9 @@
 -- The limits are checked in their order.
 use Rattle.qss_order2.proofs.Common
-use Common.{ℕ, ℤ, ◌<◌, ◌∙◌, ◌≡◌, ◌≤ℤ◌, abs_of, All, ap, AreQuiet, arith, CanRead, cases_Bool, false}
-use Common.{Global, HasChanged, HasSettled, inl, inr, int_at, is_listed, IsRuled2, length}
-use Common.{levels_on, List, Motion, None, past_levels, Place, refl, rise_at, Some, state_count}
-use Common.{Store, subst, sym, true, Vec}
+use Common.{ℕ, ℤ, ◌<◌, ◌∙◌, ◌≡◌, ◌≤ℤ◌, abs_of, All, ap, AreQuiet, arith, CanRead, cases_Bool, Err}
+use Common.{false, Global, HasChanged, HasSettled, inl, inr, int_at, is_listed, IsRuled2, length}
+use Common.{levels_on, List, Motion, None, not, Option, overflow_of, past_levels, Place, rise_at}
+use Common.{rules, Some, state_count, Store, subst, sym, true, Vec}
 use Rattle.qss_order2.proofs.Arrivals.{by_false}
 use Rattle.qss_order2.proofs.CalmLines.{same_bound}
 use Rattle.qss_order2.proofs.Settled.{high_settled, has_settled, window_reads, rise_bounded}
@@ -11,17 +11,29 @@ use Rattle.qss_order2.proofs.Settled.{flat_after, calm_flat, exact}
 use Rattle.qss_order2.proofs.Settlings.{of_changes}
 use Rattle.qss_order2.proofs.order2_events.arrive_at_event.Goals as goal
 
-pub returns-in-Some-clause-settled : goal.returns-in-Some-clause-settled
-returns-in-Some-clause-settled g c =
+not_none : {A : Type 0} (o : Option ℕ) (var : ℕ) → o ≡ Some var → o ≡ None → A
+not_none o var e f = absurd (cc)
+
+pub returns-in_err-check_event_levels-clause-settled : goal.returns-in_err-check_event_levels-clause-settled
+returns-in_err-check_event_levels-clause-settled g c =
     let m = c.args.f.now.machine in
     let s = c.args.s.now in
     let n = state_count m in
     let levels = levels_on n s.motion.places.items s.motion.changes.items c.args.tick in
+    let over = c.in_err-check_event_levels.field-0.0 in
+    let given : c.from_residual.result ≡ Err over = search rules in
     subst (λ (q : Motion). HasSettled (IsRuled2 c.args.rule.now.nearest) m s.left.items
-    s.touched.places levels s.motion q (Some c.in-Some.var))
+    s.touched.places levels s.motion q (overflow_of c.from_residual.result))
     (sym (ap (λ (t : Store). t.motion) c.check_event_levels.ensures.same))
     (high_settled c.args.rule.now.nearest m s.left.items s.touched.places levels s.motion
-    (Some c.in-Some.var) c.in-Some.var refl (sym c.in-Some.is ∙ c.check_event_levels.ensures.past))
+    (overflow_of c.from_residual.result) over.var (ap overflow_of given)
+    (ap overflow_of given ∙ ap overflow_of (sym c.in_err-check_event_levels.was)
+    ∙ c.check_event_levels.ensures.past))
+
+pub returns-in_err-check_event_levels-clause-wild : goal.returns-in_err-check_event_levels-clause-wild
+returns-in_err-check_event_levels-clause-wild g c none =
+    let given : c.from_residual.result ≡ Err c.in_err-check_event_levels.field-0.0 = search rules in
+    not_none _ _ (ap overflow_of given) none
 
 pub settle_rises-requires-clause-within : goal.settle_rises-requires-clause-within
 settle_rises-requires-clause-within g c =
@@ -29,13 +41,13 @@ settle_rises-requires-clause-within g c =
     let n = state_count m in
     let none : past_levels m (levels_on n c.args.s.now.motion.places.items
     c.args.s.now.motion.changes.items c.args.tick) ≡ None = sym c.check_event_levels.ensures.past
-    ∙ c.in_default.is in
+    ∙ ap overflow_of c.in_ok-check_event_levels.was in
     subst (λ (q : Motion). past_levels m (levels_on n q.places.items q.changes.items c.args.tick)
     ≡ None) (sym (ap (λ (t : Store). t.motion) c.check_event_levels.ensures.same)) none
 
 pub settle_rises-requires-clause-left : goal.settle_rises-requires-clause-left
 settle_rises-requires-clause-left g c = subst (λ (l : List ℕ).
-    All (λ j. j < state_count c.args.f.now.machine) l) (sym c.as_slice.ensures.value)
+    All (λ j. j < state_count c.args.f.now.machine) l) (sym c.deref.ensures.value)
     c.check_event_levels.ensures.settles.numbers.below
 
 pub settle_rises-requires-clause-risen : goal.settle_rises-requires-clause-risen
@@ -46,7 +58,7 @@ settle_rises-requires-clause-risen g c j e =
     let settles = c.check_event_levels.ensures.settles in
     let levels = levels_on n s1.motion.places.items s1.motion.changes.items c.args.tick in
     let t : is_listed s1.touched.places j ≡ true =
-    settles.own j (ap (λ (l : List ℕ). is_listed l j) (sym c.as_slice.ensures.value) ∙ e) in
+    settles.own j (ap (λ (l : List ℕ). is_listed l j) (sym c.deref.ensures.value) ∙ e) in
     let h : j < n = (settles.here j t).0 in
     exact (int_at s1.motion.rises.items j) (rise_at m j levels) (settles.risen j h t)
     (rise_bounded m levels (settle_rises-requires-clause-within g c) j h)
@@ -57,13 +69,16 @@ settle_rises-requires-clause-bends g c = c.check_event_levels.ensures.settles.be
 pub settle_rises-requires-clause-held : goal.settle_rises-requires-clause-held
 settle_rises-requires-clause-held g c = c.check_event_levels.ensures.settles.held
 
-pub is_event_window_wild-s-requires-clause-list : goal.is_event_window_wild-s-requires-clause-list
-is_event_window_wild-s-requires-clause-list g c = subst (λ (l : List ℕ).
-    All (λ j. j < state_count c.args.f.now.machine) l) (sym c.as_slice-2.ensures.value)
-    c.check_event_levels.ensures.settles.numbers.below
+pub is_line_limit_needed-s-requires-clause-list : goal.is_line_limit_needed-s-requires-clause-list
+is_line_limit_needed-s-requires-clause-list g c =
+    let q2 = c.settle_rises.new.q in
+    subst (λ (l : List ℕ). All (λ j. j < length q2.places.items) l) (sym c.deref-2.ensures.value)
+    (subst (λ n. All (λ j. j < n) c.check_event_levels.new.s.left.items)
+    (sym c.settle_rises.ensures.lists.places)
+    c.check_event_levels.ensures.settles.numbers.below)
 
-pub is_event_window_wild-s-requires-clause-reads : goal.is_event_window_wild-s-requires-clause-reads
-is_event_window_wild-s-requires-clause-reads g c =
+pub is_line_limit_needed-s-requires-clause-reads : goal.is_line_limit_needed-s-requires-clause-reads
+is_line_limit_needed-s-requires-clause-reads g c =
     let m = c.args.f.now.machine in
     let n = state_count m in
     let s1 = c.check_event_levels.new.s in
@@ -75,65 +90,68 @@ is_event_window_wild-s-requires-clause-reads g c =
     c.args.tick) ≡ None =
     subst (λ (q : Motion). past_levels m (levels_on n q.places.items q.changes.items c.args.tick)
     ≡ None) (sym (ap (λ (t : Store). t.motion) c.check_event_levels.ensures.same))
-    (sym c.check_event_levels.ensures.past ∙ c.in_default.is) in
-    subst (λ (ps : Vec Place Global). CanRead n s1.window ps.items q2.changes.items)
+    (sym c.check_event_levels.ensures.past ∙ ap overflow_of c.in_ok-check_event_levels.was) in
+    subst (λ k. CanRead k s1.window q2.places.items q2.changes.items)
+    (sym c.settle_rises.ensures.lists.places)
+    (subst (λ (ps : Vec Place Global). CanRead n s1.window ps.items q2.changes.items)
     (sym settled.places)
     (window_reads m c.args.tick s1.window q1.places.items q1.changes.items q2.changes.items
-    settles.reads none settles.in_window settles.near c.settle_rises.ensures.lists.changes settled.held)
+    settles.reads none settles.in_window settles.near c.settle_rises.ensures.lists.changes
+    settled.held))
 
 -- the level slopes of the states that did not leave stay
-pub find_steep_rise-requires-clause-list : goal.find_steep_rise-requires-clause-list
-find_steep_rise-requires-clause-list g c k d h = omega (
+pub check_level_slopes-requires-clause-list : goal.check_level_slopes-requires-clause-list
+check_level_slopes-requires-clause-list g c k d h = omega (
   arith,
   c.places.ensures.below k d h,
   c.check_event_levels.ensures.fits.touched,
 )
 
-pub find_steep_rise-requires-clause-flat : goal.find_steep_rise-requires-clause-flat
-find_steep_rise-requires-clause-flat g c j h not =
+pub check_level_slopes-requires-clause-flat : goal.check_level_slopes-requires-clause-flat
+check_level_slopes-requires-clause-flat g c j h not =
     let m = c.args.f.now.machine in
     let s1 = c.check_event_levels.new.s in
     let q2 = c.settle_rises.new.q in
     let settles = c.check_event_levels.ensures.settles in
     let settled = c.settle_rises.ensures.settled in
-    let left : List ℕ = c.as_slice.result.now in
+    let left : List ℕ = c.deref.result.now in
     let touched : List ℕ = c.places.result.now in
-    let new : List ℤ = c.as_slice-3.result.now in
+    let new : List ℤ = c.deref-3.result.now in
     let quiet : AreQuiet m (is_listed left) (is_listed touched) =
     subst (λ (l : List ℕ). AreQuiet m (is_listed l) (is_listed touched))
-    (sym c.as_slice.ensures.value)
+    (sym c.deref.ensures.value)
     (subst (λ (l : List ℕ). AreQuiet m (is_listed s1.left.items) (is_listed l))
     (sym c.places.ensures.places) settles.quiet) in
     let kept : (i : ℕ) → i < state_count m → is_listed left i ≡ false →
     int_at new i ≡ int_at s1.motion.changes.items i = λ i k stays.
-    ap (λ (xs : List ℤ). int_at xs i) c.as_slice-3.ensures.value ∙ by_false (is_listed left i)
+    ap (λ (xs : List ℤ). int_at xs i) c.deref-3.ensures.value ∙ by_false (is_listed left i)
     _ _ stays (settled.are_changes.each i k) in
     flat_after m left touched s1.motion.changes.items new quiet kept j h not (settles.flat j h)
 
-pub find_steep_rise-requires-clause-calm : goal.find_steep_rise-requires-clause-calm
-find_steep_rise-requires-clause-calm g c tame j h =
+pub check_level_slopes-requires-clause-calm : goal.check_level_slopes-requires-clause-calm
+check_level_slopes-requires-clause-calm g c tame j h =
     let m = c.args.f.now.machine in
     let n = state_count m in
     let s1 = c.check_event_levels.new.s in
     let q2 = c.settle_rises.new.q in
     let settled = c.settle_rises.ensures.settled in
-    let left : List ℕ = c.as_slice.result.now in
-    let new : List ℤ = c.as_slice-3.result.now in
-    let fresh = c.is_event_window_wild-s.ensures.calm tame in
-    let before = c.check_event_levels.ensures.settles.calm_changes (c.is_event_window_wild-s.ensures.was tame) in
+    let left : List ℕ = c.deref.result.now in
+    let new : List ℤ = c.deref-3.result.now in
+    let fresh = c.is_line_limit_needed-s.ensures.calm tame in
+    let before = c.check_event_levels.ensures.settles.calm_changes (c.is_line_limit_needed-s.ensures.was tame) in
     let bounds : before.0 ≡ fresh.0 = same_bound before.0 fresh.0 (sym before.1 ∙ fresh.1) in
     let small : (i : ℕ) → i < n → abs_of (int_at new i) ≤ℤ fresh.0 = λ i k.
-    subst (λ (xs : List ℤ). abs_of (int_at xs i) ≤ℤ fresh.0) (sym c.as_slice-3.ensures.value)
+    subst (λ (xs : List ℤ). abs_of (int_at xs i) ≤ℤ fresh.0) (sym c.deref-3.ensures.value)
     (elim (cases_Bool (is_listed left i)) [
-      | inl leaves ↦ (fresh.2 i (ap (λ (l : List ℕ). is_listed l i) (c.as_slice-2.ensures.value
-          ∙ sym c.as_slice.ensures.value) ∙ leaves)).slope
+      | inl leaves ↦ (fresh.2 i (ap (λ (l : List ℕ). is_listed l i) (c.deref-2.ensures.value
+          ∙ sym c.deref.ensures.value) ∙ leaves)).slope
       | inr stays ↦
           subst (λ z. abs_of z ≤ℤ fresh.0) (sym (by_false (is_listed left i) _ _ stays
           (settled.are_changes.each i k)))
           (subst (λ b. abs_of (int_at s1.motion.changes.items i) ≤ℤ b) bounds (before.2 i k))
     ]) in
     calm_flat m fresh.0 (c.check_event_levels.ensures.fits.calm fresh.0 fresh.1).1 new
-    (ap length c.as_slice-3.ensures.value ∙ c.settle_rises.ensures.lists.changes) small j h
+    (ap length c.deref-3.ensures.value ∙ c.settle_rises.ensures.lists.changes) small j h
 
 pub returns-clause-settled : goal.returns-clause-settled
 returns-clause-settled g c =
@@ -143,20 +161,20 @@ returns-clause-settled g c =
     let tick = c.args.tick in
     let s1 = c.check_event_levels.new.s in
     let q2 : Motion = c.settle_rises.new.q in
-    let over = c.find_steep_rise.result in
+    let over = overflow_of c.check_level_slopes.result in
     let levels = levels_on n s1.motion.places.items s1.motion.changes.items tick in
     let none : past_levels m (levels_on n s1.motion.places.items s1.motion.changes.items
     c.args.tick) ≡ None =
     subst (λ (q : Motion). past_levels m (levels_on n q.places.items q.changes.items c.args.tick)
     ≡ None) (sym (ap (λ (t : Store). t.motion) c.check_event_levels.ensures.same))
-    (sym c.check_event_levels.ensures.past ∙ c.in_default.is) in
+    (sym c.check_event_levels.ensures.past ∙ ap overflow_of c.in_ok-check_event_levels.was) in
     let changed : HasChanged (IsRuled2 nearest) m s1.left.items levels s1.motion q2 =
     subst (λ (l : List ℕ). HasChanged (IsRuled2 nearest) m l levels s1.motion q2)
-    c.as_slice.ensures.value c.settle_rises.ensures.settled in
+    c.deref.ensures.value c.settle_rises.ensures.settled in
     let there : HasSettled (IsRuled2 nearest) m s1.left.items s1.touched.places levels s1.motion q2
     over =
     has_settled nearest m s1.left.items s1.touched.places levels s1.motion q2 over changed none
-    (c.find_steep_rise.ensures ∙ ap (of_changes m) c.as_slice-3.ensures.value)
+    (c.check_level_slopes.ensures ∙ ap (of_changes m) c.deref-3.ensures.value)
     c.check_event_levels.ensures.settles.risen in
     subst (λ (t : Store). HasSettled (IsRuled2 nearest) m t.left.items t.touched.places
     (levels_on n t.motion.places.items t.motion.changes.items tick) t.motion q2 over)

@@ -1,11 +1,10 @@
--- Calm levels are past no limit.
+-- Levels within the bound exceed no limit.
 use Rattle.qss_order2.proofs.Common
-use Common.{ℕ, ℤ, ◌<◌, ◌∙◌, ◌≡◌, ◌≤ℤ◌, abs_of, All, ap, arith, cases_Bool, inl, inr, int_at}
-use Common.{is_listed, length, level_on, levels_on, List, past_levels, Place, place_in, state_count}
-use Common.{subst, sym}
+use Common.{ℕ, ℤ, ◌<◌, ◌∙◌, ◌≡◌, ◌≤ℤ◌, abs_of, All, ap, arith, CanRead, cases_Bool, false, inl, inr}
+use Common.{int_at, is_listed, level_on, levels_on, List, past_levels, place_in, rules, state_count}
+use Common.{subst, sym, with_items_is}
 use Rattle.qss_order2.proofs.CalmLines.{same_bound}
-use Rattle.qss_order2.proofs.Motions.{can_read_slices, levels_of_slices, at_levels, many_levels}
-use Rattle.qss_order2.proofs.Motions.{here_level}
+use Rattle.qss_order2.proofs.Motions.{at_levels, many_levels, here_level}
 use Rattle.qss_order2.proofs.order2_events.check_event_levels.Goals as goal
 
 pub is_limit_check_needed-s-requires : goal.is_limit_check_needed-s-requires
@@ -14,21 +13,12 @@ is_limit_check_needed-s-requires c k d h =
     omega (
       arith,
       subst (λ (l : List ℕ). All (λ j. j < state_count c.args.f.now.machine) l)
-          (sym c.as_slice.ensures.value) left k d h,
-      ap length c.as_slice-2.ensures.value,
+          (sym c.deref.ensures.value) left k d h,
       c.requires.fits.lists.places,
     )
 
-pub first_line_past_limit-requires-clause-reads : goal.first_line_past_limit-requires-clause-reads
-first_line_past_limit-requires-clause-reads c =
-    let q = c.args.s.now.motion in
-    can_read_slices (state_count c.args.f.now.machine) c.args.tick c.as_slice-3.result.now
-    q.places.items c.as_slice-4.result.now q.changes.items c.as_slice-3.ensures.value
-    c.as_slice-4.ensures.value c.requires.fits.lists.places
-    c.requires.settles.reads
-
-pub first_line_past_limit-requires-clause-calm : goal.first_line_past_limit-requires-clause-calm
-first_line_past_limit-requires-clause-calm c tame =
+pub returns-then-not-s-clause-past : goal.returns-then-not-s-clause-past
+returns-then-not-s-clause-past c =
     let m = c.args.f.now.machine in
     let n = state_count m in
     let s = c.args.s.now in
@@ -36,11 +26,7 @@ first_line_past_limit-requires-clause-calm c tame =
     let tick = c.args.tick in
     let settles = c.requires.settles in
     let levels : List ℤ = levels_on n q.places.items q.changes.items tick in
-    let same : levels_on (length c.as_slice-3.result.now) c.as_slice-3.result.now
-    c.as_slice-4.result.now tick ≡ levels =
-    levels_of_slices n tick c.as_slice-3.result.now q.places.items c.as_slice-4.result.now
-    q.changes.items c.as_slice-3.ensures.value c.as_slice-4.ensures.value
-    c.requires.fits.lists.places in
+    let tame : c.is_limit_check_needed-s.result ≡ false = search (rules, c.if-not-s.true) in
     let fresh = c.is_limit_check_needed-s.ensures.calm tame in
     let before = settles.calm (c.is_limit_check_needed-s.ensures.was tame) in
     let bounds : before.0 ≡ fresh.0 = same_bound before.0 fresh.0 (sym before.1 ∙ fresh.1) in
@@ -50,23 +36,29 @@ first_line_past_limit-requires-clause-calm c tame =
     (elim (cases_Bool (is_listed s.left.items j)) [
       | inl leaves ↦
           let since = (settles.here j (settles.own j leaves)).1 in
-          let own : abs_of (place_in q.places.items j).level ≤ℤ bound =
-          subst (λ (ps : List Place). abs_of (place_in ps j).level ≤ℤ bound)
-          c.as_slice-2.ensures.value (fresh.2 j (ap (λ (l : List ℕ). is_listed l j)
-          c.as_slice.ensures.value ∙ leaves)) in
           subst (λ z. abs_of z ≤ℤ bound) (sym (here_level (place_in q.places.items j)
-          (int_at q.changes.items j) tick since)) own
+          (int_at q.changes.items j) tick since))
+          (fresh.2 j (ap (λ (l : List ℕ). is_listed l j) c.deref.ensures.value ∙ leaves))
       | inr stays ↦ subst (λ b. abs_of (level_on (place_in q.places.items j)
           (int_at q.changes.items j) tick) ≤ℤ b) bounds (before.2 j h stays)
     ]) in
-    ap (past_levels m) same ∙ (c.requires.fits.calm bound fresh.1).1 levels
-    (many_levels n q.places.items q.changes.items tick) small
+    sym ((c.requires.fits.calm bound fresh.1).1 levels
+    (many_levels n q.places.items q.changes.items tick) small)
+
+pub list_levels-requires-clause-reads : goal.list_levels-requires-clause-reads
+list_levels-requires-clause-reads c =
+    let q = c.args.s.now.motion in
+    subst (λ n. CanRead n c.args.tick q.places.items q.changes.items)
+    (sym c.requires.fits.lists.places) c.requires.settles.reads
 
 pub returns-clause-past : goal.returns-clause-past
 returns-clause-past c =
     let m = c.args.f.now.machine in
-    let q = c.args.s.now.motion in
-    c.first_line_past_limit.ensures
-    ∙ ap (past_levels m) (levels_of_slices (state_count m) c.args.tick c.as_slice-3.result.now
-    q.places.items c.as_slice-4.result.now q.changes.items c.as_slice-3.ensures.value
-    c.as_slice-4.ensures.value c.requires.fits.lists.places)
+    let s = c.args.s.now in
+    let q = s.motion in
+    let ls : List ℤ = c.list_levels.new.levels in
+    c.check_levels.ensures
+    ∙ ap (past_levels m) (c.deref-2.ensures.value
+    ∙ with_items_is s.room ls (c.list_levels.auto.levels ∙ c.deref_mut.ensures.len)
+    ∙ c.list_levels.ensures
+    ∙ ap (λ n. levels_on n q.places.items q.changes.items c.args.tick) c.requires.fits.lists.places)

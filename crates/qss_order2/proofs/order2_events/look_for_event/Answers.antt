@@ -2,8 +2,9 @@
 use Rattle.qss_order2.proofs.Common
 use Common.{ℕ, ℤ, ◌+◌, ◌-◌, ◌<◌, ◌∙◌, ◌≡◌, ap, arith, due_at, false, int_at, is_listed, IsDue2}
 use Common.{IsRuled2, IsVisit2, KeepsDues, last_second_snapshot, levels_on, List, motion_at, Moves}
-use Common.{Option, Place, place_in, place_rows, refl, second_snapshot_unless, SecondSnapshot}
-use Common.{snapshot_of, state_count, Store, subst, sym, tick_rows2, true, until}
+use Common.{None, not, Option, overflow_of, Place, place_in, place_rows, refl}
+use Common.{second_snapshot_unless, SecondSnapshot, snapshot_of, Some, state_count, Store, subst}
+use Common.{sym, tick_rows2, true, until}
 use Rattle.std.specs.Prelude.{flat_map}
 use Rattle.qss_order2.proofs.Arrivals.{by_false, states2, levels2, past2, near2, small2, line2}
 use Rattle.qss_order2.proofs.Looks.{look_later}
@@ -15,6 +16,9 @@ use Rattle.qss_order2.proofs.RowLists.{listed_rows}
 use Rattle.qss_order2.proofs.Silent.{calm_worlds}
 use Rattle.qss_order2.specs.declared.order2_rows.Kind2.TheVariants as kind
 use Rattle.qss_order2.proofs.order2_events.look_for_event.Goals as goal
+
+not_none : {A : Type 0} (o : Option ℕ) (var : ℕ) → o ≡ Some var → o ≡ None → A
+not_none o var e f = absurd (cc)
 
 pub overflow_add-result : goal.overflow_add-result
 overflow_add-result g c =
@@ -46,8 +50,8 @@ returns-clause-visited g c =
     let t : ℕ = tick + ticks in
     let s1 = c.prepare_event.new.s in
     let s2 = c.go_on_after_event-ticks.new.s in
-    let s3 = c.arrive_at_event-s.new.s in
-    let over = c.arrive_at_event-s.result in
+    let s3 = c.arrive_at_event-ran.new.s in
+    let over = overflow_of c.arrive_at_event-ran.result in
     let left : List ℕ = s2.left.items in
     let due = λ (j : ℕ). until tick (due_at s1.dues j) in
     let ready = c.prepare_event.ensures.ready in
@@ -56,8 +60,8 @@ returns-clause-visited g c =
     let next = c.go_on_after_event-ticks.ensures.next in
     let arrived = c.go_on_after_event-ticks.ensures.arrived in
     let settles = c.go_on_after_event-ticks.ensures.settles in
-    let lists = c.arrive_at_event-s.ensures.fits.lists in
-    let settled = c.arrive_at_event-s.ensures.settled in
+    let lists = c.arrive_at_event-ran.ensures.fits.lists in
+    let settled = c.arrive_at_event-ran.ensures.settled in
     let w1 : SecondSnapshot = snapshot_of (motion_at m s1.motion tick) in
     let v3 : SecondSnapshot = snapshot_of (motion_at m s3.motion t) in
     let is = found Rule m tick ticks s1.motion s2.motion s3.motion due left s2.touched.places over
@@ -86,7 +90,7 @@ returns-clause-visited g c =
           c.as_slice.result.now) c.as_slice-3.ensures.value
           ∙ ap (λ (l : List ℕ). flat_map (place_rows kind.Level t s3.motion.places.items
           s3.motion.changes.items) l) (c.as_slice.ensures.value ∙ ap (λ (s : Store). s.left.items)
-          c.arrive_at_event-s.ensures.same)
+          c.arrive_at_event-ran.ensures.same)
           ∙ listed_rows kind.Level t (state_count m) s3.motion.places.items s3.motion.changes.items
           v3 left settles.numbers
           (λ j e. level_here m s3.motion t on j (here j e).0 (since j e)) (λ j e.
@@ -96,9 +100,13 @@ returns-clause-visited g c =
           ∙ ap (λ (w : SecondSnapshot). tick_rows2 m t (last_second_snapshot w silent) v3) same,
     )
 
+pub returns-clause-same : goal.returns-clause-same
+returns-clause-same g c = ap (λ (s : Store). s.over) c.arrive_at_event-ran.ensures.same
+    ∙ c.go_on_after_event-ticks.ensures.over ∙ c.prepare_event.ensures.over
+
 pub returns-clause-fits : goal.returns-clause-fits
 returns-clause-fits g c =
-    let fits = c.arrive_at_event-s.ensures.fits in
+    let fits = c.arrive_at_event-ran.ensures.fits in
     record {
       lists = fits.lists;
       dues = fits.dues;
@@ -120,8 +128,8 @@ returns-clause-stands g c e =
     let t : ℕ = tick + ticks in
     let s1 : Store = c.prepare_event.new.s in
     let s2 : Store = c.go_on_after_event-ticks.new.s in
-    let s3 : Store = c.arrive_at_event-s.new.s in
-    let over = c.arrive_at_event-s.result in
+    let s3 : Store = c.arrive_at_event-ran.new.s in
+    let over = overflow_of c.arrive_at_event-ran.result in
     let left : List ℕ = s2.left.items in
     let due = λ (j : ℕ). until tick (due_at s1.dues j) in
     let ready = c.prepare_event.ensures.ready in
@@ -130,8 +138,8 @@ returns-clause-stands g c e =
     let next = c.go_on_after_event-ticks.ensures.next in
     let arrived = c.go_on_after_event-ticks.ensures.arrived in
     let settles = c.go_on_after_event-ticks.ensures.settles in
-    let lists = c.arrive_at_event-s.ensures.fits.lists in
-    let settled = c.arrive_at_event-s.ensures.settled in
+    let lists = c.arrive_at_event-ran.ensures.fits.lists in
+    let settled = c.arrive_at_event-ran.ensures.settled in
     let levels : List ℤ = levels_on n s2.motion.places.items s2.motion.changes.items t in
     let there = levels_are_there Rule m tick ticks s1.motion s2.motion s3.motion due left
     s2.touched.places over moves way.past next arrived settles.quiet lists settled in
@@ -139,7 +147,9 @@ returns-clause-stands g c e =
     moves_on Rule m tick ticks s1.motion s2.motion s3.motion due left s2.touched.places over moves
     way.past next arrived settles.quiet lists settled e in
     let same : s3 ≡ record s2 { motion = s3.motion; wild = s3.wild; room = s3.room } =
-    c.arrive_at_event-s.ensures.same in
+    c.arrive_at_event-ran.ensures.same in
+    let kept_over : s3.over ≡ c.args.s.now.over = ap (λ (s : Store). s.over) same
+    ∙ c.go_on_after_event-ticks.ensures.over ∙ c.prepare_event.ensures.over in
     let window2 : s2.window ≡ s1.window = c.go_on_after_event-ticks.ensures.kept.0 in
     let window : s3.window ≡ s2.window = ap (λ (s : Store). s.window) same in
     let touched : s3.touched.places ≡ s2.touched.places =
@@ -161,8 +171,8 @@ returns-clause-stands g c e =
     arrived Rule s3.motion over levels there settles.quiet lists settled e in
     record {
       fits = returns-clause-fits g c;
-      over = on.within ∙ sym e;
-      at_start = λ var f. absurd (cc);
+      over = on.within ∙ sym (ap overflow_of kept_over ∙ c.requires.within);
+      at_start = λ var f. not_none _ _ f (ap overflow_of kept_over ∙ c.requires.within);
       goes = λ f. record {
         moves = on;
         on_the_way = on_the_way m s3.motion t on s3.window
@@ -184,7 +194,7 @@ returns-clause-stands g c e =
             )) way.small way.small_rises);
         in_window = omega (arith, window, settles.in_window);
         calm = λ tame.
-            let now = c.arrive_at_event-s.ensures.wild e tame in
+            let now = c.arrive_at_event-ran.ensures.wild e tame in
             let before = ready.goes.calm (sym c.go_on_after_event-ticks.ensures.kept.1 ∙ now.0) in
             calm_on n s1.motion.places.items s3.motion.places.items s1.motion.changes.items
             s3.motion.changes.items left tick t s1.window s3.window s1.calm s3.calm now.1
@@ -195,7 +205,7 @@ returns-clause-stands g c e =
             moves way.past arrived Rule s3.motion over levels there settles.quiet lists settled e j
             u h stays later);
         calm_changes = λ tame.
-            let now = c.arrive_at_event-s.ensures.wild e tame in
+            let now = c.arrive_at_event-ran.ensures.wild e tame in
             let before = ready.goes.calm_changes (sym c.go_on_after_event-ticks.ensures.kept.1 ∙ now.0) in
             calm_slopes n s1.motion.changes.items s3.motion.changes.items left s1.calm s3.calm now.1
             (sym c.go_on_after_event-ticks.ensures.kept.2 ∙ now.2) calm3 before (λ j f. (now.3 j f).slope)

@@ -1,7 +1,7 @@
 -- All states are at the tick, and the next window begins.
 use Rattle.qss_order2.proofs.Common
-use Common.{ℕ, ◌+◌, ◌-◌, ◌<◌, ◌∙◌, ◌≡◌, ap, arith, Bool, false, is_listed, IsWindow, length, List}
-use Common.{motion_at, Moves, state_count, subst, sym, true}
+use Common.{ℕ, ◌+◌, ◌-◌, ◌<◌, ◌∙◌, ◌≡◌, ap, arith, Bool, CanRead, false, is_listed, IsWindow}
+use Common.{length, List, motion_at, Moves, not, state_count, subst, sym, true}
 use Rattle.qss_order2.proofs.Bounds.{change_small}
 use Rattle.qss_order2.proofs.Motions.{small_here, small_rise_here, on_the_way}
 use Rattle.qss_order2.proofs.Settled.{listed_below}
@@ -45,12 +45,13 @@ move_all_at_event-requires-clause-on_the_way c =
       small_bends = way.small_bends;
     }
 
-pub is_event_window_wild-s-requires-clause-list : goal.is_event_window_wild-s-requires-clause-list
-is_event_window_wild-s-requires-clause-list c k d h = omega (
+pub is_line_limit_needed-s-requires-clause-list : goal.is_line_limit_needed-s-requires-clause-list
+is_line_limit_needed-s-requires-clause-list c k d h = omega (
   arith,
   c.places-2.ensures.below k d h,
   c.touch_all.ensures.count,
   ap length c.as_slice.ensures,
+  c.move_all_at_event.ensures.lists.places,
 )
 
 pub returns-clause-goes : goal.returns-clause-goes
@@ -77,12 +78,12 @@ returns-clause-goes c =
           ));
       in_window = omega arith;
       calm = λ tame.
-          let calm = c.is_event_window_wild-s.ensures.calm tame in (
+          let calm = c.is_line_limit_needed-s.ensures.calm tame in (
             calm.0,
             calm.1,
             λ j t h low high. (calm.2 j (listed j h)).levels t (omega (arith, here j h, low)) high,
           );
-      calm_changes = λ tame. let calm = c.is_event_window_wild-s.ensures.calm tame in (
+      calm_changes = λ tame. let calm = c.is_line_limit_needed-s.ensures.calm tame in (
         calm.0,
         calm.1,
         λ j h. (calm.2 j (listed j h)).slope,
@@ -114,18 +115,21 @@ returns-clause-keeps c =
           (c.touch_all.ensures.places j (omega (arith, h, ap length c.as_slice.ensures))) not;
     }
 
-pub is_event_window_wild-s-requires-clause-reads : goal.is_event_window_wild-s-requires-clause-reads
-is_event_window_wild-s-requires-clause-reads c =
+pub is_line_limit_needed-s-requires-clause-reads : goal.is_line_limit_needed-s-requires-clause-reads
+is_line_limit_needed-s-requires-clause-reads c =
     let m = c.args.f.now.machine in
     let tick = c.args.tick in
     let q = c.move_all_at_event.new.q in
     let moves : Moves m (motion_at m q tick) = subst (Moves m) (sym c.move_all_at_event.ensures.same)
     (c.requires.stands.goes c.requires.within).moves in
     let here = c.move_all_at_event.ensures.here in
+    let reads : CanRead (state_count m) (tick + c.window-reach.result) q.places.items q.changes.items =
     record {
       as_many_changes = c.move_all_at_event.ensures.lists.changes;
       past = λ j h. omega (arith, here j h);
       near = λ j h. omega (arith, here j h, c.window-reach.ensures.few);
       small = λ j h before. (small_here m q tick moves j h (here j h)).level;
       small_changes = λ j h before. change_small m (motion_at m q tick) moves j h;
-    }
+    } in
+    subst (λ n. CanRead n (tick + c.window-reach.result) q.places.items q.changes.items)
+    (sym c.move_all_at_event.ensures.lists.places) reads

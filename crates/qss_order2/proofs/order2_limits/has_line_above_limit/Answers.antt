@@ -7,8 +7,8 @@ pub returns : goal.returns
 returns c e j among =
     let a = c.args in
     let found = index_of a.list.now j among in
-    let At = λ (bound : ℤ) (k : ℕ). IsLineWithin bound (place_in a.places.now k)
-    (int_at a.changes.now k) a.tick in
+    let At = λ (bound : ℤ) (k : ℕ). IsLineWithin bound (place_in a.q.now.places.items k)
+    (int_at a.q.now.changes.items k) a.tick in
     subst (At a.bound) found.2 (subst (λ b. At b (get_or a.list.now found.0 0))
     (to_z-of_z w128 a.bound c.ranges.bound) (c.loop-state.invariant found.0 (omega (
       arith,

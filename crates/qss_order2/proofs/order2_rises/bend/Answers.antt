@@ -1,7 +1,7 @@
 -- No row is past its limit.
 use Rattle.qss_order2.proofs.Common
-use Common.{◌<◌, ◌^◌, ◌∙◌, ◌≤◌, int_at-tabulate, none_past, rise_change_weight, state_count, subst}
-use Common.{sym, tabulate, unsigned_abs, within-passes}
+use Common.{◌<◌, ◌^◌, ◌∙◌, ◌≤◌, ap, int_at-tabulate, none_past, overflow_of, rise_change_weight}
+use Common.{state_count, subst, sym, tabulate, unsigned_abs, within-passes}
 use Rattle.qss_order2.proofs.Settled.{listed_below}
 use Rattle.qss_order2.proofs.order2_rises.bend.Goals as goal
 
@@ -13,5 +13,5 @@ set_rise_bends-requires-clause-within c j e =
     within-passes 94 (rise_change_weight m c.args.changes.now j)
     (subst (λ z. unsigned_abs z ≤ 2 ^ 94) (int_at-tabulate n
     (rise_change_weight m c.args.changes.now) j h)
-    (none_past 94 (tabulate n (rise_change_weight m c.args.changes.now)) (sym c.find_steep_rise.ensures
-    ∙ c.in_default.is) j))
+    (none_past 94 (tabulate n (rise_change_weight m c.args.changes.now)) (sym c.check_level_slopes.ensures
+    ∙ ap overflow_of c.in_ok-check_level_slopes.was) j))

@@ -1,10 +1,8 @@
 -- A row's sum is that of the definitions.
 use Rattle.qss_order2.proofs.Common
-use Common.{ℤ, ◌∙◌, ◌≡◌, AreModes, arith, FitsSigned, IsWithin, length, levels_on, List}
-use Common.{state_count, subst, sym, to_z-of_z, w128}
+use Common.{◌∙◌, AreModes, arith, FitsSigned, IsWithin, subst, sym, to_z-of_z, w128}
 use Rattle.qss_order2.proofs.FixedFacts.{wide, in_drives, drive_is, drive_within, row_is}
 use Rattle.qss_order2.proofs.FixedSums.{rise_is}
-use Rattle.qss_order2.proofs.Motions.{many_levels}
 use Rattle.qss_order2.proofs.order2_rises.rise_at.Goals as goal
 
 pub index-requires-2 : goal.index-requires-2
@@ -27,11 +25,8 @@ returns c =
     let of_rise : FitsSigned w128 c.rise_of.result = record { sfits = c.rise_of.type_inv } in
     let modes : AreModes m a.row c.index.result.now =
     row_is a.f.now a.row c.requires.row c.index.result.now c.index.ensures in
-    let levels : List ℤ = levels_on (length a.places.now) a.places.now a.changes.now a.tick in
-    let many : length levels ≡ state_count m =
-    many_levels (length a.places.now) a.places.now a.changes.now a.tick ∙ c.requires.places in
     let own = simp to_z-of_z at c.rise_of.ensures.value in
     to_z-of_z w128 c.rise_of.result of_rise
     ∙ own ∙ rise_is m a.row c.as_slice.result.now (subst (AreModes m a.row) (sym c.as_slice.ensures)
-    modes) levels many c.index-2.result.now
+    modes) a.levels.now c.requires.count c.index-2.result.now
     (drive_is a.f.now a.row c.requires.row c.index-2.result.now c.index-2.ensures)

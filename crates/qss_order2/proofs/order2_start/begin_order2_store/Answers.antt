@@ -2,9 +2,9 @@
 use Rattle.qss_order2.proofs.Common
 use Common.{[], ℕ, ℤ, ◌++◌, ◌<◌, ◌∙◌, ◌≡◌, All, ap, AreChanges, AreRisingBelow, arith, Bool}
 use Common.{discrete_rows2, false, first_exceeding_limit, Global, int_at, is_listed, IsRuled2}
-use Common.{length, List, Motion, motion_at, Moves, None, Place, place_rows, range_with_len, refl}
-use Common.{rise_at, Row2, SecondSnapshot, snapshot_of, start_place, state_count, subst, sym}
-use Common.{tabulate, true, Vec}
+use Common.{length, List, Motion, motion_at, Moves, None, overflow_of, Place, place_rows}
+use Common.{range_with_len, refl, rise_at, Row2, SecondSnapshot, snapshot_of, start_place}
+use Common.{state_count, subst, sym, tabulate, true, Vec}
 use Rattle.std.specs.Prelude.{flat_map}
 use Rattle.qss_order2.proofs.Motions.{sized_at, small_here, small_rise_here, on_the_way}
 use Rattle.qss_order2.proofs.RowLists.{listed_rows}
@@ -19,12 +19,12 @@ use Rattle.qss_order2.proofs.order2_start.begin_order2_store.Goals as goal
 pub begin_rises-s-requires-clause-all : goal.begin_rises-s-requires-clause-all
 begin_rises-s-requires-clause-all g c =
     let n = state_count c.args.f.now.machine in
-    subst (λ (l : List ℕ). All (λ j. j < n) l) (sym (c.as_slice.ensures.value ∙ c.requires.left))
+    subst (λ (l : List ℕ). All (λ j. j < n) l) (sym (c.deref.ensures.value ∙ c.requires.left))
     (all_rising n).below
 
 pub begin_rises-s-requires-clause-each : goal.begin_rises-s-requires-clause-each
 begin_rises-s-requires-clause-each g c j h =
-    ap (λ (l : List ℕ). is_listed l j) (c.as_slice.ensures.value ∙ c.requires.left)
+    ap (λ (l : List ℕ). is_listed l j) (c.deref.ensures.value ∙ c.requires.left)
     ∙ all_listed (state_count c.args.f.now.machine) j h
 
 pub begin_rises-s-requires-clause-here : goal.begin_rises-s-requires-clause-here
@@ -61,10 +61,11 @@ returns-clause-stands g c =
     let states = start_states_are m q.places.items places q.rises.items q.bends.items in
     let lists = c.begin_rises-s.ensures.lists in
     let since = start_since m q.places.items places in
-    let over : first_exceeding_limit m (motion_at m q 0).levels q.changes.items ≡ c.begin_rises-s.result =
+    let over : first_exceeding_limit m (motion_at m q 0).levels q.changes.items
+    ≡ overflow_of c.begin_rises-s.result =
     ap (λ (ls : List ℤ). first_exceeding_limit m ls q.changes.items) levels
     ∙ sym c.begin_rises-s.ensures.overflow in
-    let moves : c.begin_rises-s.result ≡ None → Moves m (motion_at m q 0) = λ e. record {
+    let moves : overflow_of c.begin_rises-s.result ≡ None → Moves m (motion_at m q 0) = λ e. record {
       sized = sized_at m q 0 lists;
       near = start_near m (snapshot_of (motion_at m q 0)) states levels;
       within = over ∙ e;
@@ -83,7 +84,7 @@ returns-clause-stands g c =
         left = fits.left;
         touched = fits.touched;
         calm = fits.calm;
-        levels = same_length c.args.s.now.room c.begin_rises-s.new.room ∙ fits.levels;
+        levels = same_length c.args.s.now.room c.begin_rises-s.new.levels ∙ fits.levels;
         rows = omega (arith, c.set_left_rows.ensures.room, c.add_discretes.ensures.room, fits.rows);
       };
       over = over;
@@ -130,12 +131,12 @@ returns-clause-rows g c =
     λ j e. listed_below n all numbers.below j e in
     let rows =
     c.set_left_rows.ensures.rows
-    ∙ ap (λ (ps : List Place). flat_map (place_rows kind.Start 0 ps c.as_slice-4.result.now)
-    c.as_slice-2.result.now) c.as_slice-3.ensures.value
+    ∙ ap (λ (ps : List Place). flat_map (place_rows kind.Start 0 ps c.as_slice-3.result.now)
+    c.as_slice.result.now) c.as_slice-2.ensures.value
     ∙ ap (λ (cs : List ℤ). flat_map (place_rows kind.Start 0 q.places.items cs)
-    c.as_slice-2.result.now) c.as_slice-4.ensures.value
+    c.as_slice.result.now) c.as_slice-3.ensures.value
     ∙ ap (λ (l : List ℕ). flat_map (place_rows kind.Start 0 q.places.items q.changes.items) l)
-    (c.as_slice-2.ensures.value ∙ c.requires.left)
+    (c.as_slice.ensures.value ∙ c.requires.left)
     ∙ listed_rows kind.Start 0 n q.places.items q.changes.items w all numbers
     (λ j e. ap (λ (p : Place). p.level) (start_place_is m q.places.items places j (low j e))
     ∙ ap (λ (ls : List ℤ). int_at ls j) (sym levels))
@@ -147,8 +148,8 @@ returns-clause-rows g c =
 pub set_left_rows-requires-clause-left : goal.set_left_rows-requires-clause-left
 set_left_rows-requires-clause-left g c =
     let n = state_count c.args.f.now.machine in
-    let many : length c.as_slice-3.result.now ≡ n = ap length c.as_slice-3.ensures.value
+    let many : length c.as_slice-2.result.now ≡ n = ap length c.as_slice-2.ensures.value
     ∙ c.begin_rises-s.ensures.lists.places in
-    subst (λ (k : ℕ). AreRisingBelow k c.as_slice-2.result.now) (sym many)
-    (subst (λ (l : List ℕ). AreRisingBelow n l) (sym (c.as_slice-2.ensures.value ∙ c.requires.left))
+    subst (λ (k : ℕ). AreRisingBelow k c.as_slice.result.now) (sym many)
+    (subst (λ (l : List ℕ). AreRisingBelow n l) (sym (c.as_slice.ensures.value ∙ c.requires.left))
     (all_rising n))

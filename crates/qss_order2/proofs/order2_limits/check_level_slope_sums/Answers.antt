@@ -1,7 +1,7 @@
 -- The first one is the least.
 use Rattle.qss_order2.proofs.Common.{◌∙◌, arith, exceeds, rise_change_weight, state_count, sym}
 use Rattle.qss_order2.proofs.Tables.{first_of_table, none_of_table}
-use Rattle.qss_order2.proofs.order2_limits.first_bend_past_limit.Goals as goal
+use Rattle.qss_order2.proofs.order2_limits.check_level_slope_sums.Goals as goal
 
 pub returns-then-is_bend_past_limit : goal.returns-then-is_bend_past_limit
 returns-then-is_bend_past_limit c =

@@ -1,5 +1,5 @@
 use Rattle.qss_order2.proofs.Common.{ℕ, ◌<◌, ◌≡◌, exceeds, false, rise_change_weight}
-use Rattle.qss_order2.proofs.order2_limits.first_bend_past_limit.Given as goal
+use Rattle.qss_order2.proofs.order2_limits.check_level_slope_sums.Given as goal
 
 -- none so far
 abbrev pub invariant-loop-row : goal.invariant-loop-row

@@ -1,5 +1,5 @@
 use Rattle.qss_order2.proofs.Common.{ℕ, ◌<◌, ◌≡◌, exceeds, false, int_at}
-use Rattle.qss_order2.proofs.order2_limits.first_level_past_limit.Given as goal
+use Rattle.qss_order2.proofs.order2_limits.check_level_sizes.Given as goal
 
 -- none so far
 abbrev pub invariant-loop-j : goal.invariant-loop-j

@@ -2,7 +2,7 @@
 use Rattle.qss_order2.proofs.Common
 use Common.{◌∙◌, ◌≡◌, arith, exceeds, FitsSigned, int_at, ints, pos, sym, to_z-of_z, true, w128}
 use Rattle.qss_order2.proofs.Tables.{first_is, none_is}
-use Rattle.qss_order2.proofs.order2_limits.first_level_past_limit.Goals as goal
+use Rattle.qss_order2.proofs.order2_limits.check_level_sizes.Goals as goal
 
 pub returns-then-exceeds_power_of_two : goal.returns-then-exceeds_power_of_two
 returns-then-exceeds_power_of_two c =

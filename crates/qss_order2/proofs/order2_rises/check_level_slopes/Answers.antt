@@ -1,8 +1,9 @@
 -- None of the list, and none of the others.
 use Rattle.qss_order2.proofs.Common
-use Common.{cases_Bool, exceeds, inl, inr, is_listed, rise_change_weight, rules, state_count, sym}
+use Common.{cases_Bool, exceeds, inl, inr, is_listed, not, rise_change_weight, rules, state_count}
+use Common.{sym}
 use Rattle.qss_order2.proofs.Tables.{none_of_table}
-use Rattle.qss_order2.proofs.order2_rises.find_steep_rise.Goals as goal
+use Rattle.qss_order2.proofs.order2_rises.check_level_slopes.Goals as goal
 
 pub returns-then-not-wild : goal.returns-then-not-wild
 returns-then-not-wild c =
