@@ -68,9 +68,9 @@ pub use Rattle.qss_order2.specs.Events.{IsNext2, IsStarted, IsVisit2, LeadsSilen
 pub use Rattle.qss_order2.specs.Events.{rows2_left, SecondRunView}
 pub use Rattle.qss_order2.specs.Fixed.{AreColumnsBelow, AreModes, AreModesBelow, column_at}
 pub use Rattle.qss_order2.specs.Fixed.{IsColumn, rows_in}
-pub use Rattle.qss_order2.specs.Places.{CanMove, CanRead, change_shift, floor_place, IsLineWithin}
-pub use Rattle.qss_order2.specs.Places.{IsSmallPlace, level_on, level_shift, no_place, place_at}
-pub use Rattle.qss_order2.specs.Places.{place_in, rise_on, state_on}
+pub use Rattle.qss_order2.specs.Places.{CanMove, CanRead, floor_place, IsLineWithin, IsSmallPlace}
+pub use Rattle.qss_order2.specs.Places.{level_on, level_shift, no_place, place_at, place_in}
+pub use Rattle.qss_order2.specs.Places.{rise_on, state_on}
 unfoldable pub use Rattle.qss_order2.specs.Places.{levels_on, rises_on, states_on}
 pub use Rattle.qss_order2.specs.RemainingSecondRows.{EndsAs, IsAble, overflow_ahead, row2_lines}
 pub use Rattle.qss_order2.specs.SecondRowLines.{HasVariable2, line2_of}

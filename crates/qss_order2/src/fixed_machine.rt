@@ -274,29 +274,11 @@ pub(crate) fn list_coefficient_columns(
     let uses = Uses::new(alloc, m)?;
     let mut columns: Vec<Items<Entry>> = Vec::new(alloc);
     for state in 0..m.states.as_slice().len() {
-        add_coefficient_column(alloc, m, &uses, state as u32, discretes, &mut columns)?;
+        let readers = uses.rows_of(state as u32);
+        let entries = coefficient_column(alloc, m, readers, state as u32, discretes)?;
+        columns.push(Items::new(entries))?;
     }
     Ok(columns)
-}
-
-// Appends the column of a state.
-fn add_coefficient_column(
-    alloc: Global,
-    m: &Machine,
-    uses: &Uses,
-    state: u32,
-    discretes: &[i64],
-    columns: &mut Vec<Items<Entry>>,
-) -> Result<(), AllocError>
-    requires uses { uses.now ≡ uses_of m.now }
-    requires state { state < state_count m.now }
-    requires start { discretes.now ≡ start_discretes m.now }
-    requires before { AreColumnsBelow m.now state columns.old.items }
-    ensures { IfOk result (λ done. AreColumnsBelow m.now (state + 1) columns.new.items) }
-{
-    let entries = coefficient_column(alloc, m, uses.rows_of(state), state, discretes)?;
-    columns.push(Items::new(entries))?;
-    Ok(())
 }
 
 // The nonzero coefficients of a state in the rows that read it, in increasing order of rows.

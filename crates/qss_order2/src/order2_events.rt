@@ -10,9 +10,9 @@ ghost use Rattle.qss_order2.specs.SlopeRules.{IsRuled2};
 ghost use Rattle.qss_order2.specs.Stores.{snapshot_at, levels_of, AreLinesCalm, IsOnTheWay, motion_at, HasLists, FitsMachine, Moves, Stands, IsGoing, IsReady, KeepsDues, due_at, until, IsNextLook, HasArrived, AreQuiet, FollowsLevels, MaySettle, HasSettled};
 
 use crate::fixed_machine::FixedMachine;
-use crate::order2_leaving::{next_leaving_look, set_leaving_dues, window};
+use crate::order2_leaving::{Window, next_leaving_look, set_leaving_dues, ticks_to_limit_check};
 use crate::order2_limits::{check_levels, is_limit_check_needed, is_line_limit_needed};
-use crate::order2_motion::{Motion, move_states_by_motion, take_motion_levels};
+use crate::order2_motion::{Motion, take_motion_levels};
 use crate::order2_rises::{check_level_slopes, settle_rises};
 use crate::order2_rows::{Kind2, set_end_rows, set_left_rows, set_overflow_row};
 use crate::order2_start::Store;
@@ -90,14 +90,7 @@ pub(crate) fn look_for_event(
     prepare_event(f, tick, s);
     let ticks = go_on_after_event(f, tick, s);
     let ran = arrive_at_event(f, rule, tick + ticks, s);
-    set_left_rows(
-        Kind2::Level,
-        tick + ticks,
-        s.left.as_slice(),
-        s.motion.places.as_slice(),
-        s.motion.changes.as_slice(),
-        &mut s.rows,
-    );
+    set_left_rows(Kind2::Level, tick + ticks, &s.left, &s.motion, &mut s.rows);
     EventStep {
         tick: tick + ticks,
         ran,
@@ -116,14 +109,11 @@ fn prepare_event(f: &FixedMachine, tick: u64, s: &mut Store)
     ensures over { s.new.over ≡ s.old.over }
 {
     open_event_window(f, tick, s);
-    set_leaving_dues(
-        f,
-        &s.motion,
-        tick,
-        s.window - tick,
-        s.touched.places(),
-        &mut s.dues,
-    );
+    let window = Window {
+        from: tick,
+        ticks: s.window - tick,
+    };
+    set_leaving_dues(f, &s.motion, window, s.touched.places(), &mut s.dues);
 }
 
 // At the end of a window, moves all states to the tick and begins the next window.
@@ -142,7 +132,7 @@ fn open_event_window(f: &FixedMachine, tick: u64, s: &mut Store)
     if tick < s.window {
         return;
     }
-    let reach = window(tick, f.machine.last);
+    let reach = ticks_to_limit_check(tick, f.machine.last);
     s.window = tick + reach;
     touch_all(f.machine.states.as_slice().len() as u32, &mut s.touched);
     move_all_at_event(f, tick, s.touched.places(), &mut s.motion);
@@ -161,14 +151,7 @@ fn move_all_at_event(f: &FixedMachine, tick: u64, all: &[u32], q: &mut Motion)
     ensures here { (j : ℕ) → j < state_count f.now.machine
         → (place_in q.new.places.items j).since ≡ tick }
 {
-    move_states_by_motion(
-        all,
-        q.changes.as_slice(),
-        q.bends.as_slice(),
-        tick,
-        q.places.as_mut_slice(),
-        q.rises.as_mut_slice(),
-    );
+    q.advance(all, tick);
 }
 
 // Moves the states that the next event affects to its tick, and returns the number of ticks to it.
@@ -212,15 +195,8 @@ fn move_on_at_event(f: &FixedMachine, tick: u64, left: &[u32], touched: &[u32], 
     ensures lists { HasLists f.now.machine q.new }
     ensures arrived { HasArrived f.now.machine tick left.now touched.now q.old q.new }
 {
-    move_states_by_motion(
-        touched,
-        q.changes.as_slice(),
-        q.bends.as_slice(),
-        tick,
-        q.places.as_mut_slice(),
-        q.rises.as_mut_slice(),
-    );
-    take_motion_levels(f, left, q.places.as_mut_slice(), q.rises.as_mut_slice());
+    q.advance(touched, tick);
+    take_motion_levels(f, left, &mut q.places, &mut q.rises);
 }
 
 // Sets the level slopes and the second differences for new levels. The error is the least state

@@ -12,36 +12,42 @@ use crate::order2_motion::Motion;
 use mu_num::{LOOK_SPAN, first_curve};
 use qss_sched::Agenda;
 
+/// A tick, and the number of ticks up to which events after it are searched.
+#[derive(Clone, Copy)]
+pub(crate) struct Window {
+    pub from: u64,
+    pub ticks: u64,
+}
+
 /// Schedules the ticks at which the states of a list reach their quanta.
 pub(crate) fn set_leaving_dues(
     f: &FixedMachine,
     q: &Motion,
-    tick: u64,
-    reach: u64,
+    window: Window,
     list: &[u32],
     dues: &mut Agenda,
 )
     requires lists { HasLists f.now.machine q.now }
-    requires moves { Moves f.now.machine (motion_at f.now.machine q.now tick) }
-    requires tick { tick ≤ tick_limit }
+    requires moves { Moves f.now.machine (motion_at f.now.machine q.now window.from) }
+    requires tick { window.from ≤ tick_limit }
     requires list { All (λ j. j < state_count f.now.machine) list.now }
     requires here { (j : ℕ) → is_listed list.now j ≡ true
-        → (place_in q.now.places.items j).since ≡ tick }
+        → (place_in q.now.places.items j).since ≡ window.from }
     requires dues { length dues.old ≡ state_count f.now.machine }
-    requires some { 1 ≤ reach }
-    requires count_limit { reach ≤ look_span }
+    requires some { 1 ≤ window.ticks }
+    requires count_limit { window.ticks ≤ look_span }
     ensures { IsWritten None
-        (λ j due. IsDue2 f.now.machine (snapshot_at f.now.machine q.now tick) reach j
-        (until tick due)) list.now
+        (λ j due. IsDue2 f.now.machine (snapshot_at f.now.machine q.now window.from) window.ticks j
+        (until window.from due)) list.now
         dues.old dues.new }
 {
     for state in list {
-        dues.set(*state, leaving_due_tick(f, q, tick, *state as usize, reach));
+        dues.set(*state, leaving_due_tick(f, q, window, *state as usize));
     }
 }
 
 /// The number of ticks to the next scheduled limit check.
-pub(crate) fn window(tick: u64, last: u64) -> u64
+pub(crate) fn ticks_to_limit_check(tick: u64, last: u64) -> u64
     requires { tick < last }
     ensures { IsWindow tick last result }
 {
@@ -76,46 +82,40 @@ pub(crate) fn next_leaving_look(
     next - tick
 }
 
-// The tick at which a state reaches its quantum, or `None` if it is more than `reach` ticks away.
-fn leaving_due_tick(
-    f: &FixedMachine,
-    q: &Motion,
-    tick: u64,
-    state: usize,
-    reach: u64,
-) -> Option<u64>
+// The tick at which a state reaches its quantum, or `None` if it is after the window.
+fn leaving_due_tick(f: &FixedMachine, q: &Motion, window: Window, state: usize) -> Option<u64>
     requires lists { HasLists f.now.machine q.now }
-    requires moves { Moves f.now.machine (motion_at f.now.machine q.now tick) }
-    requires tick { tick ≤ tick_limit }
+    requires moves { Moves f.now.machine (motion_at f.now.machine q.now window.from) }
+    requires tick { window.from ≤ tick_limit }
     requires state { state < state_count f.now.machine }
-    requires here { (place_in q.now.places.items state).since ≡ tick }
-    requires some { 1 ≤ reach }
-    requires count_limit { reach ≤ look_span }
-    ensures { IsDue2 f.now.machine (snapshot_at f.now.machine q.now tick) reach state
-        (until tick result) }
+    requires here { (place_in q.now.places.items state).since ≡ window.from }
+    requires some { 1 ≤ window.ticks }
+    requires count_limit { window.ticks ≤ look_span }
+    ensures { IsDue2 f.now.machine (snapshot_at f.now.machine q.now window.from) window.ticks state
+        (until window.from result) }
 {
-    match leaving_due_of(f, q, tick, state, reach) {
-        Some(ticks) => Some(tick + ticks),
+    match leaving_due_of(f, q, window, state) {
+        Some(ticks) => Some(window.from + ticks),
         None => None,
     }
 }
 
-// The number of ticks, up to `reach`, after which a state reaches its quantum, or `None`. The place
-// of the state is of the tick.
-fn leaving_due_of(f: &FixedMachine, q: &Motion, tick: u64, state: usize, reach: u64) -> Option<u64>
+// The number of ticks, up to those of the window, after which a state reaches its quantum, or
+// `None`. The place of the state is of the first tick of the window.
+fn leaving_due_of(f: &FixedMachine, q: &Motion, window: Window, state: usize) -> Option<u64>
     requires lists { HasLists f.now.machine q.now }
-    requires moves { Moves f.now.machine (motion_at f.now.machine q.now tick) }
+    requires moves { Moves f.now.machine (motion_at f.now.machine q.now window.from) }
     requires state { state < state_count f.now.machine }
-    requires here { (place_in q.now.places.items state).since ≡ tick }
-    requires some { 1 ≤ reach }
-    requires count_limit { reach ≤ look_span }
-    ensures { IsDue2 f.now.machine (snapshot_at f.now.machine q.now tick) reach state
+    requires here { (place_in q.now.places.items state).since ≡ window.from }
+    requires some { 1 ≤ window.ticks }
+    requires count_limit { window.ticks ≤ look_span }
+    ensures { IsDue2 f.now.machine (snapshot_at f.now.machine q.now window.from) window.ticks state
         result }
 {
     let p = q.places[state];
     let gap = leaving_gap_of(p.state, p.level, f.unit);
     let drift = leaving_drift_of(q.rises[state], q.changes[state], f.unit);
-    first_step_past_limit(gap, drift, q.bends[state], f.limits[state], reach)
+    first_step_past_limit(gap, drift, q.bends[state], f.limits[state], window.ticks)
 }
 
 /// The signed distance of a state from its level, in units 64 times finer than those of states.

@@ -26,6 +26,64 @@ pub(crate) struct Motion {
 }
 
 impl Motion {
+    /// Moves the states of a list to a tick, with their slopes.
+    pub(crate) fn advance(&mut self, list: &[u32], tick: u64)
+        requires moves { CanMove (length self.old.places.items) tick self.old.places.items
+            self.old.changes.items self.old.rises.items self.old.bends.items }
+        requires list { All (λ j. j < length self.old.places.items) list.now }
+        ensures changes { self.new.changes ≡ self.old.changes }
+        ensures bends { self.new.bends ≡ self.old.bends }
+        ensures places { IsWritten no_place
+            (λ j p. p
+            ≡ moved_in self.old.places.items self.old.changes.items self.old.rises.items
+            self.old.bends.items tick j) list.now
+            self.old.places.items self.new.places.items }
+        ensures rises { IsWritten (pos 0)
+            (λ j z. z
+            ≡ rise_on (place_in self.old.places.items j) (int_at self.old.rises.items j)
+            (int_at self.old.bends.items j) tick) list.now
+            self.old.rises.items self.new.rises.items }
+    {
+        for state in list {
+            let j = *state as usize;
+            let rise = self.rise_at(j, tick);
+            self.places[j] = self.place_at(j, tick);
+            self.rises[j] = rise;
+        }
+    }
+
+    // The slope of a state at a tick.
+    fn rise_at(&self, state: usize, tick: u64) -> i128
+        requires moves { CanMove (length self.now.places.items) tick self.now.places.items
+            self.now.changes.items self.now.rises.items self.now.bends.items }
+        requires state { state < length self.now.places.items }
+        ensures { result
+            ≡ rise_on (place_in self.now.places.items state) (int_at self.now.rises.items state)
+            (int_at self.now.bends.items state) tick }
+    {
+        let p = self.places[state];
+        if p.since == tick {
+            return self.rises[state];
+        }
+        slope_after_motion(self.rises[state], self.bends[state], tick - p.since)
+    }
+
+    /// The place of a state at a tick. A place of that tick is returned unchanged.
+    pub(crate) fn place_at(&self, state: usize, tick: u64) -> Place
+        requires moves { CanMove (length self.now.places.items) tick self.now.places.items
+            self.now.changes.items self.now.rises.items self.now.bends.items }
+        requires state { state < length self.now.places.items }
+        ensures { result
+            ≡ moved_in self.now.places.items self.now.changes.items self.now.rises.items
+            self.now.bends.items tick state }
+    {
+        let p = self.places[state];
+        if p.since == tick {
+            return p;
+        }
+        place_after_motion(p, self.changes[state], self.rises[state], self.bends[state], tick)
+    }
+
     /// The level of a state at a tick.
     pub(crate) fn level_at(&self, state: usize, tick: u64) -> i128
         requires state { state < length self.now.places.items }
@@ -52,34 +110,6 @@ impl Motion {
         for j in 0..levels.len() {
             levels[j] = self.level_at(j, tick);
         }
-    }
-}
-
-/// Moves the states of a list to a tick, with their slopes.
-pub(crate) fn move_states_by_motion(
-    list: &[u32],
-    changes: &[i128],
-    bends: &[i128],
-    tick: u64,
-    places: &mut [Place],
-    rises: &mut [i128],
-)
-    requires moves { CanMove (length places.old) tick places.old changes.now rises.old bends.now }
-    requires list { All (λ j. j < length places.old) list.now }
-    ensures places { IsWritten no_place
-        (λ j p. p
-        ≡ moved_in places.old changes.now rises.old bends.now tick j) list.now
-        places.old places.new }
-    ensures rises { IsWritten (pos 0)
-        (λ j z. z
-        ≡ rise_on (place_in places.old j) (int_at rises.old j) (int_at bends.now j) tick) list.now
-        rises.old rises.new }
-{
-    for state in list {
-        let j = *state as usize;
-        let rise = rise_moved_in_motion(places, j, rises, bends, tick);
-        places[j] = place_moved_in_motion(places, j, changes, rises, bends, tick);
-        rises[j] = rise;
     }
 }
 
@@ -115,27 +145,6 @@ pub(crate) fn take_motion_levels(
     }
 }
 
-// The slope of a state at a tick.
-fn rise_moved_in_motion(
-    places: &[Place],
-    state: usize,
-    rises: &[i128],
-    bends: &[i128],
-    tick: u64,
-) -> i128
-    requires moves { (changes : List ℤ)
-        × CanMove (length places.now) tick places.now changes rises.now bends.now }
-    requires state { state < length places.now }
-    ensures { result
-        ≡ rise_on (place_in places.now state) (int_at rises.now state) (int_at bends.now state) tick }
-{
-    let p = places[state];
-    if p.since == tick {
-        return rises[state];
-    }
-    slope_after_motion(rises[state], bends[state], tick - p.since)
-}
-
 // A slope after some ticks, at a constant second difference.
 fn slope_after_motion(rise: i128, bend: i128, ticks: u64) -> i128
     requires rise { IsSecondState rise }
@@ -154,27 +163,6 @@ fn rise_in_motion(ticks: u64, change: i128) -> i128
     ensures bound { IsWithin 111 result }
 {
     i128::from(ticks) * change
-}
-
-/// The place of a state at a tick. A place of that tick is returned unchanged.
-pub(crate) fn place_moved_in_motion(
-    places: &[Place],
-    state: usize,
-    changes: &[i128],
-    rises: &[i128],
-    bends: &[i128],
-    tick: u64,
-) -> Place
-    requires moves { CanMove (length places.now) tick places.now changes.now rises.now bends.now }
-    requires state { state < length places.now }
-    ensures { result
-        ≡ moved_in places.now changes.now rises.now bends.now tick state }
-{
-    let p = places[state];
-    if p.since == tick {
-        return p;
-    }
-    place_after_motion(p, changes[state], rises[state], bends[state], tick)
 }
 
 // The place of a state at a later tick: the state on its parabola, the level on its line.

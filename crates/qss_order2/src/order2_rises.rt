@@ -73,14 +73,7 @@ pub(crate) fn settle_rises(
         (levels_of f.now.machine q.old tick)
         q.old q.new }
 {
-    update_rise_changes(
-        f,
-        rule,
-        left,
-        q.rises.as_slice(),
-        q.changes.as_mut_slice(),
-        q.bends.as_mut_slice(),
-    );
+    update_rise_changes(f, rule, left, q);
 }
 
 /// Whether the sum of the absolute values of all coefficients times level slopes exceeds 2^94.
@@ -305,33 +298,28 @@ fn rise_change_term(entry: Entry, changes: &[i128]) -> i128
 
 // Sets the slopes of the levels of the states of a list by the rule, and adds the differences to the
 // second differences of the rows that read these states, modulo 2^128.
-fn update_rise_changes(
-    f: &FixedMachine,
-    rule: &SlopeRule,
-    list: &[u32],
-    rises: &[i128],
-    changes: &mut [i128],
-    bends: &mut [i128],
-)
+fn update_rise_changes(f: &FixedMachine, rule: &SlopeRule, list: &[u32], q: &mut Motion)
     requires list { All (λ j. j < state_count f.now.machine) list.now }
-    requires rises { length rises.now ≡ state_count f.now.machine }
-    requires changes { length changes.old ≡ state_count f.now.machine }
-    requires bends { length bends.old ≡ state_count f.now.machine }
-    requires size_limit { (j : ℕ) → is_listed list.now j ≡ true → IsWithin 95 (int_at rises.now j) }
+    requires lists { HasLists f.now.machine q.old }
+    requires size_limit { (j : ℕ) → is_listed list.now j ≡ true
+        → IsWithin 95 (int_at q.old.rises.items j) }
+    ensures lists { HasLists f.now.machine q.new }
+    ensures places { q.new.places ≡ q.old.places }
+    ensures rises { q.new.rises ≡ q.old.rises }
     ensures changes { IsWritten (pos 0)
-        (λ j z. IsAnswer rule.now.nearest (int_at rises.now j) (level_unit f.now.machine) z) list.now
-        changes.old changes.new }
+        (λ j z. IsAnswer rule.now.nearest (int_at q.old.rises.items j) (level_unit f.now.machine) z)
+        list.now q.old.changes.items q.new.changes.items }
     ensures bends { (i : ℕ) (z : ℤ) → i < state_count f.now.machine
-        → int_at bends.old i ≡ int_wrap w128 z
-        → int_at bends.new i
-        ≡ int_wrap w128 (z +ℤ change_shift f.now.machine i changes.old changes.new) }
+        → int_at q.old.bends.items i ≡ int_wrap w128 z
+        → int_at q.new.bends.items i
+        ≡ int_wrap w128 (z +ℤ change_shift f.now.machine i q.old.changes.items q.new.changes.items) }
 {
     for state in list {
         let j = *state as usize;
-        let old = changes[j];
-        let new = rule.change(rises[j], f.unit);
-        changes[j] = new;
-        add_fixed_column_multiple(f.columns[j].as_slice(), motion_difference(new, old), bends);
+        let old = q.changes[j];
+        let new = rule.change(q.rises[j], f.unit);
+        q.changes[j] = new;
+        add_fixed_column_multiple(f.columns[j].as_slice(), motion_difference(new, old), &mut q.bends);
     }
 }
 

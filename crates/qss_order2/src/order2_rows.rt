@@ -10,7 +10,7 @@ ghost use Rattle.qss_order2.specs.declared.order2_rows.Kind2.TheVariants.{Slope,
 ghost use Rattle.qss_order2.specs.SecondRowLines as Spec;
 
 use crate::fixed_machine::FixedMachine;
-use crate::order2_motion::{Motion, Place, place_moved_in_motion};
+use crate::order2_motion::{Motion, Place};
 use qss_machine::Machine;
 use qss_rows::{LineWriter, line_variable_name};
 use std::alloc::{AllocError, Global};
@@ -49,24 +49,30 @@ pub(crate) fn set_left_rows(
     kind: Kind2,
     tick: u64,
     left: &[u32],
-    places: &[Place],
-    changes: &[i128],
+    q: &Motion,
     rows: &mut Vec<Row2>,
 )
-    requires count_limit { length places.now ≤ variable_limit }
-    requires changes { length changes.now ≡ length places.now }
-    requires left { AreRisingBelow (length places.now) left.now }
-    requires room { length places.now + length places.now ≤ vec_capacity rows.old }
+    requires count_limit { length q.now.places.items ≤ variable_limit }
+    requires changes { length q.now.changes.items ≡ length q.now.places.items }
+    requires left { AreRisingBelow (length q.now.places.items) left.now }
+    requires room { length q.now.places.items + length q.now.places.items ≤ vec_capacity rows.old }
     ensures rows { rows.new.items
-        ≡ flat_map (place_rows kind tick places.now changes.now) left.now }
-    ensures count { vec_len rows.new ≤ length places.now + length places.now }
+        ≡ flat_map (place_rows kind tick q.now.places.items q.now.changes.items) left.now }
+    ensures count { vec_len rows.new ≤ length q.now.places.items + length q.now.places.items }
     ensures room { vec_capacity rows.new ≡ vec_capacity rows.old }
 {
     rows.clear();
     for state in left {
         let j = *state as usize;
-        let p = places[j];
-        push_state(kind, tick, j, p.level, changes[j], p.state, rows);
+        let p = q.places[j];
+        let row = Row2 {
+            tick,
+            kind,
+            var: *state,
+            level: p.level,
+            state: p.state,
+        };
+        push_state(row, q.changes[j], rows);
     }
 }
 
@@ -80,14 +86,7 @@ pub(crate) fn set_end_rows(f: &FixedMachine, tick: u64, q: &Motion, rows: &mut V
         ≡ end_rows f.now.machine tick (snapshot_of (motion_at f.now.machine q.now tick)) }
 {
     rows.clear();
-    add_levels(
-        tick,
-        q.places.as_slice(),
-        q.changes.as_slice(),
-        q.rises.as_slice(),
-        q.bends.as_slice(),
-        rows,
-    );
+    add_levels(tick, q, rows);
     add_discretes(f, Kind2::End, tick, rows);
 }
 
@@ -126,66 +125,44 @@ pub fn write_row2(lines: &mut LineWriter, r: &Row2, m: &Machine) -> Result<(), A
     }
 }
 
-// Appends the two rows of a state: its level, and the slope of its level.
-fn push_state(
-    kind: Kind2,
-    tick: u64,
-    state: usize,
-    level: i128,
-    change: i128,
-    x: i128,
-    rows: &mut Vec<Row2>,
-)
-    requires count_limit { state < variable_limit }
+// Appends the row of a state's level, and a row of the slope of this level.
+fn push_state(row: Row2, change: i128, rows: &mut Vec<Row2>)
     requires room { vec_len rows.old + 2 ≤ vec_capacity rows.old }
     ensures rows { rows.new.items
         ≡ rows.old.items
-        ++ record { tick = tick; kind = kind; var = state; level = level; state = x }
-        ∷ record { tick = tick; kind = Slope; var = state; level = change; state = pos 0 }
+        ++ row
+        ∷ record { tick = row.tick; kind = Slope; var = row.var; level = change; state = pos 0 }
         ∷ [] }
     ensures count { vec_len rows.new ≡ vec_len rows.old + 2 }
     ensures room { vec_capacity rows.new ≡ vec_capacity rows.old }
 {
+    rows.push_reserved(row);
     rows.push_reserved(Row2 {
-        tick,
-        kind,
-        var: state as u32,
-        level,
-        state: x,
-    });
-    rows.push_reserved(Row2 {
-        tick,
         kind: Kind2::Slope,
-        var: state as u32,
         level: change,
         state: 0,
+        ..row
     });
 }
 
 // A row of the level of each state, at the end.
-fn add_levels(
-    tick: u64,
-    places: &[Place],
-    changes: &[i128],
-    rises: &[i128],
-    bends: &[i128],
-    rows: &mut Vec<Row2>,
-)
-    requires count_limit { length places.now ≤ variable_limit }
-    requires moves { CanMove (length places.now) tick places.now changes.now rises.now bends.now }
-    requires room { vec_len rows.old + length places.now ≤ vec_capacity rows.old }
+fn add_levels(tick: u64, q: &Motion, rows: &mut Vec<Row2>)
+    requires count_limit { length q.now.places.items ≤ variable_limit }
+    requires moves { CanMove (length q.now.places.items) tick q.now.places.items q.now.changes.items
+        q.now.rises.items q.now.bends.items }
+    requires room { vec_len rows.old + length q.now.places.items ≤ vec_capacity rows.old }
     ensures rows { rows.new.items
         ≡ rows.old.items
-        ++ tabulate (length places.now)
+        ++ tabulate (length q.now.places.items)
         (λ j.
-        let p = moved_in places.now changes.now rises.now bends.now tick j in
+        let p = moved_in q.now.places.items q.now.changes.items q.now.rises.items q.now.bends.items
+            tick j in
         record { tick = tick; kind = End; var = j; level = p.level; state = p.state }) }
-    ensures count { vec_len rows.new ≡ vec_len rows.old + length places.now }
+    ensures count { vec_len rows.new ≡ vec_len rows.old + length q.now.places.items }
     ensures room { vec_capacity rows.new ≡ vec_capacity rows.old }
 {
-    for j in 0..places.len() {
-        let p = place_moved_in_motion(places, j, changes, rises, bends, tick);
-        rows.push_reserved(end_row(tick, j, p));
+    for j in 0..q.places.len() {
+        rows.push_reserved(end_row(tick, j, q.place_at(j, tick)));
     }
 }
 

@@ -179,13 +179,6 @@ fn begin_order2_store(f: &FixedMachine, rule: &SlopeRule, s: &mut Store)
         ≡ start_rows f.now.machine (snapshot_at f.now.machine s.new.motion 0) }
 {
     s.over = begin_rises(f, rule, &s.left, &mut s.room, &mut s.motion);
-    set_left_rows(
-        Kind2::Start,
-        0,
-        s.left.as_slice(),
-        s.motion.places.as_slice(),
-        s.motion.changes.as_slice(),
-        &mut s.rows,
-    );
+    set_left_rows(Kind2::Start, 0, &s.left, &s.motion, &mut s.rows);
     add_discretes(f, Kind2::Start, 0, &mut s.rows);
 }

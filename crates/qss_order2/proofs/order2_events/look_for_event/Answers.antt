@@ -84,12 +84,8 @@ returns-clause-visited g c =
           let since : (j : ℕ) → is_listed left j ≡ true → (place_in s3.motion.places.items j).since
           ≡ t = λ j e. ap (λ (p : Place). p.since) (place j) ∙ (here j e).1 in
           c.set_left_rows.ensures.rows
-          ∙ ap (λ (ps : List Place). flat_map (place_rows kind.Level t ps c.as_slice-3.result.now)
-          c.as_slice.result.now) c.as_slice-2.ensures.value
-          ∙ ap (λ (cs : List ℤ). flat_map (place_rows kind.Level t s3.motion.places.items cs)
-          c.as_slice.result.now) c.as_slice-3.ensures.value
           ∙ ap (λ (l : List ℕ). flat_map (place_rows kind.Level t s3.motion.places.items
-          s3.motion.changes.items) l) (c.as_slice.ensures.value ∙ ap (λ (s : Store). s.left.items)
+          s3.motion.changes.items) l) (c.deref.ensures.value ∙ ap (λ (s : Store). s.left.items)
           c.arrive_at_event-ran.ensures.same)
           ∙ listed_rows kind.Level t (state_count m) s3.motion.places.items s3.motion.changes.items
           v3 left settles.numbers

@@ -61,8 +61,8 @@ returns-clause-goes c =
     let tick = c.args.tick in
     let q = c.move_all_at_event.new.q in
     let goes = c.requires.stands.goes c.requires.within in
-    let reach = c.window-reach.result in
-    let is = c.window-reach.ensures in
+    let reach = c.ticks_to_limit_check-reach.result in
+    let is = c.ticks_to_limit_check-reach.ensures in
     let moves : Moves m (motion_at m q tick) = subst (Moves m) (sym c.move_all_at_event.ensures.same)
     goes.moves in
     let here = c.move_all_at_event.ensures.here in
@@ -107,10 +107,10 @@ pub returns-clause-keeps : goal.returns-clause-keeps
 returns-clause-keeps c =
     let m = c.args.f.now.machine in
     let tick = c.args.tick in
-    let reach : ℕ = c.window-reach.result in
+    let reach : ℕ = c.ticks_to_limit_check-reach.result in
     record {
       is_window = (let e : reach ≡ (tick + reach) - tick =
-          omega arith in subst (IsWindow tick m.last) e c.window-reach.ensures);
+          omega arith in subst (IsWindow tick m.last) e c.ticks_to_limit_check-reach.ensures);
       quiet = λ j h not. none_else (is_listed c.touch_all.new.touched.places j)
           (c.touch_all.ensures.places j (omega (arith, h, ap length c.as_slice.ensures))) not;
     }
@@ -123,13 +123,13 @@ is_line_limit_needed-s-requires-clause-reads c =
     let moves : Moves m (motion_at m q tick) = subst (Moves m) (sym c.move_all_at_event.ensures.same)
     (c.requires.stands.goes c.requires.within).moves in
     let here = c.move_all_at_event.ensures.here in
-    let reads : CanRead (state_count m) (tick + c.window-reach.result) q.places.items q.changes.items =
+    let reads : CanRead (state_count m) (tick + c.ticks_to_limit_check-reach.result) q.places.items q.changes.items =
     record {
       as_many_changes = c.move_all_at_event.ensures.lists.changes;
       past = λ j h. omega (arith, here j h);
-      near = λ j h. omega (arith, here j h, c.window-reach.ensures.few);
+      near = λ j h. omega (arith, here j h, c.ticks_to_limit_check-reach.ensures.few);
       small = λ j h before. (small_here m q tick moves j h (here j h)).level;
       small_changes = λ j h before. change_small m (motion_at m q tick) moves j h;
     } in
-    subst (λ n. CanRead n (tick + c.window-reach.result) q.places.items q.changes.items)
+    subst (λ n. CanRead n (tick + c.ticks_to_limit_check-reach.result) q.places.items q.changes.items)
     (sym c.move_all_at_event.ensures.lists.places) reads

@@ -55,9 +55,9 @@ pub leaving_gap_of-gap-requires-clause-state : goal.leaving_gap_of-gap-requires-
 leaving_gap_of-gap-requires-clause-state c =
     let m = c.args.f.now.machine in
     let q = c.args.q.now in
-    let v = motion_at m q c.args.tick in
+    let v = motion_at m q c.args.window.from in
     let is : c.index-p.result.now.state ≡ int_at v.states c.args.state =
-    state_read c.args.f.now.machine q c.args.tick c.requires.lists c.requires.moves c.args.state
+    state_read c.args.f.now.machine q c.args.window.from c.requires.lists c.requires.moves c.args.state
     c.requires.state c.requires.here c.index-p.result.now c.index-p.ensures in
     let small : IsWithin 94 c.index-p.result.now.state =
     subst (IsWithin 94) (sym is) (state_small m v c.requires.moves c.args.state c.requires.state) in
@@ -68,9 +68,9 @@ pub leaving_gap_of-gap-requires-clause-level : goal.leaving_gap_of-gap-requires-
 leaving_gap_of-gap-requires-clause-level c =
     let m = c.args.f.now.machine in
     let q = c.args.q.now in
-    let v = motion_at m q c.args.tick in
+    let v = motion_at m q c.args.window.from in
     let is : c.index-p.result.now.level ≡ int_at v.levels c.args.state =
-    level_read c.args.f.now.machine q c.args.tick c.requires.lists c.requires.moves c.args.state
+    level_read c.args.f.now.machine q c.args.window.from c.requires.lists c.requires.moves c.args.state
     c.requires.state c.requires.here c.index-p.result.now c.index-p.ensures in
     let small : IsWithin 49 c.index-p.result.now.level =
     subst (IsWithin 49) (sym is) (level_within m v.levels v.changes c.requires.moves.within
@@ -90,10 +90,10 @@ pub leaving_drift_of-drift-requires-clause-rise : goal.leaving_drift_of-drift-re
 leaving_drift_of-drift-requires-clause-rise c =
     let m = c.args.f.now.machine in
     let q = c.args.q.now in
-    let v = motion_at m q c.args.tick in
+    let v = motion_at m q c.args.window.from in
     let is : c.index.result.now ≡ int_at v.rises c.args.state =
     at_index q.rises.items c.args.state (state_count m) _ c.requires.lists.rises c.requires.state
-    c.index.ensures ∙ rise_here c.args.f.now.machine q c.args.tick c.requires.moves c.args.state
+    c.index.ensures ∙ rise_here c.args.f.now.machine q c.args.window.from c.requires.moves c.args.state
     c.requires.state c.requires.here in
     let small : IsWithin 94 c.index.result.now =
     subst (IsWithin 94) (sym is) (rise_small m v c.requires.moves c.args.state c.requires.state) in
@@ -104,7 +104,7 @@ pub leaving_drift_of-drift-requires-clause-change : goal.leaving_drift_of-drift-
 leaving_drift_of-drift-requires-clause-change c =
     let m = c.args.f.now.machine in
     let q = c.args.q.now in
-    let v = motion_at m q c.args.tick in
+    let v = motion_at m q c.args.window.from in
     let is : c.index-2.result.now ≡ int_at q.changes.items c.args.state =
     at_index q.changes.items c.args.state (state_count m) _ c.requires.lists.changes
     c.requires.state c.index-2.ensures in
@@ -123,13 +123,13 @@ pub first_step_past_limit-requires-clause-inside : goal.first_step_past_limit-re
 first_step_past_limit-requires-clause-inside c =
     let m = c.args.f.now.machine in
     let q = c.args.q.now in
-    let v = motion_at m q c.args.tick in
+    let v = motion_at m q c.args.window.from in
     let j = c.args.state in
     let x : c.index-p.result.now.state ≡ int_at v.states j =
-    state_read c.args.f.now.machine q c.args.tick c.requires.lists c.requires.moves j
+    state_read c.args.f.now.machine q c.args.window.from c.requires.lists c.requires.moves j
     c.requires.state c.requires.here c.index-p.result.now c.index-p.ensures in
     let level : c.index-p.result.now.level ≡ int_at v.levels j =
-    level_read c.args.f.now.machine q c.args.tick c.requires.lists c.requires.moves j
+    level_read c.args.f.now.machine q c.args.window.from c.requires.lists c.requires.moves j
     c.requires.state c.requires.here c.index-p.result.now c.index-p.ensures in
     let limit : c.index-4.result.now ≡ reach_of m j =
     limit_is c.args.f.now j c.requires.state _ c.index-4.ensures in
@@ -171,7 +171,7 @@ pub first_step_past_limit-requires-clause-bend : goal.first_step_past_limit-requ
 first_step_past_limit-requires-clause-bend c =
     let m = c.args.f.now.machine in
     let q = c.args.q.now in
-    let v = motion_at m q c.args.tick in
+    let v = motion_at m q c.args.window.from in
     let is : c.index-3.result.now ≡ int_at q.bends.items c.args.state =
     at_index q.bends.items c.args.state (state_count m) _ c.requires.lists.bends c.requires.state
     c.index-3.ensures in
@@ -184,17 +184,17 @@ pub returns : goal.returns
 returns c =
     let m = c.args.f.now.machine in
     let q = c.args.q.now in
-    let v = motion_at m q c.args.tick in
+    let v = motion_at m q c.args.window.from in
     let j = c.args.state in
     let h = c.requires.state in
     let x : c.index-p.result.now.state ≡ int_at v.states j =
-    state_read c.args.f.now.machine q c.args.tick c.requires.lists c.requires.moves j h
+    state_read c.args.f.now.machine q c.args.window.from c.requires.lists c.requires.moves j h
     c.requires.here c.index-p.result.now c.index-p.ensures in
     let level : c.index-p.result.now.level ≡ int_at v.levels j =
-    level_read c.args.f.now.machine q c.args.tick c.requires.lists c.requires.moves j h
+    level_read c.args.f.now.machine q c.args.window.from c.requires.lists c.requires.moves j h
     c.requires.here c.index-p.result.now c.index-p.ensures in
     let rise : c.index.result.now ≡ int_at v.rises j = at_index q.rises.items j (state_count m)
-    _ c.requires.lists.rises h c.index.ensures ∙ rise_here c.args.f.now.machine q c.args.tick
+    _ c.requires.lists.rises h c.index.ensures ∙ rise_here c.args.f.now.machine q c.args.window.from
     c.requires.moves j h c.requires.here in
     let change : c.index-2.result.now ≡ int_at q.changes.items j =
     at_index q.changes.items j (state_count m) _ c.requires.lists.changes h c.index-2.ensures in
@@ -240,7 +240,7 @@ returns c =
     c.args.f.now.is_fixed.own_unit
     ∙ ap (λ (z : ℤ). rise_at m j v.levels -ℤ level_unit m *ℤ z) change in
     let Found = λ (g d b l : ℤ). FirstUpTo (λ k. l ≤ℤ pos (unsigned_abs (curve_at g d b k)))
-    c.args.reach c.first_step_past_limit.result in
+    c.args.window.ticks c.first_step_past_limit.result in
     let found : Found c.leaving_gap_of-gap.result c.leaving_drift_of-drift.result c.index-3.result.now
     c.index-4.result.now = simp to_z-of_z at c.first_step_past_limit.ensures in
     let at_gap : Found (int_at v.states j -ℤ level_unit m *ℤ int_at v.levels j)

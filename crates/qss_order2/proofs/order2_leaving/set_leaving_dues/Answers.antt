@@ -17,7 +17,7 @@ loop-state-preserved c =
     let inside : get_or a.list.now i 0 < length c.loop-state.dues =
     omega (arith, c.requires.list i 0 h, inv.as_many, c.requires.dues) in
     let Has = λ (j : ℕ) (due : Option ℕ). IsDue2 a.f.now.machine
-    (snapshot_of (motion_at a.f.now.machine a.q.now a.tick)) a.reach j (until a.tick due) in
+    (snapshot_of (motion_at a.f.now.machine a.q.now a.window.from)) a.window.ticks j (until a.window.from due) in
     subst (λ (l : List (Option ℕ)). IsWritten None Has (take (i + 1) a.list.now) a.dues.now l)
     (sym c.set.ensures)
     (written_more None Has a.list.now a.dues.now c.loop-state.dues i c.leaving_due_tick.result h inside inv
@@ -27,6 +27,6 @@ pub returns : goal.returns
 returns c =
     let a = c.args in
     written_all None (λ j due. IsDue2 a.f.now.machine
-    (snapshot_of (motion_at a.f.now.machine a.q.now a.tick)) a.reach j (until a.tick due))
+    (snapshot_of (motion_at a.f.now.machine a.q.now a.window.from)) a.window.ticks j (until a.window.from due))
     a.list.now a.dues.now c.loop-state.dues c.loop-state.state-index
     c.loop-state-test.false c.loop-state.invariant

@@ -1,6 +1,6 @@
 -- Where no level is past its limit, levels are small.
-use Rattle.qss_order2.proofs.Common.{◌∙◌, ap, arith, IsWithin, none_past, state_count, sym}
-use Rattle.qss_order2.proofs.Common.{overflow_of}
+use Rattle.qss_order2.proofs.Common
+use Common.{◌∙◌, ap, arith, IsWithin, none_past, overflow_of, state_count, sym}
 use Rattle.qss_order2.proofs.Tables.{all_of}
 use Rattle.qss_order2.proofs.order2_limits.check_levels.Goals as goal
 

@@ -9,8 +9,8 @@ loop-j-preserved c =
     let a = c.args in
     let j = c.loop-j.j in
     let inv = c.loop-j.invariant in
-    let f : ℕ → Row2 = λ i. let p = place_at (place_in a.places.now i) (int_at a.changes.now i)
-    (int_at a.rises.now i) (int_at a.bends.now i) a.tick in record {
+    let f : ℕ → Row2 = λ i. let p = place_at (place_in a.q.now.places.items i) (int_at a.q.now.changes.items i)
+    (int_at a.q.now.rises.items i) (int_at a.q.now.bends.items i) a.tick in record {
       tick = a.tick;
       kind =
           kind.End;
@@ -28,7 +28,7 @@ loop-j-preserved c =
                 j;
             level = p.level;
             state = p.state;
-          }) c.place_moved_in_motion-p.ensures);
+          }) c.place_at.ensures);
       as_many = omega (arith, c.push_reserved.ensures.len, inv.as_many);
       room = c.push_reserved.ensures.capacity ∙ inv.room;
     }

@@ -6,29 +6,16 @@ use Rattle.qss_order2.proofs.order2_rows.push_state.Goals as goal
 
 pub returns-clause-rows : goal.returns-clause-rows
 returns-clause-rows c =
-    let a = c.args in
-    let of_level = c.ranges.level in
+    let row = c.args.row in
     let of_change = c.ranges.change in
-    let of_x = c.ranges.x in
-    let first : Row2 = record {
-      tick = a.tick;
-      kind = a.kind;
-      var = a.state;
-      level =
-          a.level;
-      state = a.x;
-    } in
     let second : Row2 = record {
-      tick = a.tick;
+      tick = row.tick;
       kind = kind.Slope;
-      var = a.state;
-      level =
-          a.change;
+      var = row.var;
+      level = c.args.change;
       state = pos 0;
     } in
-    let one : c.push_reserved.new.self.items ≡ a.rows.now.items ++ first ∷ [] =
-    simp to_z-of_z at c.push_reserved.ensures.items in
     let two : c.push_reserved-2.new.self.items ≡ c.push_reserved.new.self.items ++ second ∷ [] =
     simp to_z-of_z at c.push_reserved-2.ensures.items in
-    two ∙ ap (λ (rows : List Row2). rows ++ second ∷ []) one ∙ append_assoc a.rows.now.items
-    (first ∷ []) (second ∷ [])
+    two ∙ ap (λ (rows : List Row2). rows ++ second ∷ []) c.push_reserved.ensures.items
+    ∙ append_assoc c.args.rows.now.items (row ∷ []) (second ∷ [])

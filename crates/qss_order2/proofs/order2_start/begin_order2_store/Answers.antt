@@ -1,10 +1,10 @@
 -- The start of a run.
 use Rattle.qss_order2.proofs.Common
 use Common.{[], ℕ, ℤ, ◌++◌, ◌<◌, ◌∙◌, ◌≡◌, All, ap, AreChanges, AreRisingBelow, arith, Bool}
-use Common.{discrete_rows2, false, first_exceeding_limit, Global, int_at, is_listed, IsRuled2}
-use Common.{length, List, Motion, motion_at, Moves, None, overflow_of, Place, place_rows}
-use Common.{range_with_len, refl, rise_at, Row2, SecondSnapshot, snapshot_of, start_place}
-use Common.{state_count, subst, sym, tabulate, true, Vec}
+use Common.{discrete_rows2, false, first_exceeding_limit, Global, int_at, is_listed, IsRuled2, List}
+use Common.{Motion, motion_at, Moves, None, overflow_of, Place, place_rows, range_with_len, refl}
+use Common.{rise_at, Row2, SecondSnapshot, snapshot_of, start_place, state_count, subst, sym}
+use Common.{tabulate, true, Vec}
 use Rattle.std.specs.Prelude.{flat_map}
 use Rattle.qss_order2.proofs.Motions.{sized_at, small_here, small_rise_here, on_the_way}
 use Rattle.qss_order2.proofs.RowLists.{listed_rows}
@@ -131,12 +131,8 @@ returns-clause-rows g c =
     λ j e. listed_below n all numbers.below j e in
     let rows =
     c.set_left_rows.ensures.rows
-    ∙ ap (λ (ps : List Place). flat_map (place_rows kind.Start 0 ps c.as_slice-3.result.now)
-    c.as_slice.result.now) c.as_slice-2.ensures.value
-    ∙ ap (λ (cs : List ℤ). flat_map (place_rows kind.Start 0 q.places.items cs)
-    c.as_slice.result.now) c.as_slice-3.ensures.value
     ∙ ap (λ (l : List ℕ). flat_map (place_rows kind.Start 0 q.places.items q.changes.items) l)
-    (c.as_slice.ensures.value ∙ c.requires.left)
+    (c.deref-2.ensures.value ∙ c.requires.left)
     ∙ listed_rows kind.Start 0 n q.places.items q.changes.items w all numbers
     (λ j e. ap (λ (p : Place). p.level) (start_place_is m q.places.items places j (low j e))
     ∙ ap (λ (ls : List ℤ). int_at ls j) (sym levels))
@@ -148,8 +144,7 @@ returns-clause-rows g c =
 pub set_left_rows-requires-clause-left : goal.set_left_rows-requires-clause-left
 set_left_rows-requires-clause-left g c =
     let n = state_count c.args.f.now.machine in
-    let many : length c.as_slice-2.result.now ≡ n = ap length c.as_slice-2.ensures.value
-    ∙ c.begin_rises-s.ensures.lists.places in
-    subst (λ (k : ℕ). AreRisingBelow k c.as_slice.result.now) (sym many)
-    (subst (λ (l : List ℕ). AreRisingBelow n l) (sym (c.as_slice.ensures.value ∙ c.requires.left))
+    subst (λ (k : ℕ). AreRisingBelow k c.deref-2.result.now)
+    (sym c.begin_rises-s.ensures.lists.places)
+    (subst (λ (l : List ℕ). AreRisingBelow n l) (sym (c.deref-2.ensures.value ∙ c.requires.left))
     (all_rising n))
