@@ -74,9 +74,9 @@ pub use Rattle.qss_order2.specs.Places.{rise_on, state_on}
 unfoldable pub use Rattle.qss_order2.specs.Places.{levels_on, rises_on, states_on}
 pub use Rattle.qss_order2.specs.RemainingSecondRows.{EndsAs, IsAble, overflow_ahead, row2_lines}
 pub use Rattle.qss_order2.specs.SecondRowLines.{HasVariable2, line2_of}
-pub use Rattle.qss_order2.specs.SecondRunLaws.{bend_at, gap_after, HasEach, IsCalm2}
+pub use Rattle.qss_order2.specs.SecondRunLaws.{AreEventFree2, bend_at, gap_after, HasEach}
 pub use Rattle.qss_order2.specs.SecondRunLaws.{second_snapshot_after}
-pub use Rattle.qss_order2.specs.SecondRunLimits.{IsCalmLevel, past_levels}
+pub use Rattle.qss_order2.specs.SecondRunLimits.{IsSafeBound, past_levels}
 pub use Rattle.qss_order2.specs.SecondRunTexts.{second_order_run}
 pub use Rattle.qss_order2.specs.SecondRuns.{discrete_rows2, end_rows, last_second_snapshot, Leads2}
 pub use Rattle.qss_order2.specs.SecondRuns.{level_row, overflow_row, Past, rows2_after, run2_by}
@@ -92,12 +92,12 @@ pub use Rattle.qss_order2.specs.SecondSteps.{rise_at, rise_change_weight, rise_w
 pub use Rattle.qss_order2.specs.SecondSteps.{second_snapshot_unless, second_start, second_step}
 pub use Rattle.qss_order2.specs.SecondSteps.{SecondSnapshot, SlopeRuleOf}
 pub use Rattle.qss_order2.specs.SlopeRules.{IsAnswer, IsAsked, IsRuled2}
-pub use Rattle.qss_order2.specs.Stores.{AreOnTheWay, AreQuiet, due_at, HasArrived, HasChanged}
-pub use Rattle.qss_order2.specs.Stores.{HasDues, HasLists, HasSettled, is_due, IsDue2, IsMovedOn}
-pub use Rattle.qss_order2.specs.Stores.{IsNear2, IsNextLook, IsQuiet, IsSettled, IsSized, IsWindow}
-pub use Rattle.qss_order2.specs.Stores.{KeepsDues, levels_after, motion_at, MotionAt, Moves}
-pub use Rattle.qss_order2.specs.Stores.{place_rows, place_there, rows_of_left, snapshot_of, Stands}
-pub use Rattle.qss_order2.specs.Stores.{start_place, until}
+pub use Rattle.qss_order2.specs.Stores.{AreMovableUntil, AreQuiet, due_at, HasChanged, HasDues}
+pub use Rattle.qss_order2.specs.Stores.{HasLists, HasNewLevels, HasRuledSlopes, is_due, IsDue2}
+pub use Rattle.qss_order2.specs.Stores.{IsMovedOn, IsNear2, IsNextEvent, IsQuiet, IsRuleApplied}
+pub use Rattle.qss_order2.specs.Stores.{IsSized, IsStoreAt, IsWindow, KeepsDues, levels_after}
+pub use Rattle.qss_order2.specs.Stores.{motion_at, MotionAt, Moves, place_rows, place_there}
+pub use Rattle.qss_order2.specs.Stores.{rows_of_left, snapshot_of, start_place, until}
 pub use Rattle.qss_order2.specs.declared.fixed_machine.FixedMachine.{FixedMachine}
 pub use Rattle.qss_order2.specs.declared.order2_motion.Motion.{Motion}
 pub use Rattle.qss_order2.specs.declared.order2_motion.Place.{Place}

@@ -6,7 +6,7 @@ use Common.{level_shift, levels_on, List, Machine, Motion, motion_at, Moves, Pla
 use Common.{product_bound, rise_at, rise_on, second_snapshot_after, snapshot_of, start_coefficient}
 use Common.{state_count, sum_below-same, sum_below-zero, sym, unsigned_abs, zero-*ℤ}
 use Rattle.qss_order2.specs.Stores.{FollowsLevels}
-use Rattle.qss_order2.proofs.Calm.{rise_later}
+use Rattle.qss_order2.proofs.EventFree.{rise_later}
 use Rattle.qss_order2.proofs.ColumnSums.{gain, gain_is}
 use Rattle.qss_order2.proofs.Motions.{at_levels, levels_are, levels_later, rises_later}
 

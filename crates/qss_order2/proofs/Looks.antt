@@ -3,12 +3,12 @@ use Rattle.qss_order2.proofs.Common
 use Common.{ℕ, ℤ, ◌%◌, ◌*ℤ◌, ◌+ℤ◌, ◌+◌, ◌<◌, ◌==◌, ◌||◌, ◌∙◌, ◌≡◌, ◌≤◌, ◌⊎◌, ap, arith, Bool}
 use Common.{eqb-false, eqb-true, eqb-yes, false, floor_of, if◌then◌else◌, inl, inr, int_at}
 use Common.{int_at-tabulate, is_due, is_limit_check, is_requantization, IsDue2, IsMovedOn}
-use Common.{IsNextLook, leaves_quantum, level_unit, levels_after, limit_check_period, List}
+use Common.{IsNextEvent, leaves_quantum, level_unit, levels_after, limit_check_period, List}
 use Common.{list_any, Machine, moved_level, moved_state, nat_lt, nat_tests, next_levels}
 use Common.{next_states, None, Option, or_left, or_right, pos, range_with_len, refl}
 use Common.{second_snapshot_after, SecondSnapshot, Some, state_count, subst, suc, sym, true, zero}
-use Rattle.qss_order2.proofs.Calm.{state_later, level_later}
-use Rattle.qss_order2.proofs.DueTicks.{dues_calm, due_leaves, undue_stays}
+use Rattle.qss_order2.proofs.EventFree.{state_later, level_later}
+use Rattle.qss_order2.proofs.DueTicks.{dues_event_free, due_leaves, undue_stays}
 use Rattle.qss_order2.proofs.Tables.{same_table}
 
 -- a test that one of some numbers passes
@@ -32,7 +32,7 @@ any_of p first (suc count) j low high leaving =
         later a b le ne = grind arith
 
 module _ (m : Machine) (tick : ℕ) (w : SecondSnapshot) (due : ℕ → Option ℕ) (left : ℕ →
-    Bool) (k : ℕ) (next : IsNextLook m tick w due left (suc k)) where
+    Bool) (k : ℕ) (next : IsNextEvent m tick w due left (suc k)) where
   leaves_is : (j : ℕ) → j < state_count m → is_due (due j) (suc k) ≡ leaves_quantum m
       (second_snapshot_after m w k) j
   leaves_is j h = by_due (due j) refl
@@ -144,7 +144,7 @@ module _ (m : Machine) (tick : ℕ) (w : SecondSnapshot) (due : ℕ → Option �
   moved_from states levels of_states of_levels =
       let window = next.is_window in
       record {
-        is_calm = dues_calm m tick w next.reach k due next.each (λ j d h e. omega (
+        are_event_free = dues_event_free m tick w next.reach k due next.each (λ j d h e. omega (
           arith,
           next.none_before j d h e,
         )) (omega (arith, next.within)) (omega (arith, next.within, window.in_time))
@@ -156,9 +156,9 @@ module _ (m : Machine) (tick : ℕ) (w : SecondSnapshot) (due : ℕ → Option �
         looks = looks_are;
       }
 
--- the next look is later
+-- the next event is later
 pub look_later : (m : Machine) (tick : ℕ) (w : SecondSnapshot) (due : ℕ → Option ℕ) (left : ℕ →
-    Bool) (ticks : ℕ) → IsNextLook m tick w due left ticks → 0 < ticks
+    Bool) (ticks : ℕ) → IsNextEvent m tick w due left ticks → 0 < ticks
 look_later m tick w due left zero next =
     let found = next.reached (omega (arith, next.is_window.some)) in
     let first = subst (IsDue2 m w next.reach found.0) found.2 (next.each found.0 found.1) in
@@ -166,7 +166,7 @@ look_later m tick w due left zero next =
 look_later m tick w due left (suc k) next = omega arith
 
 pub moved_on : (m : Machine) (tick : ℕ) (w : SecondSnapshot) (due : ℕ → Option ℕ) (left : ℕ →
-    Bool) (ticks : ℕ) (states levels : List ℤ) → IsNextLook m tick w due left ticks →
+    Bool) (ticks : ℕ) (states levels : List ℤ) → IsNextEvent m tick w due left ticks →
     states ≡ (second_snapshot_after m w ticks).states → levels ≡ levels_after m w left ticks →
     (k : ℕ) × (ticks ≡ suc k) × IsMovedOn m tick w k left states levels
 moved_on m tick w due left zero states levels next of_states of_levels =

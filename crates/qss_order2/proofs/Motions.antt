@@ -1,13 +1,14 @@
 -- Places, and the motion of all states that they give at a tick.
 use Rattle.qss_order2.proofs.Common
-use Common.{ℕ, ℤ, ◌*ℤ◌, ◌+ℤ◌, ◌+◌, ◌-◌, ◌<◌, ◌∙◌, ◌≡◌, ◌≤ℤ◌, ◌≤◌, abs_of, add-mul, ap, AreOnTheWay}
-use Common.{arith, bend_at, CanMove, CanRead, cases_Bool, curve_at, curve_zero, false, HasLists}
-use Common.{inl, inr, int_at, int_at-tabulate, ints, is_listed, IsSized, IsSmallPlace, IsWithin}
-use Common.{IsWritten, length, length-map-range_with_len, level_on, levels_on, List, Machine}
-use Common.{Motion, motion_at, MotionAt, Moves, no_place, Option, Place, place_at, place_in}
-use Common.{place_there, pos, rise_at, rise_on, rises_on, second_snapshot_after, snapshot_of, Some}
-use Common.{state_count, state_on, states_on, subst, sym, tabulate, true, zero-*ℤ}
-use Rattle.qss_order2.specs.Stores.{AreCalmUntil, AreChangesCalm}
+use Common.{ℕ, ℤ, ◌*ℤ◌, ◌+ℤ◌, ◌+◌, ◌-◌, ◌<◌, ◌∙◌, ◌≡◌, ◌≤ℤ◌, ◌≤◌, abs_of, add-mul, ap}
+use Common.{AreMovableUntil, arith, bend_at, CanMove, CanRead, cases_Bool, curve_at, curve_zero}
+use Common.{false, HasLists, inl, inr, int_at, int_at-tabulate, ints, is_listed, IsSized}
+use Common.{IsSmallPlace, IsWithin, IsWritten, length, length-map-range_with_len, level_on}
+use Common.{levels_on, List, Machine, Motion, motion_at, MotionAt, Moves, no_place, not, Option}
+use Common.{Place, place_at, place_in, place_there, pos, rise_at, rise_on, rises_on}
+use Common.{second_snapshot_after, snapshot_of, Some, state_count, state_on, states_on, subst, sym}
+use Common.{tabulate, true, zero-*ℤ}
+use Rattle.qss_order2.specs.Stores.{AreLevelsBoundedUntil, AreLevelSlopesBounded}
 use Rattle.qss_order2.proofs.Bounds.{state_small, level_within, rise_small, rise_is, bend_small}
 use Rattle.qss_order2.proofs.Bounds.{bend_is, change_small}
 use Rattle.qss_order2.proofs.Shifts.{curve_on}
@@ -214,11 +215,11 @@ module _ (m : Machine) (q : Motion) (tick : ℕ) (moves : Moves m (motion_at m q
     small_rise_here = subst (IsWithin 94) (sym rise_here) (rise_small m v moves j h)
 
   -- where all places are of the tick, or each is or was small before
-  pub on_the_way : (window : ℕ) → ((j : ℕ) → j < n → (place j).since ≤ tick) →
+  pub movable : (window : ℕ) → ((j : ℕ) → j < n → (place j).since ≤ tick) →
       ((j : ℕ) → j < n → window ≤ (place j).since + 65536) →
       ((j : ℕ) → j < n → IsSmallPlace (place j) × IsWithin 94 (int_at q.rises.items j)) →
-      AreOnTheWay n tick window q.places.items q.changes.items q.rises.items q.bends.items
-  on_the_way window past near small = record {
+      AreMovableUntil n tick window q.places.items q.changes.items q.rises.items q.bends.items
+  movable window past near small = record {
     past = past;
     near = near;
     small = λ j h. (small j h).0;
@@ -230,7 +231,7 @@ module _ (m : Machine) (q : Motion) (tick : ℕ) (moves : Moves m (motion_at m q
 -- what is on the way may be moved, and read
 pub can_move : (n tick window : ℕ) (places : List Place) (changes rises bends : List ℤ) →
     length changes ≡ n → length rises ≡ n → length bends ≡ n →
-    AreOnTheWay n tick window places changes rises bends → (next : ℕ) → tick ≤ next →
+    AreMovableUntil n tick window places changes rises bends → (next : ℕ) → tick ≤ next →
     next ≤ window → CanMove n next places changes rises bends
 can_move n tick window places changes rises bends of_changes of_rises of_bends way next later
     within = record {
@@ -338,7 +339,7 @@ sized_at m q tick lists = record {
 
 -- what may be moved may be read
 pub can_read : (n tick window : ℕ) (places : List Place) (changes rises bends : List ℤ) →
-    length changes ≡ n → AreOnTheWay n tick window places changes rises bends →
+    length changes ≡ n → AreMovableUntil n tick window places changes rises bends →
     (next : ℕ) → tick ≤ next → next ≤ window → CanRead n next places changes
 can_read n tick window places changes rises bends of_changes way next later within = record {
   as_many_changes = of_changes;
@@ -418,13 +419,13 @@ rise_slices tick j ps ps2 rs rs2 bs bs2 e f g =
     ∙ ap (λ (l : List ℤ). rise_on (place_in ps2 j) (int_at rs2 j) (int_at l j) tick) g
 
 -- moving some states to a tick does not change the levels there
-pub moved_levels : (n tick : ℕ) (q : Motion) (ps : List Place) (touched : List ℕ) →
-    ((j : ℕ) → is_listed touched j ≡ true → place_in ps j ≡ place_there tick q j) →
-    ((j : ℕ) → is_listed touched j ≡ false → place_in ps j ≡ place_in q.places.items j) →
+pub moved_levels : (n tick : ℕ) (q : Motion) (ps : List Place) (affected : List ℕ) →
+    ((j : ℕ) → is_listed affected j ≡ true → place_in ps j ≡ place_there tick q j) →
+    ((j : ℕ) → is_listed affected j ≡ false → place_in ps j ≡ place_in q.places.items j) →
     levels_on n ps q.changes.items tick ≡ levels_on n q.places.items q.changes.items tick
-moved_levels n tick q ps touched there stayed =
+moved_levels n tick q ps affected there stayed =
     same_levels_on n ps q.places.items q.changes.items q.changes.items tick
-    (λ j h. elim (cases_Bool (is_listed touched j)) [
+    (λ j h. elim (cases_Bool (is_listed affected j)) [
       | inl e ↦ here_level (place_in ps j) (int_at q.changes.items j) tick
           (ap (λ (p : Place). p.since) (there j e)) ∙ ap (λ (p : Place). p.level) (there j e)
       | inr not ↦ ap (λ (p : Place). level_on p (int_at q.changes.items j) tick) (stayed j not)
@@ -477,14 +478,14 @@ same_motion a b states levels changes rises bends =
 some_same : (a b : ℤ) → Some a ≡ Some b → a ≡ b
 some_same a b e = cc
 
--- calm levels, some of which were new at a tick
-pub calm_on : (n : ℕ) (old new : List Place) (vs ws : List ℤ) (left : List ℕ) (tick t end end2 : ℕ)
-    (calm calm2 : Option ℤ) (bound : ℤ) → calm ≡ Some bound → calm2 ≡ calm → tick ≤ t → end2 ≡ end →
-    AreCalmUntil n old vs tick end calm → ((j u : ℕ) → is_listed left j ≡ true → t ≤ u → u ≤ end2 →
+-- levels within a bound, some of which were new at a tick
+pub bounded_on : (n : ℕ) (old new : List Place) (vs ws : List ℤ) (left : List ℕ) (tick t end end2 : ℕ)
+    (bounded safe_bound2 : Option ℤ) (bound : ℤ) → bounded ≡ Some bound → safe_bound2 ≡ bounded → tick ≤ t → end2 ≡ end →
+    AreLevelsBoundedUntil n old vs tick end bounded → ((j u : ℕ) → is_listed left j ≡ true → t ≤ u → u ≤ end2 →
     abs_of (level_on (place_in new j) (int_at ws j) u) ≤ℤ bound) →
     ((j u : ℕ) → j < n → is_listed left j ≡ false → t ≤ u → level_on (place_in new j) (int_at ws j)
-    u ≡ level_on (place_in old j) (int_at vs j) u) → AreCalmUntil n new ws t end2 calm2
-calm_on n old new vs ws left tick t end end2 calm calm2 bound is same later ends before fresh
+    u ≡ level_on (place_in old j) (int_at vs j) u) → AreLevelsBoundedUntil n new ws t end2 safe_bound2
+bounded_on n old new vs ws left tick t end end2 bounded safe_bound2 bound is same later ends before fresh
     along = (
       bound,
       same ∙ is,
@@ -498,13 +499,13 @@ calm_on n old new vs ws left tick t end end2 calm calm2 bound is same later ends
       ],
     )
 
--- calm level slopes, some of which are new
-pub calm_slopes : (n : ℕ) (vs ws : List ℤ) (left : List ℕ) (calm calm2 : Option ℤ) (bound : ℤ) →
-    calm ≡ Some bound → calm2 ≡ calm → AreChangesCalm n vs calm →
+-- level slopes within a bound, some of which are new
+pub slopes_bounded : (n : ℕ) (vs ws : List ℤ) (left : List ℕ) (bounded safe_bound2 : Option ℤ) (bound : ℤ) →
+    bounded ≡ Some bound → safe_bound2 ≡ bounded → AreLevelSlopesBounded n vs bounded →
     ((j : ℕ) → is_listed left j ≡ true → abs_of (int_at ws j) ≤ℤ bound) →
     ((j : ℕ) → j < n → is_listed left j ≡ false → int_at ws j ≡ int_at vs j) →
-    AreChangesCalm n ws calm2
-calm_slopes n vs ws left calm calm2 bound is same before fresh kept = (
+    AreLevelSlopesBounded n ws safe_bound2
+slopes_bounded n vs ws left bounded safe_bound2 bound is same before fresh kept = (
   bound,
   same ∙ is,
   λ j h. elim (cases_Bool (is_listed left j)) [

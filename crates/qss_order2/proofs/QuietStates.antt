@@ -2,7 +2,7 @@
 use Rattle.qss_order2.proofs.Common
 use Common.{ℕ, ◌+◌, ◌<◌, ◌||◌, ◌∙◌, ◌≡◌, ◌≢◌, ◌⊎◌, All, among_more, ap, AreColumnsBelow, AreQuiet}
 use Common.{arith, Bool, cases_Bool, column_at, Entry, eqb, false, get_or, get_or-map, index_of}
-use Common.{inl, inr, is_listed, length, length-map, List, Machine, pos, refl, rows_in}
+use Common.{inl, inr, is_listed, length, length-map, List, Machine, not, pos, refl, rows_in}
 use Common.{start_coefficient, state_count, subst, sym, take, true}
 use Rattle.qss_order2.proofs.ColumnSums.{entry_0, unlisted}
 
@@ -44,19 +44,19 @@ reads_listed m columns i j are h e =
     inside)
 
 -- a state that is not affected is quiet
-pub quiet_states : (m : Machine) (columns : List (List Entry)) (left : List ℕ) (touched : ℕ →
+pub quiet_states : (m : Machine) (columns : List (List Entry)) (left : List ℕ) (affected : ℕ →
     Bool) → AreColumnsBelow m (state_count m) columns → All (λ j. j < state_count m) left →
-    ((j : ℕ) → is_listed left j ≡ true → touched j ≡ true) →
+    ((j : ℕ) → is_listed left j ≡ true → affected j ≡ true) →
     ((k j : ℕ) → k < length left → is_listed (rows_in (column_at columns (get_or left k 0)))
-    j ≡ true → touched j ≡ true) → AreQuiet m (is_listed left) touched
-quiet_states m columns left touched are below own readers j h not = record {
+    j ≡ true → affected j ≡ true) → AreQuiet m (is_listed left) affected
+quiet_states m columns left affected are below own readers j h not = record {
   stays = by_own (cases_Bool (is_listed left j));
   reads_none = λ i k leaves.
       let found = index_of left i leaves in
       let column : List Entry = column_at columns i in
       let unread : is_listed (rows_in column) j ≡ false =
       elim (cases_Bool (is_listed (rows_in column) j)) [
-        | inl reads ↦ clash (touched j) (readers found.0 j found.1
+        | inl reads ↦ clash (affected j) (readers found.0 j found.1
             (subst (λ x. is_listed (rows_in (column_at columns x)) j ≡ true) (sym found.2) reads))
             not
         | inr none ↦ none
@@ -65,13 +65,13 @@ quiet_states m columns left touched are below own readers j h not = record {
 }
   where
     by_own : (is_listed left j ≡ true) ⊎ (is_listed left j ≡ false) → is_listed left j ≡ false
-    by_own (inl e) = clash (touched j) (own j e) not
+    by_own (inl e) = clash (affected j) (own j e) not
     by_own (inr e) = e
 
-pub not_own : (left touched : List ℕ) → ((j : ℕ) → is_listed left j ≡ true →
-    is_listed touched j ≡ true) → (j : ℕ) → is_listed touched j ≡ false → is_listed left j ≡ false
-not_own left touched own j not = by_own (cases_Bool (is_listed left j))
+pub not_own : (left affected : List ℕ) → ((j : ℕ) → is_listed left j ≡ true →
+    is_listed affected j ≡ true) → (j : ℕ) → is_listed affected j ≡ false → is_listed left j ≡ false
+not_own left affected own j not = by_own (cases_Bool (is_listed left j))
   where
     by_own : (is_listed left j ≡ true) ⊎ (is_listed left j ≡ false) → is_listed left j ≡ false
-    by_own (inl e) = clash (is_listed touched j) (own j e) not
+    by_own (inl e) = clash (is_listed affected j) (own j e) not
     by_own (inr e) = e

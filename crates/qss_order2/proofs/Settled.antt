@@ -2,9 +2,9 @@
 use Rattle.qss_order2.proofs.Common
 use Common.{ℕ, ℤ, ◌*ℤ◌, ◌+◌, ◌<◌, ◌^◌, ◌∙◌, ◌≡◌, ◌≤ℤ◌, ◌≤◌, abs_of, All, among_at, ap, AreChanges}
 use Common.{AreQuiet, arith, bend_at, Bool, CanRead, cases_lt, exceeds, false, get_or}
-use Common.{get_or_default, HasChanged, HasSettled, index_of, inl, inr, int_at, int_at-tabulate}
-use Common.{int_wrap, ints, is_listed, IsAnswer, IsCalmLevel, IsRuled2, IsWithin, IsWritten, length}
-use Common.{level_unit, levels_on, List, Machine, MatchBool, Motion, None, none_past, Option}
+use Common.{get_or_default, HasChanged, index_of, inl, inr, int_at, int_at-tabulate, int_wrap, ints}
+use Common.{is_listed, IsAnswer, IsRuleApplied, IsRuled2, IsSafeBound, IsWithin, IsWritten, length}
+use Common.{level_unit, levels_on, List, Machine, MatchBool, Motion, None, none_past, not, Option}
 use Common.{option_or-None, past_levels, Place, place_in, pos, refl, rise_at, rise_change_weight}
 use Common.{rise_weight, Some, start_coefficient, state_count, subst, sym, tabulate, true}
 use Common.{unit_fits, within-passes}
@@ -21,12 +21,12 @@ use Rattle.qss_order2.proofs.Settlings.{of_changes}
 use Rattle.qss_order2.proofs.Tables.{all_of}
 
 -- numbers that are all in a list of small ones are small
-pub inside_of : (n : ℕ) (left touched : List ℕ) → ((j : ℕ) → is_listed left j ≡ true →
-    is_listed touched j ≡ true) → All (λ j. j < n) touched → All (λ j. j < n) left
-inside_of n left touched own below k d h =
-    let there : is_listed touched (get_or left k 0) ≡ true =
+pub inside_of : (n : ℕ) (left affected : List ℕ) → ((j : ℕ) → is_listed left j ≡ true →
+    is_listed affected j ≡ true) → All (λ j. j < n) affected → All (λ j. j < n) left
+inside_of n left affected own below k d h =
+    let there : is_listed affected (get_or left k 0) ≡ true =
     own (get_or left k 0) (among_at left k h) in
-    let found = index_of touched (get_or left k 0) there in
+    let found = index_of affected (get_or left k 0) there in
     let same : get_or left k d ≡ get_or left k 0 = get_or_default left k d 0 h in
     omega (arith, below found.0 0 found.1, found.2, same)
 
@@ -70,26 +70,26 @@ listed_changes nearest m left levels rises old new many own written =
     (λ e. written.others j e))
 
 -- rows that read none of them are as flat as they were
-pub flat_after : (m : Machine) (left touched : List ℕ) (old new : List ℤ) →
-    AreQuiet m (is_listed left) (is_listed touched) →
+pub flat_after : (m : Machine) (left affected : List ℕ) (old new : List ℤ) →
+    AreQuiet m (is_listed left) (is_listed affected) →
     ((i : ℕ) → i < state_count m → is_listed left i ≡ false → int_at new i ≡ int_at old i) →
-    (j : ℕ) → j < state_count m → is_listed touched j ≡ false →
+    (j : ℕ) → j < state_count m → is_listed affected j ≡ false →
     exceeds 94 (rise_change_weight m old j) ≡ false → exceeds 94 (rise_change_weight m new j)
     ≡ false
-flat_after m left touched old new quiet kept j h not flat =
+flat_after m left affected old new quiet kept j h not flat =
     ap (exceeds 94) (same_bend_weight m (is_listed left) j (quiet j h not) new old kept) ∙ flat
 
--- level slopes at most a calm level in size exceed no limit
-pub calm_flat : (m : Machine) (bound : ℤ) → IsCalmLevel m bound → (changes : List ℤ) →
+-- level slopes within a safe bound exceed no limit
+pub bounded_flat : (m : Machine) (bound : ℤ) → IsSafeBound m bound → (changes : List ℤ) →
     length changes ≡ state_count m → ((j : ℕ) → j < state_count m →
     abs_of (int_at changes j) ≤ℤ bound) →
     (j : ℕ) → j < state_count m → exceeds 94 (rise_change_weight m changes j) ≡ false
-calm_flat m bound calm changes many small j h =
+bounded_flat m bound bounded changes many small j h =
     let n = state_count m in
     let weights = tabulate n (rise_weight m changes) in
     let own : IsWithin 94 (rise_weight m changes j) =
     subst (IsWithin 94) (int_at-tabulate n (rise_weight m changes) j h) (none_past 94 weights
-    (option_or-None _ _ (calm changes many small)).1 j) in
+    (option_or-None _ _ (bounded changes many small)).1 j) in
     let low = sum_from_zero n (λ i. abs_of (start_coefficient m j i *ℤ int_at changes i))
     (λ i. size_from_zero (start_coefficient m j i *ℤ int_at changes i)) in
     within-passes 94 (rise_change_weight m changes j) (omega (arith, ints, own, low))
@@ -99,13 +99,13 @@ pub exact : (x z : ℤ) → x ≡ int_wrap w128 z → IsWithin 94 z → x ≡ z
 exact x z is small = is ∙ wrap_small z (omega (arith, small))
 
 -- new level slopes, and the least row whose absolute row sum of level slopes exceeds its limit
-pub has_settled : (nearest : Bool) (m : Machine) (left touched : List ℕ) (levels : List ℤ)
+pub is_rule_applied : (nearest : Bool) (m : Machine) (left affected : List ℕ) (levels : List ℤ)
     (q1 q2 : Motion) (over : Option ℕ) → HasChanged (IsRuled2 nearest) m left levels q1 q2 →
     past_levels m levels ≡ None →
     over ≡ of_changes m q2.changes.items → ((j : ℕ) → j < state_count m →
-    is_listed touched j ≡ true → int_at q1.rises.items j ≡ int_wrap w128 (rise_at m j levels)) →
-    HasSettled (IsRuled2 nearest) m left touched levels q1 q2 over
-has_settled nearest m left touched levels q1 q2 over changed none is risen = record {
+    is_listed affected j ≡ true → int_at q1.rises.items j ≡ int_wrap w128 (rise_at m j levels)) →
+    IsRuleApplied (IsRuled2 nearest) m left affected levels q1 q2 over
+is_rule_applied nearest m left affected levels q1 q2 over changed none is risen = record {
   changes = q2.changes.items;
   are_changes = changed.are_changes;
   is_over = is ∙ sym (past_then m levels q2.changes.items none);
@@ -133,10 +133,10 @@ none_some None e = refl
 none_some (Some var) e = absurd (cc)
 
 -- where a level is past a limit, nothing follows
-pub high_settled : (nearest : Bool) (m : Machine) (left touched : List ℕ) (levels : List ℤ)
+pub is_past_limit : (nearest : Bool) (m : Machine) (left affected : List ℕ) (levels : List ℤ)
     (q : Motion) (over : Option ℕ) (var : ℕ) → over ≡ Some var → over ≡ past_levels m levels →
-    HasSettled (IsRuled2 nearest) m left touched levels q q over
-high_settled nearest m left touched levels q over var is past = record {
+    IsRuleApplied (IsRuled2 nearest) m left affected levels q q over
+is_past_limit nearest m left affected levels q over var is past = record {
   changes = near_ones nearest m (is_listed left) levels q.changes.items;
   are_changes = near_are nearest m (is_listed left) levels q.changes.items;
   is_over = is ∙ sym (past_first m levels (near_ones nearest m (is_listed left)

@@ -3,11 +3,11 @@ use Rattle.qss_order2.proofs.Common
 use Common.{ℕ, ℤ, ◌%◌, ◌*ℤ◌, ◌+ℤ◌, ◌+◌, ◌-ℤ◌, ◌-◌, ◌<◌, ◌∙◌, ◌≡◌, ◌≤ℤ◌, ◌≤◌, ◌⊎◌, add-mul, ap}
 use Common.{AreQuiet, arith, bend_at, Bool, curve_at, curve_more, curve_zero, due_at, eqb-false}
 use Common.{false, FirstUpTo, floor_of, gap_after, HasDues, if-false, if◌then◌else◌, int_at}
-use Common.{int_at-tabulate, ints, is_due, IsDue2, IsNextLook, IsQuiet, IsWindow, KeepsDues}
-use Common.{level_unit, levels_after, limit_check_period, List, Machine, None, Option, pos}
+use Common.{int_at-tabulate, ints, is_due, IsDue2, IsNextEvent, IsQuiet, IsWindow, KeepsDues}
+use Common.{level_unit, levels_after, limit_check_period, List, Machine, None, not, Option, pos}
 use Common.{reach_of, refl, rise_at, second_snapshot_after, SecondSnapshot, Some, state_count}
 use Common.{subst, suc, sym, unsigned_abs, until, zero}
-use Rattle.qss_order2.proofs.Calm.{gap_is}
+use Rattle.qss_order2.proofs.EventFree.{gap_is}
 use Rattle.qss_order2.proofs.Quiet.{rise_stays, same_bend}
 
 -- a curve goes on along itself
@@ -84,7 +84,7 @@ later_window tick last window h is before =
 
 module _ (m : Machine) (tick window ticks : ℕ) (w next : SecondSnapshot) (dues : List (Option ℕ))
     (left : ℕ → Bool) (has : HasDues m tick window w dues)
-    (look : IsNextLook m tick w (λ j. until tick (due_at dues j)) left ticks)
+    (look : IsNextEvent m tick w (λ j. until tick (due_at dues j)) left ticks)
     (states : next.states ≡ (second_snapshot_after m w ticks).states)
     (levels : next.levels ≡ levels_after m w left ticks)
     (changes : (i : ℕ) → i < state_count m → left i ≡ false →
@@ -157,9 +157,9 @@ module _ (m : Machine) (tick window ticks : ℕ) (w next : SecondSnapshot) (dues
         there)
 
   -- the states that are not marked keep their due ticks
-  pub dues_kept : (touched : ℕ → Bool) → AreQuiet m left touched → KeepsDues m (tick + ticks)
-      window next touched dues
-  dues_kept touched quiet = record {
+  pub dues_kept : (affected : ℕ → Bool) → AreQuiet m left affected → KeepsDues m (tick + ticks)
+      window next affected dues
+  dues_kept affected quiet = record {
     is_window = later_window tick m.last window ticks has.is_window before;
     quiet = λ j h not. due_stays j h (quiet j h not);
   }

@@ -2,8 +2,8 @@
 use Rattle.qss_order2.proofs.Common
 use Common.{[], ℕ, ℤ, ◌*ℤ◌, ◌++◌, ◌+◌, ◌-ℤ◌, ◌<ℤ◌, ◌<◌, ◌∙◌, ◌∷◌, ◌≡◌, ◌≤◌, ap, AreChanges, arith}
 use Common.{Bool, false, finish_second_tick, first_exceeding_limit, flat_map, floor_meets, floor_of}
-use Common.{HasEach, if_cases, if◌then◌else◌, int_at, int_at-tabulate, int_lt, int_lt-true, ints}
-use Common.{IsMovedOn, IsNear2, IsSecondStep, IsSettled, IsVisit2, last_second_snapshot}
+use Common.{HasEach, HasRuledSlopes, if_cases, if◌then◌else◌, int_at, int_at-tabulate, int_lt}
+use Common.{int_lt-true, ints, IsMovedOn, IsNear2, IsSecondStep, IsVisit2, last_second_snapshot}
 use Common.{leaves_quantum, level_row, level_unit, List, Machine, MatchBool, MotionAt, moved_level}
 use Common.{moved_state, next_levels, next_snapshot, next_states, None, not, Ok, Option, pos}
 use Common.{range_with_len, reach_of, refl, rise_at, Row2, rows_of_left, second_snapshot_after}
@@ -11,7 +11,8 @@ use Common.{second_snapshot_unless, SecondSnapshot, slope_row, snapshot_of, Some
 use Common.{subst, suc, sym, tick_rows2, true, unit_positive, zero}
 use Rattle.std.specs.Int.RustNames.{unsigned_abs}
 use Rattle.qss_order2.proofs.RowLists.{left_rows}
-use Rattle.qss_order2.proofs.Silent.{calm_worlds, calm_length, calm_last, calm_leads}
+use Rattle.qss_order2.proofs.Silent.{event_free_snapshots, event_free_length, event_free_last}
+use Rattle.qss_order2.proofs.Silent.{event_free_leads}
 use Rattle.qss_order2.proofs.Sizes.{reach_unit}
 use Rattle.qss_order2.specs.declared.order2_rows.Kind2.TheVariants as kind
 
@@ -60,17 +61,17 @@ next_inside m w j h =
     (subst (λ z. pos (unsigned_abs (moved_state m w j -ℤ level_unit m *ℤ z)) <ℤ reach_of m j)
     (sym l) own)
 
-module _ (Rule : ℤ → ℤ → ℤ → Type 0) (m : Machine) (tick : ℕ) (w : SecondSnapshot) (calm : ℕ)
-    (left : ℕ → Bool) (states levels : List ℤ) (moved : IsMovedOn m tick w calm left states levels)
+module _ (Rule : ℤ → ℤ → ℤ → Type 0) (m : Machine) (tick : ℕ) (w : SecondSnapshot) (skipped : ℕ)
+    (left : ℕ → Bool) (states levels : List ℤ) (moved : IsMovedOn m tick w skipped left states levels)
     (each : HasEach m w)
     (changes : List ℤ) (are : AreChanges Rule m (left) levels w.changes changes) where
-  answers : AreChanges Rule m (leaves_quantum m (second_snapshot_after m w calm))
-      (next_levels m (second_snapshot_after m w calm)) w.changes changes
+  answers : AreChanges Rule m (leaves_quantum m (second_snapshot_after m w skipped))
+      (next_levels m (second_snapshot_after m w skipped)) w.changes changes
   answers = record {
     one_each = are.one_each;
     each = λ j h.
         subst (λ b. MatchBool b (Rule (level_unit m)
-        (rise_at m j (next_levels m (second_snapshot_after m w calm))) (int_at changes j))
+        (rise_at m j (next_levels m (second_snapshot_after m w skipped))) (int_at changes j))
         (int_at changes j ≡ int_at w.changes j)) (moved.flags j h)
         (subst (λ ls. MatchBool (left j) (Rule (level_unit m) (rise_at m j ls) (int_at changes j))
         (int_at changes j ≡ int_at w.changes j)) moved.levels_there (are.each j h));
@@ -82,9 +83,9 @@ module _ (Rule : ℤ → ℤ → ℤ → Type 0) (m : Machine) (tick : ℕ) (w :
       levels =
           levels;
       changes = changes;
-    }) ≡ finish_second_tick m (tick + calm + 1) (second_snapshot_after m w calm) changes
+    }) ≡ finish_second_tick m (tick + skipped + 1) (second_snapshot_after m w skipped) changes
     after_handlers =
-        let v = second_snapshot_after m w calm in
+        let v = second_snapshot_after m w skipped in
         ap (λ (o : Option ℕ). second_snapshot_unless o (record {
           states = states;
           levels =
@@ -99,7 +100,7 @@ module _ (Rule : ℤ → ℤ → ℤ → Type 0) (m : Machine) (tick : ℕ) (w :
         ∙ sym (ap (λ (b : Bool). second_snapshot_unless (if b then first_exceeding_limit m
         (next_levels m v) changes else None) (next_snapshot m v changes)) moved.looks)
 
-    pub visit : IsVisit2 Rule m tick w (calm_worlds m w calm) (tick + calm + 1)
+    pub visit : IsVisit2 Rule m tick w (event_free_snapshots m w skipped) (tick + skipped + 1)
         (second_snapshot_unless over (record {
           states = states;
           levels = levels;
@@ -107,29 +108,29 @@ module _ (Rule : ℤ → ℤ → ℤ → Type 0) (m : Machine) (tick : ℕ) (w :
               changes;
         }))
     visit = record {
-      leads = calm_leads Rule m tick w each calm moved.is_calm;
-      is_next = omega (arith, calm_length Rule m tick w each calm);
-      is_step = subst (λ v. IsSecondStep Rule m (tick + calm + 1) v (second_snapshot_unless over
+      leads = event_free_leads Rule m tick w each skipped moved.are_event_free;
+      is_next = omega (arith, event_free_length Rule m tick w each skipped);
+      is_step = subst (λ v. IsSecondStep Rule m (tick + skipped + 1) v (second_snapshot_unless over
           (record { states = states; levels = levels; changes = changes })))
-          (sym (calm_last Rule m tick w each calm))
+          (sym (event_free_last Rule m tick w each skipped))
           (changes, answers, after_handlers);
     }
 
   -- the rows of the requantized states
   pub rows_are : (t : ℕ) (next : SecondSnapshot) → rows_of_left kind.Level t next left
-      (state_count m) ≡ tick_rows2 m t (last_second_snapshot w (calm_worlds m w calm)) next
+      (state_count m) ≡ tick_rows2 m t (last_second_snapshot w (event_free_snapshots m w skipped)) next
   rows_are t next =
       flat_same (left_rows kind.Level t next left) (λ j. if leaves_quantum m
-      (second_snapshot_after m w calm) j then level_row kind.Level t next j ∷ slope_row t next j ∷
+      (second_snapshot_after m w skipped) j then level_row kind.Level t next j ∷ slope_row t next j ∷
       [] else []) 0 (state_count m)
       (λ j low high. ap (λ (b : Bool). if b then level_row kind.Level t next j ∷ slope_row t next j
       ∷ [] else []) (moved.flags j (omega (arith, high))))
-      ∙ ap (λ (v : SecondSnapshot). tick_rows2 m t v next) (sym (calm_last Rule m tick w each calm))
+      ∙ ap (λ (v : SecondSnapshot). tick_rows2 m t v next) (sym (event_free_last Rule m tick w each skipped))
 
   -- each state is near its level there
   pub near_there : IsNear2 m (record { states = states; levels = levels; changes = changes })
   near_there j h =
-      let v = second_snapshot_after m w calm in
+      let v = second_snapshot_after m w skipped in
       subst (λ (xs : List ℤ). pos (unsigned_abs (int_at xs j -ℤ level_unit m *ℤ int_at levels j))
       <ℤ reach_of m j) (sym moved.states_there)
       (subst (λ (ls : List ℤ). pos (unsigned_abs (int_at (next_states m v) j -ℤ level_unit m *ℤ
@@ -140,12 +141,12 @@ unless_same : (o : Option ℕ) (a b : SecondSnapshot) → (o ≡ None → a ≡ 
 unless_same None a b same = ap Ok (same refl)
 unless_same (Some var) a b same = refl
 
--- ---- a motion that was moved on and settled
+-- ---- a motion that was moved on, with new level slopes
 
-module _ (Rule : ℤ → ℤ → ℤ → Type 0) (m : Machine) (tick : ℕ) (w : SecondSnapshot) (calm : ℕ)
+module _ (Rule : ℤ → ℤ → ℤ → Type 0) (m : Machine) (tick : ℕ) (w : SecondSnapshot) (skipped : ℕ)
     (left : ℕ → Bool) (q1 q2 : MotionAt) (over : Option ℕ)
-    (moved : IsMovedOn m tick w calm left q1.states q1.levels) (each : HasEach m w)
-    (kept : q1.changes ≡ w.changes) (after_handlers : IsSettled Rule m (left) q1 q2 over)
+    (moved : IsMovedOn m tick w skipped left q1.states q1.levels) (each : HasEach m w)
+    (kept : q1.changes ≡ w.changes) (after_handlers : HasRuledSlopes Rule m (left) q1 q2 over)
     (states : over ≡ None → q2.states ≡ q1.states) (levels : over ≡ None → q2.levels ≡ q1.levels)
   where
     are : AreChanges Rule m (left) q1.levels w.changes after_handlers.changes
@@ -174,27 +175,27 @@ module _ (Rule : ℤ → ℤ → ℤ → Type 0) (m : Machine) (tick : ℕ) (w :
         ∙ ap (λ (cs : List ℤ). record { states = q2.states; levels = q2.levels; changes = cs })
         (sym (after_handlers.taken e))
 
-    pub looked : IsVisit2 Rule m tick w (calm_worlds m w calm) (tick + calm + 1)
+    pub looked : IsVisit2 Rule m tick w (event_free_snapshots m w skipped) (tick + skipped + 1)
         (second_snapshot_unless over (snapshot_of q2))
     looked =
-        subst (IsVisit2 Rule m tick w (calm_worlds m w calm) (tick + calm + 1))
+        subst (IsVisit2 Rule m tick w (event_free_snapshots m w skipped) (tick + skipped + 1))
         (unless_same over (record {
           states = q1.states;
           levels = q1.levels;
           changes =
               after_handlers.changes;
         }) (snapshot_of q2) there)
-        (visit Rule m tick w calm left q1.states q1.levels moved each after_handlers.changes are
+        (visit Rule m tick w skipped left q1.states q1.levels moved each after_handlers.changes are
         over
         after_handlers.is_over)
 
     pub looked_rows : (t : ℕ) (next : SecondSnapshot) → rows_of_left kind.Level t next left
-        (state_count m) ≡ tick_rows2 m t (last_second_snapshot w (calm_worlds m w calm)) next
-    looked_rows t next = rows_are Rule m tick w calm left q1.states q1.levels moved each
+        (state_count m) ≡ tick_rows2 m t (last_second_snapshot w (event_free_snapshots m w skipped)) next
+    looked_rows t next = rows_are Rule m tick w skipped left q1.states q1.levels moved each
         after_handlers.changes are t next
 
     pub looked_near : over ≡ None → IsNear2 m (snapshot_of q2)
-    looked_near e = subst (IsNear2 m) (there e) (near_there Rule m tick w calm left q1.states
+    looked_near e = subst (IsNear2 m) (there e) (near_there Rule m tick w skipped left q1.states
         q1.levels moved each after_handlers.changes are)
 
     pub looked_within : over ≡ None → first_exceeding_limit m q2.levels q2.changes ≡ over

@@ -42,8 +42,8 @@ pub record AreSilent2 (Rule : ℤ → ℤ → ℤ → Type 0) (m : Machine) (fro
   pub reached : last_second_snapshot w0 silent ≡ w
 
 -- a store advanced by an event step: event-free ticks, then one more tick whose rows it holds
-abbrev pub HasLooked : (ℤ → ℤ → ℤ → Type 0) → Machine → ℕ → Store → EventStep → Store → Type 0
-HasLooked Rule m tick old step new =
+abbrev pub IsEventStep : (ℤ → ℤ → ℤ → Type 0) → Machine → ℕ → Store → EventStep → Store → Type 0
+IsEventStep Rule m tick old step new =
     (silent : List SecondSnapshot)
     × IsVisit2 Rule m tick (snapshot_of (motion_at m old.motion tick)) silent step.tick
     (second_snapshot_unless (overflow_of step.ran) (snapshot_of (motion_at m new.motion step.tick)))

@@ -101,7 +101,7 @@ pub record IsLineWithin (bound : ℤ) (p : Place) (change : ℤ) (tick : ℕ) : 
   pub later : abs_of (level_on p change tick) ≤ℤ bound
 
 -- a level slope, and all levels up to the end of a window, are at most a bound in size
-pub record IsLineCalm (bound : ℤ) (p : Place) (change : ℤ) (window : ℕ) : Type 0 where
+pub record IsLineBounded (bound : ℤ) (p : Place) (change : ℤ) (window : ℕ) : Type 0 where
   pub slope : abs_of change ≤ℤ bound
   pub levels : (t : ℕ) → p.since ≤ t → t ≤ window → abs_of (level_on p change t) ≤ℤ bound
 

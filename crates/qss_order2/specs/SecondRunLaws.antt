@@ -67,7 +67,7 @@ gap_after m w j ticks =
     (rise_at m j w.levels -ℤ level_unit m *ℤ int_at w.changes j) (bend_at m j w.changes) ticks
 
 -- up to this tick, no limit check is scheduled and no state reaches its quantum
-pub record IsCalm2 (m : Machine) (tick : ℕ) (w : SecondSnapshot) (ticks : ℕ) : Type 0 where
+pub record AreEventFree2 (m : Machine) (tick : ℕ) (w : SecondSnapshot) (ticks : ℕ) : Type 0 where
   pub near : (j k : ℕ) → j < state_count m → 0 < k → k ≤ ticks →
       pos (unsigned_abs (gap_after m w j k)) <ℤ reach_of m j
   pub before_last : tick + ticks < m.last
@@ -81,10 +81,10 @@ pub record HasEach (m : Machine) (w : SecondSnapshot) : Type 0 where
 
 -- an event-free tick has exactly one result, even under the free rule, and no state is requantized
 -- there
-pub record CalmTicksAreForced : Type 0 where
+pub record EventFreeTicksAreForced : Type 0 where
   pub forced : (m : Machine) (tick : ℕ) (w : SecondSnapshot) (ticks : ℕ)
-      (result : Result SecondSnapshot ℕ) → HasEach m w → IsCalm2 m tick w (ticks + 1) →
+      (result : Result SecondSnapshot ℕ) → HasEach m w → AreEventFree2 m tick w (ticks + 1) →
       IsSecondStep FreeChange m (tick + ticks + 1) (second_snapshot_after m w ticks) result ↔
       (result ≡ Ok (second_snapshot_after m w (ticks + 1)))
   pub kept : (m : Machine) (tick : ℕ) (w : SecondSnapshot) (ticks : ℕ) → HasEach m w →
-      IsCalm2 m tick w (ticks + 1) → is_requantization m (second_snapshot_after m w ticks) ≡ false
+      AreEventFree2 m tick w (ticks + 1) → is_requantization m (second_snapshot_after m w ticks) ≡ false

@@ -36,12 +36,12 @@ AreFlatOutside m list changes = (j : ℕ) → j < state_count m → is_listed li
 abbrev pub AreHeld : Machine → List ℤ → Type 0
 AreHeld m changes = (j : ℕ) → j < state_count m → IsWithin 95 (level_unit m *ℤ int_at changes j)
 
--- levels of absolute value at most `calm` exceed no limit
-abbrev pub IsCalmLevel : Machine → ℤ → Type 0
-IsCalmLevel m calm =
+-- levels of absolute value at most `bound` exceed no limit
+abbrev pub IsSafeBound : Machine → ℤ → Type 0
+IsSafeBound m bound =
     (levels : List ℤ) → length levels ≡ state_count m → ((j : ℕ) → j < state_count m →
-    abs_of (int_at levels j) ≤ℤ calm) → past_levels m levels ≡ None
+    abs_of (int_at levels j) ≤ℤ bound) → past_levels m levels ≡ None
 
 -- if a bound is known, it has at most 49 bits, and levels up to it exceed no limit
-abbrev pub IsCalmBy : Machine → Option ℤ → Type 0
-IsCalmBy m calm = (level : ℤ) → calm ≡ Some level → IsSecondLevel level × IsCalmLevel m level
+abbrev pub IsSafeIfKnown : Machine → Option ℤ → Type 0
+IsSafeIfKnown m safe_bound = (level : ℤ) → safe_bound ≡ Some level → IsSecondLevel level × IsSafeBound m level

@@ -23,15 +23,15 @@ use Rattle.qss_order2.specs.declared.order2_rows.Row2.{Row2}
 use Rattle.qss_order2.specs.declared.order2_rows.Kind2.{Kind2}
 use Rattle.qss_order2.specs.declared.order2_rows.Kind2.TheVariants.{Slope}
 use Rattle.qss_order2.specs.Places.{place_in, place_at, floor_place, level_on, rise_on, states_on}
-use Rattle.qss_order2.specs.Places.{levels_on, rises_on, IsSmallPlace, IsLineCalm, CanMove, CanRead}
+use Rattle.qss_order2.specs.Places.{levels_on, rises_on, IsSmallPlace, IsLineBounded, CanMove, CanRead}
 use Rattle.qss_order2.specs.SecondRuns.{level_row, slope_row}
 use Rattle.qss_order2.specs.SecondSteps.{SecondSnapshot, rise_at, rise_change_weight, reach_of}
 use Rattle.qss_order2.specs.SecondSteps.{first_exceeding_limit, AreChanges, fine_states}
 use Rattle.qss_order2.specs.SecondSteps.{fine_levels, limit_check_period, is_limit_check}
 use Rattle.qss_order2.specs.SecondSteps.{leaves_quantum, is_requantization, next_states}
 use Rattle.qss_order2.specs.SecondSteps.{next_levels}
-use Rattle.qss_order2.specs.SecondRunLimits.{IsCalmBy}
-use Rattle.qss_order2.specs.SecondRunLaws.{bend_at, second_snapshot_after, gap_after, IsCalm2}
+use Rattle.qss_order2.specs.SecondRunLimits.{IsSafeIfKnown}
+use Rattle.qss_order2.specs.SecondRunLaws.{bend_at, second_snapshot_after, gap_after, AreEventFree2}
 
 -- the motion of all states at a tick, as lists: states, levels, level slopes, slopes of the states,
 -- and their second differences
@@ -81,9 +81,9 @@ CanMoveTo m tick q = CanMove (state_count m) tick q.places.items q.changes.items
 
 -- the level slopes of the states of a list, and their levels up to the end of a window, are at most
 -- a bound in size
-abbrev pub AreLinesCalm : ℤ → List ℕ → Motion → ℕ → Type 0
-AreLinesCalm bound list q window =
-    (j : ℕ) → is_listed list j ≡ true → IsLineCalm bound (place_in q.places.items j)
+abbrev pub AreLinesBounded : ℤ → List ℕ → Motion → ℕ → Type 0
+AreLinesBounded bound list q window =
+    (j : ℕ) → is_listed list j ≡ true → IsLineBounded bound (place_in q.places.items j)
     (int_at q.changes.items j) window
 
 -- lists with an element for each state
@@ -109,7 +109,7 @@ pub record HasRises (m : Machine) (v : MotionAt) : Type 0 where
 
 -- level slopes that the rule allows at these levels, and the least state that exceeds a limit; if
 -- there is none, the motion has these level slopes
-pub record IsSettled (Rule : ℤ → ℤ → ℤ → Type 0) (m : Machine) (asked : ℕ →
+pub record HasRuledSlopes (Rule : ℤ → ℤ → ℤ → Type 0) (m : Machine) (asked : ℕ →
     Bool) (old new : MotionAt) (over : Option ℕ) : Type 0 where
   pub changes : List ℤ
   pub are_changes : AreChanges Rule m asked old.levels old.changes changes
@@ -170,15 +170,15 @@ pub record HasDues (m : Machine) (tick window : ℕ) (w : SecondSnapshot) (dues 
   pub each : (j : ℕ) → j < state_count m → IsDue2 m w (window - tick) j (until tick (due_at dues j))
 
 -- the due ticks of the states that are not affected, up to the end of a window
-pub record KeepsDues (m : Machine) (tick window : ℕ) (w : SecondSnapshot) (touched : ℕ →
+pub record KeepsDues (m : Machine) (tick window : ℕ) (w : SecondSnapshot) (affected : ℕ →
     Bool) (dues : List (Option ℕ)) : Type 0 where
   pub is_window : IsWindow tick m.last (window - tick)
-  pub quiet : (j : ℕ) → j < state_count m → touched j ≡ false → IsDue2 m w (window - tick) j
+  pub quiet : (j : ℕ) → j < state_count m → affected j ≡ false → IsDue2 m w (window - tick) j
       (until tick (due_at dues j))
 
 -- the number of ticks from a snapshot to the next event or limit check, and the states that leave
 -- their quanta there
-pub record IsNextLook (m : Machine) (tick : ℕ) (w : SecondSnapshot) (due : ℕ → Option ℕ) (left : ℕ →
+pub record IsNextEvent (m : Machine) (tick : ℕ) (w : SecondSnapshot) (due : ℕ → Option ℕ) (left : ℕ →
     Bool) (ticks : ℕ) : Type 0 where
   pub reach : ℕ
   pub is_window : IsWindow tick m.last reach
@@ -195,7 +195,7 @@ pub record IsQuiet (m : Machine) (left : ℕ → Bool) (j : ℕ) : Type 0 where
 
 -- all states that are not affected are quiet
 abbrev pub AreQuiet : Machine → (ℕ → Bool) → (ℕ → Bool) → Type 0
-AreQuiet m left touched = (j : ℕ) → j < state_count m → touched j ≡ false → IsQuiet m left j
+AreQuiet m left affected = (j : ℕ) → j < state_count m → affected j ≡ false → IsQuiet m left j
 
 -- a state left, or its row reads one that left
 abbrev pub IsAffected : Machine → (ℕ → Bool) → ℕ → Type 0
@@ -204,16 +204,16 @@ IsAffected m left j = (left j ≡ true) ⊎ ((i : ℕ) × (left i ≡ true) ×
 
 -- from a snapshot to the next event or limit check: a number of event-free ticks, and one more, at
 -- which these states leave their quanta
-pub record IsMovedOn (m : Machine) (tick : ℕ) (w : SecondSnapshot) (calm : ℕ) (left : ℕ →
+pub record IsMovedOn (m : Machine) (tick : ℕ) (w : SecondSnapshot) (skipped : ℕ) (left : ℕ →
     Bool) (states levels : List ℤ) : Type 0 where
-  pub is_calm : IsCalm2 m tick w calm
-  pub in_time : tick + calm < m.last
+  pub are_event_free : AreEventFree2 m tick w skipped
+  pub in_time : tick + skipped < m.last
   pub flags : (j : ℕ) → j < state_count m → left j ≡ leaves_quantum m
-      (second_snapshot_after m w calm) j
-  pub states_there : states ≡ next_states m (second_snapshot_after m w calm)
-  pub levels_there : levels ≡ next_levels m (second_snapshot_after m w calm)
-  pub looks : is_limit_check m (tick + calm + 1) (is_requantization m
-      (second_snapshot_after m w calm)) ≡ true
+      (second_snapshot_after m w skipped) j
+  pub states_there : states ≡ next_states m (second_snapshot_after m w skipped)
+  pub levels_there : levels ≡ next_levels m (second_snapshot_after m w skipped)
+  pub looks : is_limit_check m (tick + skipped + 1) (is_requantization m
+      (second_snapshot_after m w skipped)) ≡ true
 
 -- the rows of the states that left: of a level, and of how much that changes
 abbrev pub rows_of_left : Kind2 → ℕ → SecondSnapshot → (ℕ → Bool) → ℕ → List Row2
@@ -238,25 +238,25 @@ pub record FitsMachine (m : Machine) (s : Store) : Type 0 where
   pub lists : HasLists m s.motion
   pub dues : length s.dues ≡ state_count m
   pub left : state_count m ≤ vec_capacity s.left
-  pub touched : s.touched.count ≡ state_count m
-  pub calm : IsCalmBy m s.calm
-  pub levels : length s.room.items ≡ state_count m
+  pub affected : s.affected.count ≡ state_count m
+  pub safe_bound : IsSafeIfKnown m s.safe_bound
+  pub levels : length s.levels.items ≡ state_count m
   pub rows : state_count m + state_count m + discrete_count m + 1 ≤ vec_capacity s.rows
 
--- no level of some states is more than a calm one in size, from a tick on to another
-abbrev pub AreCalmUntil : ℕ → List Place → List ℤ → ℕ → ℕ → Option ℤ → Type 0
-AreCalmUntil n places changes tick end calm =
-    (bound : ℤ) × (calm ≡ Some bound) × ((j t : ℕ) → j < n → tick ≤ t → t ≤ end →
+-- the levels of some states are within the safe bound from a tick on to another
+abbrev pub AreLevelsBoundedUntil : ℕ → List Place → List ℤ → ℕ → ℕ → Option ℤ → Type 0
+AreLevelsBoundedUntil n places changes tick end safe_bound =
+    (bound : ℤ) × (safe_bound ≡ Some bound) × ((j t : ℕ) → j < n → tick ≤ t → t ≤ end →
     abs_of (level_on (place_in places j) (int_at changes j) t) ≤ℤ bound)
 
--- no level slope exceeds the bound in size
-abbrev pub AreChangesCalm : ℕ → List ℤ → Option ℤ → Type 0
-AreChangesCalm n changes calm = (bound : ℤ) × (calm ≡ Some bound) × ((j : ℕ) → j < n →
+-- the level slopes are within the safe bound
+abbrev pub AreLevelSlopesBounded : ℕ → List ℤ → Option ℤ → Type 0
+AreLevelSlopesBounded n changes safe_bound = (bound : ℤ) × (safe_bound ≡ Some bound) × ((j : ℕ) → j < n →
     abs_of (int_at changes j) ≤ℤ bound)
 
 -- each state is at a tick of its own up to this one, at most a period before the end of the window,
 -- and all numbers are small
-pub record AreOnTheWay (n tick window : ℕ) (places : List Place) (changes rises bends : List ℤ) :
+pub record AreMovableUntil (n tick window : ℕ) (places : List Place) (changes rises bends : List ℤ) :
     Type 0 where
   pub past : (j : ℕ) → j < n → (place_in places j).since ≤ tick
   pub near : (j : ℕ) → j < n → window ≤ (place_in places j).since + look_span
@@ -265,26 +265,26 @@ pub record AreOnTheWay (n tick window : ℕ) (places : List Place) (changes rise
   pub small_rises : (j : ℕ) → j < n → IsSecondState (int_at rises j)
   pub small_bends : (j : ℕ) → j < n → IsSecondState (int_at bends j)
 
-abbrev pub IsOnTheWay : Machine → ℕ → ℕ → Motion → Type 0
-IsOnTheWay m tick window q =
-    AreOnTheWay (state_count m) tick window q.places.items q.changes.items q.rises.items
+abbrev pub IsMovableUntil : Machine → ℕ → ℕ → Motion → Type 0
+IsMovableUntil m tick window q =
+    AreMovableUntil (state_count m) tick window q.places.items q.changes.items q.rises.items
     q.bends.items
 
 -- a store within its limits at a tick: the places of the affected states are of the tick
-pub record IsGoing (m : Machine) (tick : ℕ) (s : Store) : Type 0 where
+pub record IsWithinLimits (m : Machine) (tick : ℕ) (s : Store) : Type 0 where
   pub moves : Moves m (motion_at m s.motion tick)
-  pub on_the_way : AreOnTheWay (state_count m) tick s.window s.motion.places.items
+  pub movable : AreMovableUntil (state_count m) tick s.window s.motion.places.items
       s.motion.changes.items s.motion.rises.items s.motion.bends.items
   pub in_window : tick ≤ s.window
-  pub calm : s.wild ≡ false → AreCalmUntil (state_count m) s.motion.places.items
-      s.motion.changes.items tick s.window s.calm
-  pub calm_changes : s.wild ≡ false → AreChangesCalm (state_count m) s.motion.changes.items s.calm
-  pub here : (j : ℕ) → is_listed s.touched.places j ≡ true →
+  pub bounded : s.unbounded ≡ false → AreLevelsBoundedUntil (state_count m) s.motion.places.items
+      s.motion.changes.items tick s.window s.safe_bound
+  pub bounded_slopes : s.unbounded ≡ false → AreLevelSlopesBounded (state_count m) s.motion.changes.items s.safe_bound
+  pub here : (j : ℕ) → is_listed s.affected.places j ≡ true →
       (j < state_count m) × ((place_in s.motion.places.items j).since ≡ tick)
 
 -- the due ticks of all states, up to the end of the window, are scheduled
-pub record IsReady (m : Machine) (tick : ℕ) (s : Store) : Type 0 where
-  pub goes : IsGoing m tick s
+pub record HasSchedule (m : Machine) (tick : ℕ) (s : Store) : Type 0 where
+  pub goes : IsWithinLimits m tick s
   pub dues : HasDues m tick s.window (snapshot_of (motion_at m s.motion tick)) s.dues
 
 -- the place of a state at a later tick
@@ -301,41 +301,41 @@ FollowsLevels m tick q =
 
 -- the slopes of the affected states are those of the levels at a tick, modulo 2^128
 abbrev pub HasRisen : Machine → ℕ → List ℕ → Motion → Type 0
-HasRisen m tick touched q =
-    (j : ℕ) → j < state_count m → is_listed touched j ≡ true →
+HasRisen m tick affected q =
+    (j : ℕ) → j < state_count m → is_listed affected j ≡ true →
     int_at q.rises.items j ≡ int_wrap w128 (rise_at m j (levels_on (state_count m) q.places.items
     q.changes.items tick))
 
 -- the affected states are at a tick, those that left have new levels, and the slopes follow; the
 -- other states are unchanged
-pub record HasArrived (m : Machine) (tick : ℕ) (left touched : List ℕ) (old new : Motion) : Type 0
+pub record HasNewLevels (m : Machine) (tick : ℕ) (left affected : List ℕ) (old new : Motion) : Type 0
   where
     pub changes : new.changes.items ≡ old.changes.items
     pub bends : new.bends.items ≡ old.bends.items
-    pub rises : (j : ℕ) → j < state_count m → is_listed touched j ≡ false →
+    pub rises : (j : ℕ) → j < state_count m → is_listed affected j ≡ false →
         int_at new.rises.items j ≡ int_at old.rises.items j
-    pub risen : HasRisen m tick touched new
-    pub own : (j : ℕ) → is_listed left j ≡ true → is_listed touched j ≡ true
+    pub risen : HasRisen m tick affected new
+    pub own : (j : ℕ) → is_listed left j ≡ true → is_listed affected j ≡ true
     pub leaving : (j : ℕ) → is_listed left j ≡ true → place_in new.places.items j ≡ floor_place
         (place_there tick old j) (level_unit m)
-    pub moved : (j : ℕ) → is_listed touched j ≡ true → is_listed left j ≡ false →
+    pub moved : (j : ℕ) → is_listed affected j ≡ true → is_listed left j ≡ false →
         place_in new.places.items j ≡ place_there tick old j
-    pub others : (j : ℕ) → is_listed touched j ≡ false →
+    pub others : (j : ℕ) → is_listed affected j ≡ false →
         place_in new.places.items j ≡ place_in old.places.items j
 
--- a store that arrived at a tick may settle
-pub record MaySettle (m : Machine) (tick : ℕ) (s : Store) : Type 0 where
+-- at a tick, the states that left have new levels, and the rule can be applied to them
+pub record CanApplyRule (m : Machine) (tick : ℕ) (s : Store) : Type 0 where
   pub reads : CanRead (state_count m) tick s.motion.places.items s.motion.changes.items
   pub in_window : tick ≤ s.window
   pub near : (j : ℕ) → j < state_count m → s.window ≤ (place_in s.motion.places.items j).since +
       look_span
-  pub calm : s.wild ≡ false →
-      (bound : ℤ) × (s.calm ≡ Some bound)
+  pub bounded : s.unbounded ≡ false →
+      (bound : ℤ) × (s.safe_bound ≡ Some bound)
       × ((j : ℕ) → j < state_count m → is_listed s.left.items j ≡ false →
       abs_of (level_on (place_in s.motion.places.items j) (int_at s.motion.changes.items j) tick)
       ≤ℤ bound)
-  pub calm_changes : s.wild ≡ false → AreChangesCalm (state_count m) s.motion.changes.items s.calm
-  pub risen : HasRisen m tick s.touched.places s.motion
+  pub bounded_slopes : s.unbounded ≡ false → AreLevelSlopesBounded (state_count m) s.motion.changes.items s.safe_bound
+  pub risen : HasRisen m tick s.affected.places s.motion
   pub bends : (j : ℕ) → j < state_count m → int_at s.motion.bends.items j ≡ int_wrap w128
       (bend_at m j s.motion.changes.items)
   pub flat : (j : ℕ) → j < state_count m → exceeds bits_of_second_state (rise_change_weight m s.motion.changes.items
@@ -343,10 +343,10 @@ pub record MaySettle (m : Machine) (tick : ℕ) (s : Store) : Type 0 where
   pub held : (j : ℕ) → j < state_count m → IsWithin 95
       (level_unit m *ℤ int_at s.motion.changes.items j)
   pub numbers : AreRisingBelow (state_count m) s.left.items
-  pub here : (j : ℕ) → is_listed s.touched.places j ≡ true →
+  pub here : (j : ℕ) → is_listed s.affected.places j ≡ true →
       (j < state_count m) × ((place_in s.motion.places.items j).since ≡ tick)
-  pub own : (j : ℕ) → is_listed s.left.items j ≡ true → is_listed s.touched.places j ≡ true
-  pub quiet : AreQuiet m (is_listed s.left.items) (is_listed s.touched.places)
+  pub own : (j : ℕ) → is_listed s.left.items j ≡ true → is_listed s.affected.places j ≡ true
+  pub quiet : AreQuiet m (is_listed s.left.items) (is_listed s.affected.places)
 
 -- new level slopes that the rule allows, and the second differences of all rows, modulo 2^128
 pub record HasChanged (Rule : ℤ → ℤ → ℤ → Type 0) (m : Machine) (left : List ℕ) (levels : List ℤ)
@@ -361,7 +361,7 @@ pub record HasChanged (Rule : ℤ → ℤ → ℤ → Type 0) (m : Machine) (lef
 -- level slopes that the rule allows, and the least state that exceeds a limit; if there is none, the
 -- motion has these slopes, the affected states have the slopes of the new levels, and all rows have
 -- the second differences of the level slopes
-pub record HasSettled (Rule : ℤ → ℤ → ℤ → Type 0) (m : Machine) (left touched : List ℕ)
+pub record IsRuleApplied (Rule : ℤ → ℤ → ℤ → Type 0) (m : Machine) (left affected : List ℕ)
     (levels : List ℤ) (old new : Motion) (over : Option ℕ) : Type 0 where
   pub changes : List ℤ
   pub are_changes : AreChanges Rule m (is_listed left) levels old.changes.items changes
@@ -371,21 +371,21 @@ pub record HasSettled (Rule : ℤ → ℤ → ℤ → Type 0) (m : Machine) (lef
   pub held : over ≡ None → (j : ℕ) → j < state_count m →
       IsWithin 95 (level_unit m *ℤ int_at changes j)
   pub rises : new.rises ≡ old.rises
-  pub risen : over ≡ None → (j : ℕ) → j < state_count m → is_listed touched j ≡ true →
+  pub risen : over ≡ None → (j : ℕ) → j < state_count m → is_listed affected j ≡ true →
       int_at new.rises.items j ≡ rise_at m j levels
   pub bends : over ≡ None → (j : ℕ) → j < state_count m →
       int_at new.bends.items j ≡ bend_at m j changes
 
 -- a store represents its snapshot at a tick; if a state exceeds a limit, the tick is 0
-pub record Stands (m : Machine) (tick : ℕ) (s : Store) : Type 0 where
+pub record IsStoreAt (m : Machine) (tick : ℕ) (s : Store) : Type 0 where
   pub fits : FitsMachine m s
   pub over : first_exceeding_limit m (motion_at m s.motion tick).levels s.motion.changes.items ≡
       overflow_of s.over
   pub at_start : (var : ℕ) → overflow_of s.over ≡ Some var → tick ≡ 0
-  pub goes : overflow_of s.over ≡ None → IsGoing m tick s
+  pub goes : overflow_of s.over ≡ None → IsWithinLimits m tick s
   pub dues : overflow_of s.over ≡ None → tick < s.window →
       KeepsDues m tick s.window (snapshot_of (motion_at m s.motion tick))
-      (is_listed s.touched.places) s.dues
+      (is_listed s.affected.places) s.dues
 
 -- the place of a state at the start
 abbrev pub start_place : Machine → ℕ → Place
@@ -397,23 +397,23 @@ start_place m j = record {
 }
 
 -- the states and levels at the start, with level slopes of 0
-pub record IsResting (m : Machine) (q : Motion) : Type 0 where
+pub record IsAtRest (m : Machine) (q : Motion) : Type 0 where
   pub lists : HasLists m q
   pub places : q.places.items ≡ tabulate (state_count m) (start_place m)
   pub changes : q.changes.items ≡ replicate (state_count m) (pos 0)
 
 -- an allocated store with the states and levels of the start, at which the rule is to be applied to
 -- all states
-pub record IsBlank (m : Machine) (s : Store) : Type 0 where
+pub record IsAllocated (m : Machine) (s : Store) : Type 0 where
   pub fits : FitsMachine m s
-  pub resting : IsResting m s.motion
+  pub at_rest : IsAtRest m s.motion
   pub left : s.left.items ≡ range_with_len 0 (state_count m)
-  pub touched : s.touched.places ≡ []
+  pub affected : s.affected.places ≡ []
   pub window : s.window ≡ 0
-  pub wild : s.wild ≡ true
+  pub unbounded : s.unbounded ≡ true
 
 -- the data of a simulator: a tick of the run, and until the end of the run a store that represents
 -- its snapshot
 pub record IsSim (m : Machine) (tick : ℕ) (end : Option Outcome2) (s : Store) : Type 0 where
   pub in_time : tick ≤ m.last
-  pub stands : end ≡ None → Stands m tick s
+  pub is_store : end ≡ None → IsStoreAt m tick s

@@ -34,10 +34,10 @@ impl FixedMachine {
     {
         let unit = m.level_unit();
         let discretes = fixed_discretes_of(alloc, &m)?;
-        let rows = rows_of(alloc, &m, discretes.as_slice())?;
-        let drives = list_constant_slopes(alloc, &m, discretes.as_slice())?;
+        let rows = rows_of(alloc, &m, &discretes)?;
+        let drives = list_constant_slopes(alloc, &m, &discretes)?;
         let limits = list_fine_quanta(alloc, &m, unit)?;
-        let columns = list_coefficient_columns(alloc, &m, discretes.as_slice())?;
+        let columns = list_coefficient_columns(alloc, &m, &discretes)?;
         Ok(FixedMachine {
             machine: m,
             unit,
@@ -216,7 +216,7 @@ fn list_constant_slopes(
     let zeros = repeat_value(alloc, 0, count)?;
     let mut drives: Vec<i128> = Vec::with_capacity(alloc, count)?;
     for row in 0..count {
-        drives.push_reserved(constant_slope(m, row as u32, zeros.as_slice(), discretes));
+        drives.push_reserved(constant_slope(m, row as u32, &zeros, discretes));
     }
     Ok(drives)
 }

@@ -1,7 +1,7 @@
 //! Theorems about second-order runs. Each is the contract of a function with an empty body.
 
 ghost use Rattle.qss_order2.specs.Events.{RowsFromStart};
-ghost use Rattle.qss_order2.specs.SecondRunLaws.{SecondRunsAreLegitimate, RuledRunsAreLegitimate, SecondRunsAreUnique, NearestIsFree, CalmTicksAreForced};
+ghost use Rattle.qss_order2.specs.SecondRunLaws.{SecondRunsAreLegitimate, RuledRunsAreLegitimate, SecondRunsAreUnique, NearestIsFree, EventFreeTicksAreForced};
 
 /// The states and levels of a second-order run form a legitimate run in units 64 times finer.
 pub fn second_runs_are_legitimate()
@@ -25,8 +25,8 @@ pub fn order2_nearest_is_free()
 {}
 
 /// A tick between two event steps has exactly one result and no rows.
-pub fn order2_calm_ticks_forced()
-    ensures { CalmTicksAreForced }
+pub fn order2_event_free_ticks_forced()
+    ensures { EventFreeTicksAreForced }
 {}
 
 /// Under a rule that is a function, a machine has exactly one second-order run.

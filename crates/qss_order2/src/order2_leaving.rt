@@ -5,7 +5,7 @@ ghost use Rattle.std.specs.Prelude.{◌≡◌, ◌≤◌, ◌<◌, ◌%◌, ◌+
 ghost use Rattle.qss_order2.specs.Prelude.{curve_at, FirstUpTo, IsWithin, IsPositiveWithin, is_listed, AreRisingBelow, IsWritten, tick_limit, look_span, IsSecondLevel, IsSecondState, state_count};
 ghost use Rattle.qss_order2.specs.Places.{place_in};
 ghost use Rattle.qss_order2.specs.SecondSteps.{SecondSnapshot};
-ghost use Rattle.qss_order2.specs.Stores.{snapshot_at, motion_at, HasLists, Moves, due_at, until, IsDue2, IsWindow, HasDues, IsNextLook};
+ghost use Rattle.qss_order2.specs.Stores.{snapshot_at, motion_at, HasLists, Moves, due_at, until, IsDue2, IsWindow, HasDues, IsNextEvent};
 
 use crate::fixed_machine::FixedMachine;
 use crate::order2_motion::Motion;
@@ -58,7 +58,7 @@ pub(crate) fn ticks_to_limit_check(tick: u64, last: u64) -> u64
 
 /// The number of ticks to the next event or limit check. Lists the states that leave their quanta
 /// there and removes them from the event queue.
-pub(crate) fn next_leaving_look(
+pub(crate) fn ticks_to_next_event(
     f: &FixedMachine,
     tick: u64,
     window: u64,
@@ -69,7 +69,7 @@ pub(crate) fn next_leaving_look(
     requires room { state_count f.now.machine ≤ vec_capacity left.old }
     requires has_dues { (w : SecondSnapshot) × HasDues f.now.machine tick window w dues.old }
     ensures next { (w : SecondSnapshot) → HasDues f.now.machine tick window w dues.old
-        → IsNextLook f.now.machine tick w (λ j. until tick (due_at dues.old j)) (is_listed left.new.items) result }
+        → IsNextEvent f.now.machine tick w (λ j. until tick (due_at dues.old j)) (is_listed left.new.items) result }
     ensures within { tick + result ≤ window }
     ensures numbers { AreRisingBelow (state_count f.now.machine) left.new.items }
     ensures count { length dues.new ≡ state_count f.now.machine }

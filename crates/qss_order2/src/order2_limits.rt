@@ -4,9 +4,9 @@
 ghost use Rattle.std.specs.Prelude.{◌≡◌, ◌<◌, ◌≤◌, ◌^◌, ◌≤ℤ◌, ℕ, All, None, Some, true, false, length, ℤ, pos, IfOk};
 ghost use Rattle.qss_order2.specs.Prelude.{overflow_of, IsWithin, exceeds, state_count, is_listed, int_at, first_exceeding, abs_of, variable_limit, bits_of_second_level, bits_of_second_state};
 ghost use Rattle.qss_order2.specs.Places.{AreLevelsWithin, AreLinesWithin, place_in, CanRead, IsLineWithin};
-ghost use Rattle.qss_order2.specs.SecondRunLimits.{heavy_row, steep_row, IsFlat, past_levels, IsCalmLevel, IsCalmBy};
+ghost use Rattle.qss_order2.specs.SecondRunLimits.{heavy_row, steep_row, IsFlat, past_levels, IsSafeBound, IsSafeIfKnown};
 ghost use Rattle.qss_order2.specs.SecondSteps.{rise_weight, rise_change_weight};
-ghost use Rattle.qss_order2.specs.Stores.{AreLinesCalm};
+ghost use Rattle.qss_order2.specs.Stores.{AreLinesBounded};
 
 use crate::fixed_machine::FixedMachine;
 use crate::order2_motion::Motion;
@@ -48,32 +48,32 @@ pub(crate) fn check_level_slope_sums(f: &FixedMachine, changes: &[i128]) -> Resu
     Ok(())
 }
 
-/// Whether levels were wild, or the level of a state of a list may exceed a limit.
+/// Whether levels are unbounded, or the level of a state of a list exceeds the safe bound.
 pub(crate) fn is_limit_check_needed(
-    wild: bool,
-    calm: Option<i128>,
+    unbounded: bool,
+    safe_bound: Option<i128>,
     list: &[u32],
     q: &Motion,
 ) -> bool
     requires { All (λ j. j < length q.now.places.items) list.now }
-    ensures was { result ≡ false → wild ≡ false }
-    ensures calm { result ≡ false
-        → (bound : ℤ) × (calm ≡ Some bound) × AreLevelsWithin bound list.now q.now.places.items }
+    ensures was { result ≡ false → unbounded ≡ false }
+    ensures bounded { result ≡ false
+        → (bound : ℤ) × (safe_bound ≡ Some bound) × AreLevelsWithin bound list.now q.now.places.items }
 {
-    if wild {
+    if unbounded {
         return true;
     }
-    match calm {
+    match safe_bound {
         Some(bound) => has_place_above_limit(list, q, bound),
         None => true,
     }
 }
 
-/// Whether levels were wild, or for a state of a list, a level up to the end of a window, or the
-/// level slope, may exceed a limit.
+/// Whether levels are unbounded, or for a state of a list, the level slope, or a level up to the
+/// end of a window, exceeds the safe bound.
 pub(crate) fn is_line_limit_needed(
-    wild: bool,
-    calm: Option<i128>,
+    unbounded: bool,
+    safe_bound: Option<i128>,
     list: &[u32],
     q: &Motion,
     window: u64,
@@ -81,27 +81,30 @@ pub(crate) fn is_line_limit_needed(
     requires list { All (λ j. j < length q.now.places.items) list.now }
     requires reads { CanRead (length q.now.places.items) window q.now.places.items
         q.now.changes.items }
-    ensures was { result ≡ false → wild ≡ false }
-    ensures calm { result ≡ false
-        → (bound : ℤ) × (calm ≡ Some bound) × AreLinesCalm bound list.now q.now window }
+    ensures was { result ≡ false → unbounded ≡ false }
+    ensures bounded { result ≡ false
+        → (bound : ℤ) × (safe_bound ≡ Some bound) × AreLinesBounded bound list.now q.now window }
 {
-    if wild {
+    if unbounded {
         return true;
     }
-    match calm {
+    match safe_bound {
         Some(bound) => has_line_above_limit(list, q, window, bound),
         None => true,
     }
 }
 
 /// The greatest power of two up to which levels exceed no limit, if there is one.
-pub(crate) fn calm_level_limit(alloc: Global, f: &FixedMachine) -> Result<Option<i128>, AllocError>
-    ensures { IfOk result (λ calm. IsCalmBy f.now.machine calm) }
+pub(crate) fn greatest_safe_bound(
+    alloc: Global,
+    f: &FixedMachine,
+) -> Result<Option<i128>, AllocError>
+    ensures { IfOk result (λ bound. IsSafeIfKnown f.now.machine bound) }
 {
     let mut bits = SECOND_LEVEL_BITS + 1;
     while bits > 0 {
         bits -= 1;
-        if is_within_calm_limit(alloc, f, bits)? {
+        if is_safe_bound(alloc, f, bits)? {
             return Ok(Some(unit(bits)));
         }
     }
@@ -218,9 +221,9 @@ fn is_row_past_limit(f: &FixedMachine, row: usize, levels: &[i128]) -> bool
 }
 
 // Whether levels of at most `bits` bits exceed no limit.
-fn is_within_calm_limit(alloc: Global, f: &FixedMachine, bits: u8) -> Result<bool, AllocError>
+fn is_safe_bound(alloc: Global, f: &FixedMachine, bits: u8) -> Result<bool, AllocError>
     requires { bits ≤ 49 }
-    ensures { IfOk result (λ calm. calm ≡ true → IsCalmLevel f.now.machine (pos (2 ^ bits))) }
+    ensures { IfOk result (λ safe. safe ≡ true → IsSafeBound f.now.machine (pos (2 ^ bits))) }
 {
     let levels = repeat_value(alloc, unit(bits), f.limits.len())?;
     Ok(check_levels(f, &levels).is_ok())

@@ -81,7 +81,13 @@ impl Motion {
         if p.since == tick {
             return p;
         }
-        place_after_motion(p, self.changes[state], self.rises[state], self.bends[state], tick)
+        place_after_motion(
+            p,
+            self.changes[state],
+            self.rises[state],
+            self.bends[state],
+            tick,
+        )
     }
 
     /// The level of a state at a tick.

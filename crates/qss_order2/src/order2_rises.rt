@@ -50,7 +50,7 @@ pub(crate) fn begin_rises(
 
 /// Sets the level slopes of the states that left, and the second differences of the rows that read
 /// them, for new levels and slopes of states. The levels exceed no limit.
-pub(crate) fn settle_rises(
+pub(crate) fn apply_slope_rule(
     f: &FixedMachine,
     rule: &SlopeRule,
     tick: u64,
@@ -69,7 +69,7 @@ pub(crate) fn settle_rises(
     requires bends { HasBends f.now.machine q.old }
     requires held { AreHeld f.now.machine q.old.changes.items }
     ensures lists { HasLists f.now.machine q.new }
-    ensures settled { HasChanged (IsRuled2 rule.now.nearest) f.now.machine left.now
+    ensures applied { HasChanged (IsRuled2 rule.now.nearest) f.now.machine left.now
         (levels_of f.now.machine q.old tick)
         q.old q.new }
 {
@@ -198,12 +198,7 @@ pub(crate) fn set_rise_changes(
 // Sets the second differences of the states of a list, unless the absolute row sum of the level
 // slopes exceeds its limit for a row. There is no such row outside the list. The error is the least
 // such row.
-fn bend(
-    f: &FixedMachine,
-    list: &[u32],
-    changes: &[i128],
-    bends: &mut [i128],
-) -> Result<(), Over>
+fn bend(f: &FixedMachine, list: &[u32], changes: &[i128], bends: &mut [i128]) -> Result<(), Over>
     requires list { All (λ j. j < state_count f.now.machine) list.now }
     requires changes { length changes.now ≡ state_count f.now.machine }
     requires bends { length bends.old ≡ state_count f.now.machine }
@@ -219,22 +214,22 @@ fn bend(
 }
 
 /// Checks the absolute row sums of the level slopes. The error is the least row that exceeds its
-/// limit. There is none outside the list, and none at all unless levels are wild.
+/// limit. There is none outside the list, and none at all unless levels are unbounded.
 pub(crate) fn check_level_slopes(
     f: &FixedMachine,
-    wild: bool,
+    unbounded: bool,
     list: &[u32],
     changes: &[i128],
 ) -> Result<(), Over>
     requires list { All (λ j. j < state_count f.now.machine) list.now }
     requires changes { length changes.now ≡ state_count f.now.machine }
     requires flat { AreFlatOutside f.now.machine list.now changes.now }
-    requires calm { wild ≡ false
+    requires bounded { unbounded ≡ false
         → (j : ℕ) → j < state_count f.now.machine
         → IsFlat f.now.machine changes.now j }
     ensures { overflow_of result ≡ steep_row f.now.machine changes.now }
 {
-    if !wild {
+    if !unbounded {
         return Ok(());
     }
     if has_bend_past_limit(f, list, changes) {
@@ -319,7 +314,11 @@ fn update_rise_changes(f: &FixedMachine, rule: &SlopeRule, list: &[u32], q: &mut
         let old = q.changes[j];
         let new = rule.change(q.rises[j], f.unit);
         q.changes[j] = new;
-        add_fixed_column_multiple(f.columns[j].as_slice(), motion_difference(new, old), &mut q.bends);
+        add_fixed_column_multiple(
+            f.columns[j].as_slice(),
+            motion_difference(new, old),
+            &mut q.bends,
+        );
     }
 }
 

@@ -45,13 +45,7 @@ pub struct Row2 {
 }
 
 /// The rows of the states of a list, whose places are of the tick.
-pub(crate) fn set_left_rows(
-    kind: Kind2,
-    tick: u64,
-    left: &[u32],
-    q: &Motion,
-    rows: &mut Vec<Row2>,
-)
+pub(crate) fn set_left_rows(kind: Kind2, tick: u64, left: &[u32], q: &Motion, rows: &mut Vec<Row2>)
     requires count_limit { length q.now.places.items ≤ variable_limit }
     requires changes { length q.now.changes.items ≡ length q.now.places.items }
     requires left { AreRisingBelow (length q.now.places.items) left.now }
@@ -156,7 +150,7 @@ fn add_levels(tick: u64, q: &Motion, rows: &mut Vec<Row2>)
         ++ tabulate (length q.now.places.items)
         (λ j.
         let p = moved_in q.now.places.items q.now.changes.items q.now.rises.items q.now.bends.items
-            tick j in
+        tick j in
         record { tick = tick; kind = End; var = j; level = p.level; state = p.state }) }
     ensures count { vec_len rows.new ≡ vec_len rows.old + length q.now.places.items }
     ensures room { vec_capacity rows.new ≡ vec_capacity rows.old }

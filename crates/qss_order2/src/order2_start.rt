@@ -5,10 +5,10 @@ ghost use Rattle.qss_order2.specs.Prelude.{range_with_len, int_at, tabulate, IsS
 ghost use Rattle.qss_order2.specs.SecondRuns.{start_rows};
 ghost use Rattle.qss_order2.specs.SecondSteps.{fine_states, fine_levels, IsStart2};
 ghost use Rattle.qss_order2.specs.SlopeRules.{IsRuled2};
-ghost use Rattle.qss_order2.specs.Stores.{snapshot_at, IsResting, IsBlank, Stands};
+ghost use Rattle.qss_order2.specs.Stores.{snapshot_at, IsAtRest, IsAllocated, IsStoreAt};
 
 use crate::fixed_machine::FixedMachine;
-use crate::order2_limits::calm_level_limit;
+use crate::order2_limits::greatest_safe_bound;
 use crate::order2_motion::{Motion, Place};
 use crate::order2_rises::begin_rises;
 use crate::order2_rows::{Kind2, Row2, add_discretes, set_left_rows};
@@ -22,21 +22,22 @@ use std::alloc::{AllocError, Global};
 /// The states, each at a tick of its own, and the event queue.
 ///
 /// `window` is the tick of the next scheduled limit check. `dues` has the tick of the next event of
-/// each state, up to `window`; for the states in `touched`, which the last event affected, it is not
-/// yet computed. `left` has the states that left their quanta at the last event, at the start all
-/// states. Levels and level slopes of absolute value at most `calm` exceed no limit. Unless `wild`
-/// is set, all levels up to `window` and all level slopes are within `calm`. `over` is an error if
-/// a state exceeds a limit at the start. `room` is a buffer for the levels of all states.
+/// each state, up to `window`; for the states in `affected`, which the last event affected, it is
+/// not yet computed. `left` has the states that left their quanta at the last event, at the start
+/// all states. Levels and level slopes of absolute value at most `safe_bound` exceed no limit.
+/// Unless `unbounded` is set, all levels up to `window` and all level slopes are within
+/// `safe_bound`. `levels` is a buffer for the levels of all states. `over` is an error if a state
+/// exceeds a limit at the start.
 #[derive(Drop)]
 pub(crate) struct Store {
     pub motion: Motion,
     pub window: u64,
     pub dues: Agenda,
     pub left: Vec<u32>,
-    pub touched: PlaceSet,
-    pub calm: Option<i128>,
-    pub wild: bool,
-    pub room: Vec<i128>,
+    pub affected: PlaceSet,
+    pub safe_bound: Option<i128>,
+    pub unbounded: bool,
+    pub levels: Vec<i128>,
     pub over: Result<(), Over>,
     pub rows: Vec<Row2>,
 }
@@ -47,7 +48,7 @@ pub(crate) fn start_order2_store(
     f: &FixedMachine,
     rule: &SlopeRule,
 ) -> Result<Store, AllocError>
-    ensures stands { IfOk result (λ s. Stands f.now.machine 0 s) }
+    ensures is_store { IfOk result (λ s. IsStoreAt f.now.machine 0 s) }
     ensures start { IfOk result
         (λ s.
         IsStart2 (IsRuled2 rule.now.nearest) f.now.machine
@@ -57,14 +58,14 @@ pub(crate) fn start_order2_store(
         s.rows.items
         ≡ start_rows f.now.machine (snapshot_at f.now.machine s.motion 0)) }
 {
-    let mut store = blank_order2_store(alloc, f)?;
+    let mut store = allocate_order2_store(alloc, f)?;
     begin_order2_store(f, rule, &mut store);
     Ok(store)
 }
 
 // All the memory of a store, with the states and levels of the start.
-fn blank_order2_store(alloc: Global, f: &FixedMachine) -> Result<Store, AllocError>
-    ensures { IfOk result (λ s. IsBlank f.now.machine s) }
+fn allocate_order2_store(alloc: Global, f: &FixedMachine) -> Result<Store, AllocError>
+    ensures { IfOk result (λ s. IsAllocated f.now.machine s) }
 {
     let states = f.machine.states.as_slice().len();
     let discretes = f.machine.discretes.as_slice().len();
@@ -73,10 +74,10 @@ fn blank_order2_store(alloc: Global, f: &FixedMachine) -> Result<Store, AllocErr
         window: 0,
         dues: Agenda::with_places(alloc, states as u32)?,
         left: start_order2_list(alloc, states as u32)?,
-        touched: PlaceSet::empty(alloc, states)?,
-        calm: calm_level_limit(alloc, f)?,
-        wild: true,
-        room: repeat_value(alloc, 0, states)?,
+        affected: PlaceSet::empty(alloc, states)?,
+        safe_bound: greatest_safe_bound(alloc, f)?,
+        unbounded: true,
+        levels: repeat_value(alloc, 0, states)?,
         over: Ok(()),
         rows: Vec::with_capacity(alloc, states + states + discretes + 1)?,
     })
@@ -84,13 +85,13 @@ fn blank_order2_store(alloc: Global, f: &FixedMachine) -> Result<Store, AllocErr
 
 // The states at the start, with slopes of 0.
 fn start_order2_motion(alloc: Global, f: &FixedMachine) -> Result<Motion, AllocError>
-    ensures { IfOk result (λ q. IsResting f.now.machine q) }
+    ensures { IfOk result (λ q. IsAtRest f.now.machine q) }
 {
     let states = start_order2_states(alloc, &f.machine)?;
-    let levels = start_order2_levels(alloc, f, states.as_slice())?;
+    let levels = start_order2_levels(alloc, f, &states)?;
     let count = states.len();
     Ok(Motion {
-        places: start_order2_places(alloc, states.as_slice(), levels.as_slice())?,
+        places: start_order2_places(alloc, &states, &levels)?,
         changes: repeat_value(alloc, 0, count)?,
         rises: repeat_value(alloc, 0, count)?,
         bends: repeat_value(alloc, 0, count)?,
@@ -171,14 +172,14 @@ fn start_order2_list(alloc: Global, count: u32) -> Result<Vec<u32>, AllocError>
 
 // Applies the rule to all states and lists the start rows.
 fn begin_order2_store(f: &FixedMachine, rule: &SlopeRule, s: &mut Store)
-    requires { IsBlank f.now.machine s.old }
-    ensures stands { Stands f.now.machine 0 s.new }
+    requires { IsAllocated f.now.machine s.old }
+    ensures is_store { IsStoreAt f.now.machine 0 s.new }
     ensures start { IsStart2 (IsRuled2 rule.now.nearest) f.now.machine
         (snapshot_at f.now.machine s.new.motion 0) }
     ensures rows { s.new.rows.items
         ≡ start_rows f.now.machine (snapshot_at f.now.machine s.new.motion 0) }
 {
-    s.over = begin_rises(f, rule, &s.left, &mut s.room, &mut s.motion);
+    s.over = begin_rises(f, rule, &s.left, &mut s.levels, &mut s.motion);
     set_left_rows(Kind2::Start, 0, &s.left, &s.motion, &mut s.rows);
     add_discretes(f, Kind2::Start, 0, &mut s.rows);
 }

@@ -11,7 +11,7 @@ advance-requires-clause-moves c =
     let l = c.requires.lists in
     let tick = c.args.tick in
     rw l.places (can_move (state_count c.args.f.now.machine) tick tick q.places.items
-    q.changes.items q.rises.items q.bends.items l.changes l.rises l.bends c.requires.on_the_way tick
+    q.changes.items q.rises.items q.bends.items l.changes l.rises l.bends c.requires.movable tick
     (omega arith) (omega arith))
 
 pub advance-requires-clause-list : goal.advance-requires-clause-list

@@ -1,9 +1,9 @@
 -- The affected states move, and those that left have new levels.
 use Rattle.qss_order2.proofs.Common
 use Common.{ℕ, ℤ, ◌+ℤ◌, ◌<◌, ◌∙◌, ◌≡◌, ap, arith, cases_Bool, false, floor_place, Global}
-use Common.{HasArrived, inl, inr, int_at, int_wrap, ints, is_listed, IsWithin, length, level_shift}
-use Common.{level_unit, levels_on, List, not, Place, place_in, place_there, pos, rise_at, rise_on}
-use Common.{state_count, sym, true, Vec, with_items, with_items_is}
+use Common.{HasNewLevels, inl, inr, int_at, int_wrap, ints, is_listed, IsWithin, length}
+use Common.{level_shift, level_unit, levels_on, List, not, Place, place_in, place_there, pos}
+use Common.{rise_at, rise_on, state_count, sym, true, Vec, with_items, with_items_is}
 use Rattle.std.specs.Int.{w128}
 use Rattle.qss_order2.proofs.ColumnSums.{wrap_small}
 use Rattle.qss_order2.proofs.Gains.{rise_on_small, risen_by, quiet_shift}
@@ -17,11 +17,11 @@ advance-requires-clause-moves c =
     let l = c.requires.lists in
     let tick = c.args.tick in
     rw l.places (can_move (state_count c.args.f.now.machine) tick tick q.places.items
-    q.changes.items q.rises.items q.bends.items l.changes l.rises l.bends c.requires.on_the_way tick
+    q.changes.items q.rises.items q.bends.items l.changes l.rises l.bends c.requires.movable tick
     (omega arith) (omega arith))
 
 pub advance-requires-clause-list : goal.advance-requires-clause-list
-advance-requires-clause-list c k d h = omega (arith, c.requires.touched k d h, c.requires.lists.places)
+advance-requires-clause-list c k d h = omega (arith, c.requires.affected k d h, c.requires.lists.places)
 
 pub take_motion_levels-requires-clause-places : goal.take_motion_levels-requires-clause-places
 take_motion_levels-requires-clause-places c =
@@ -39,8 +39,8 @@ returns c =
     let l = c.requires.lists in
     let tick = c.args.tick in
     let left = c.args.left.now in
-    let touched = c.args.touched.now in
-    let way = c.requires.on_the_way in
+    let affected = c.args.affected.now in
+    let way = c.requires.movable in
     let moved = c.advance.new.self in
     let is = c.advance.ensures in
     let ps : List Place = moved.places.items in
@@ -56,9 +56,9 @@ returns c =
     with_items_is moved.rises ss (c.take_motion_levels.auto.rises ∙ c.deref_mut-2.ensures.len) in
     let third : c.deref_mut.result.now ≡ ps = c.deref_mut.ensures.value in
     let fourth : c.deref_mut-2.result.now ≡ rs = c.deref_mut-2.ensures.value in
-    let there : (j : ℕ) → is_listed touched j ≡ true → place_in ps j ≡ place_there tick q j =
+    let there : (j : ℕ) → is_listed affected j ≡ true → place_in ps j ≡ place_there tick q j =
     λ j e. is.places.each j e in
-    let stayed : (j : ℕ) → is_listed touched j ≡ false → place_in ps j ≡ place_in q.places.items j =
+    let stayed : (j : ℕ) → is_listed affected j ≡ false → place_in ps j ≡ place_in q.places.items j =
     λ j not. is.places.others j not in
     let same : (j : ℕ) → is_listed left j ≡ false → place_in qs j ≡ place_in ps j = λ j stays.
     c.take_motion_levels.ensures.places.others j stays ∙ ap (λ (l : List Place). place_in l j) third in
@@ -76,7 +76,7 @@ returns c =
     λ j stays. ap (λ (l : List Place). place_in l j) floored ∙ same j stays in
     let shift : (j : ℕ) → level_shift m j c.deref_mut.result.now qs ≡ level_shift m j ps qs =
     λ j. ap (λ (l : List Place). level_shift m j l qs) third in
-    let arrived : HasArrived m tick left touched q (record moved {
+    let arrived : HasNewLevels m tick left affected q (record moved {
       places = with_items moved.places qs;
       rises = with_items moved.rises ss;
     }) = record {
@@ -105,7 +105,7 @@ returns c =
           (int_at q.bends.items j) tick (way.near j h) (way.small_rises j h) (way.small_bends j h)))
           in
           let before : levels_on n ps q.changes.items tick ≡ levels =
-          moved_levels n tick q ps touched there stayed in
+          moved_levels n tick q ps affected there stayed in
           let rise : z +ℤ level_shift m j ps qs ≡ rise_at m j
           (levels_on n qs q.changes.items tick) =
           ap (λ (y : ℤ). y +ℤ level_shift m j ps qs) (c.requires.rises j h
@@ -120,7 +120,7 @@ returns c =
       leaving = λ j e. ap (λ (l : List Place). place_in l j) floored ∙ leaves j e
           ∙ ap (λ (p : Place). floor_place p (level_unit m)) (there j (c.requires.own j e));
       moved = λ j e stays. kept j stays ∙ there j e;
-      others = λ j not. kept j (not_own left touched c.requires.own j not) ∙ stayed j not;
+      others = λ j not. kept j (not_own left affected c.requires.own j not) ∙ stayed j not;
     } in
     record {
       lists = record {

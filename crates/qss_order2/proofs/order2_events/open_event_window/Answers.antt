@@ -3,18 +3,18 @@ use Rattle.qss_order2.proofs.Common
 use Common.{ℕ, ◌+◌, ◌-◌, ◌<◌, ◌∙◌, ◌≡◌, ap, arith, Bool, CanRead, false, is_listed, IsWindow}
 use Common.{length, List, motion_at, Moves, not, state_count, subst, sym, true}
 use Rattle.qss_order2.proofs.Bounds.{change_small}
-use Rattle.qss_order2.proofs.Motions.{small_here, small_rise_here, on_the_way}
+use Rattle.qss_order2.proofs.Motions.{small_here, small_rise_here, movable}
 use Rattle.qss_order2.proofs.Settled.{listed_below}
 use Rattle.qss_order2.proofs.order2_events.open_event_window.Goals as goal
 
 pub returns-then-tick-s-clause-goes : goal.returns-then-tick-s-clause-goes
-returns-then-tick-s-clause-goes c = c.requires.stands.goes c.requires.within
+returns-then-tick-s-clause-goes c = c.requires.is_store.goes c.requires.within
 
 pub returns-then-tick-s-clause-keeps : goal.returns-then-tick-s-clause-keeps
-returns-then-tick-s-clause-keeps c = c.requires.stands.dues c.requires.within c.if-tick-s.true
+returns-then-tick-s-clause-keeps c = c.requires.is_store.dues c.requires.within c.if-tick-s.true
 
 pub touch_all-requires : goal.touch_all-requires
-touch_all-requires c = c.requires.stands.fits.touched ∙ sym (ap length c.as_slice.ensures)
+touch_all-requires c = c.requires.is_store.fits.affected ∙ sym (ap length c.as_slice.ensures)
 
 pub move_all_at_event-requires-clause-all : goal.move_all_at_event-requires-clause-all
 move_all_at_event-requires-clause-all c k d h = omega (
@@ -30,12 +30,12 @@ move_all_at_event-requires-clause-each c j h =
     (omega (arith, h, ap length c.as_slice.ensures))
 
 pub move_all_at_event-requires-clause-moves : goal.move_all_at_event-requires-clause-moves
-move_all_at_event-requires-clause-moves c = (c.requires.stands.goes c.requires.within).moves
+move_all_at_event-requires-clause-moves c = (c.requires.is_store.goes c.requires.within).moves
 
-pub move_all_at_event-requires-clause-on_the_way : goal.move_all_at_event-requires-clause-on_the_way
-move_all_at_event-requires-clause-on_the_way c =
-    let goes = c.requires.stands.goes c.requires.within in
-    let way = goes.on_the_way in
+pub move_all_at_event-requires-clause-movable : goal.move_all_at_event-requires-clause-movable
+move_all_at_event-requires-clause-movable c =
+    let goes = c.requires.is_store.goes c.requires.within in
+    let way = goes.movable in
     record {
       past = way.past;
       near = λ j h. omega (arith, way.near j h, goes.in_window);
@@ -60,7 +60,7 @@ returns-clause-goes c =
     let n = state_count m in
     let tick = c.args.tick in
     let q = c.move_all_at_event.new.q in
-    let goes = c.requires.stands.goes c.requires.within in
+    let goes = c.requires.is_store.goes c.requires.within in
     let reach = c.ticks_to_limit_check-reach.result in
     let is = c.ticks_to_limit_check-reach.ensures in
     let moves : Moves m (motion_at m q tick) = subst (Moves m) (sym c.move_all_at_event.ensures.same)
@@ -71,27 +71,27 @@ returns-clause-goes c =
     (omega (arith, h, ap length c.as_slice.ensures)) in
     record {
       moves = moves;
-      on_the_way = on_the_way m q tick moves (tick + reach) (λ j h. omega (arith, here j h)) (λ j h.
+      movable = movable m q tick moves (tick + reach) (λ j h. omega (arith, here j h)) (λ j h.
           omega (arith, here j h, is.few)) (λ j h. (
             small_here m q tick moves j h (here j h),
             small_rise_here m q tick moves j h (here j h),
           ));
       in_window = omega arith;
-      calm = λ tame.
-          let calm = c.is_line_limit_needed-s.ensures.calm tame in (
-            calm.0,
-            calm.1,
-            λ j t h low high. (calm.2 j (listed j h)).levels t (omega (arith, here j h, low)) high,
+      bounded = λ is_bounded.
+          let bounded = c.is_line_limit_needed-s.ensures.bounded is_bounded in (
+            bounded.0,
+            bounded.1,
+            λ j t h low high. (bounded.2 j (listed j h)).levels t (omega (arith, here j h, low)) high,
           );
-      calm_changes = λ tame. let calm = c.is_line_limit_needed-s.ensures.calm tame in (
-        calm.0,
-        calm.1,
-        λ j h. (calm.2 j (listed j h)).slope,
+      bounded_slopes = λ is_bounded. let bounded = c.is_line_limit_needed-s.ensures.bounded is_bounded in (
+        bounded.0,
+        bounded.1,
+        λ j h. (bounded.2 j (listed j h)).slope,
       );
       here = λ j e.
           let h : j < n = omega (
             arith,
-            listed_below c.touch_all.new.touched.count
+            listed_below c.touch_all.new.affected.count
                 c.places-2.result.now c.places-2.ensures.below j (ap (λ (l : List ℕ). is_listed l j)
                 c.places-2.ensures.places ∙ e),
             c.touch_all.ensures.count,
@@ -111,7 +111,7 @@ returns-clause-keeps c =
     record {
       is_window = (let e : reach ≡ (tick + reach) - tick =
           omega arith in subst (IsWindow tick m.last) e c.ticks_to_limit_check-reach.ensures);
-      quiet = λ j h not. none_else (is_listed c.touch_all.new.touched.places j)
+      quiet = λ j h not. none_else (is_listed c.touch_all.new.affected.places j)
           (c.touch_all.ensures.places j (omega (arith, h, ap length c.as_slice.ensures))) not;
     }
 
@@ -121,7 +121,7 @@ is_line_limit_needed-s-requires-clause-reads c =
     let tick = c.args.tick in
     let q = c.move_all_at_event.new.q in
     let moves : Moves m (motion_at m q tick) = subst (Moves m) (sym c.move_all_at_event.ensures.same)
-    (c.requires.stands.goes c.requires.within).moves in
+    (c.requires.is_store.goes c.requires.within).moves in
     let here = c.move_all_at_event.ensures.here in
     let reads : CanRead (state_count m) (tick + c.ticks_to_limit_check-reach.result) q.places.items q.changes.items =
     record {

@@ -1,6 +1,6 @@
--- Only due ticks are new, of the states that are touched.
+-- Only due ticks are new, of the affected states.
 use Rattle.qss_order2.proofs.Common
-use Common.{ℕ, ◌-◌, ◌∙◌, ap, arith, cases_Bool, inl, inr, is_listed, IsDue2, List, motion_at}
+use Common.{ℕ, ◌-◌, ◌∙◌, ap, arith, cases_Bool, inl, inr, is_listed, IsDue2, List, motion_at, not}
 use Common.{Option, snapshot_of, subst, sym, until}
 use Rattle.qss_order2.proofs.order2_events.prepare_event.Goals as goal
 
@@ -8,7 +8,7 @@ pub set_leaving_dues-requires-clause-list : goal.set_leaving_dues-requires-claus
 set_leaving_dues-requires-clause-list c k d h = omega (
   arith,
   c.places.ensures.below k d h,
-  c.open_event_window.ensures.fits.touched,
+  c.open_event_window.ensures.fits.affected,
 )
 
 pub set_leaving_dues-requires-clause-here : goal.set_leaving_dues-requires-clause-here
@@ -38,16 +38,16 @@ returns-clause-ready c =
     record {
       goes = (let goes = c.open_event_window.ensures.goes in record {
         moves = goes.moves;
-        on_the_way =
-            goes.on_the_way;
+        movable =
+            goes.movable;
         in_window = goes.in_window;
-        calm = goes.calm;
-        calm_changes = goes.calm_changes;
+        bounded = goes.bounded;
+        bounded_slopes = goes.bounded_slopes;
         here = goes.here;
       });
       dues = record {
         is_window = keeps.is_window;
-        each = λ j h. elim (cases_Bool (is_listed s1.touched.places j)) [
+        each = λ j h. elim (cases_Bool (is_listed s1.affected.places j)) [
           | inl e ↦ c.set_leaving_dues.ensures.each j (ap (λ (l : List ℕ). is_listed l j)
               c.places.ensures.places ∙ e)
           | inr not ↦
@@ -66,8 +66,8 @@ returns-clause-fits c =
       dues = c.set_leaving_dues.ensures.as_many ∙ fits.dues;
       left =
           fits.left;
-      touched = fits.touched;
-      calm = fits.calm;
+      affected = fits.affected;
+      safe_bound = fits.safe_bound;
       levels = fits.levels;
       rows = fits.rows;
     }

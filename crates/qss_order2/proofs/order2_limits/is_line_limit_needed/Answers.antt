@@ -1,11 +1,11 @@
 -- A level that is within a bound at both ends of a line is within it along the line.
 use Rattle.qss_order2.proofs.Common
 use Common.{ℤ, FitsSigned, int_at, IsLineWithin, Place, place_in, rules, subst, to_z-of_z, w128}
-use Rattle.qss_order2.proofs.CalmLines.{calm_between}
+use Rattle.qss_order2.proofs.BoundedLines.{bounded_between}
 use Rattle.qss_order2.proofs.order2_limits.is_line_limit_needed.Goals as goal
 
-pub returns-in-Some-clause-calm : goal.returns-in-Some-clause-calm
-returns-in-Some-clause-calm c e =
+pub returns-in-Some-clause-bounded : goal.returns-in-Some-clause-bounded
+returns-in-Some-clause-bounded c e =
     let q = c.args.q.now in
     let bound : ℤ = c.in-Some.bound in
     let fits : FitsSigned w128 bound = search rules in (
@@ -19,7 +19,7 @@ returns-in-Some-clause-calm c e =
           (c.has_line_above_limit.ensures e j l) in
           record {
             slope = line.slope;
-            levels = λ t low high. calm_between p.level v bound p.since t c.args.window low high
+            levels = λ t low high. bounded_between p.level v bound p.since t c.args.window low high
                 line.level line.later;
           },
     )

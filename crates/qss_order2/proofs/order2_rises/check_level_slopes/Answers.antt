@@ -5,11 +5,11 @@ use Common.{sym}
 use Rattle.qss_order2.proofs.Tables.{none_of_table}
 use Rattle.qss_order2.proofs.order2_rises.check_level_slopes.Goals as goal
 
-pub returns-then-not-wild : goal.returns-then-not-wild
-returns-then-not-wild c =
+pub returns-then-not-unbounded : goal.returns-then-not-unbounded
+returns-then-not-unbounded c =
     let m = c.args.f.now.machine in
     sym (none_of_table (exceeds 94) (state_count m) (rise_change_weight m c.args.changes.now)
-    (c.requires.calm (search (rules, c.if-not-wild.true))))
+    (c.requires.bounded (search (rules, c.if-not-unbounded.true))))
 
 pub returns : goal.returns
 returns c =

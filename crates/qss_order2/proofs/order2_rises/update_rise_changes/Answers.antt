@@ -25,14 +25,21 @@ loop-state-init g c = record {
 pub index-old-requires : goal.index-old-requires
 index-old-requires g c =
     let s = c.loop-state in
-    omega (arith, c.requires.list s.state-index 0 c.loop-state-test.true,
-    s.invariant.changes.as_many, c.requires.lists.changes)
+    omega (
+      arith,
+      c.requires.list s.state-index 0 c.loop-state-test.true,
+      s.invariant.changes.as_many,
+      c.requires.lists.changes,
+    )
 
 pub index-requires : goal.index-requires
 index-requires g c =
     let s = c.loop-state in
-    rw s.invariant.rises (omega (arith, c.requires.list s.state-index 0 c.loop-state-test.true,
-    c.requires.lists.rises))
+    rw s.invariant.rises (omega (
+      arith,
+      c.requires.list s.state-index 0 c.loop-state-test.true,
+      c.requires.lists.rises,
+    ))
 
 pub change-new-requires : goal.change-new-requires
 change-new-requires g c =
@@ -142,8 +149,13 @@ loop-state-preserved g c =
           (difference ∙ ap (λ (y : ℤ). int_wrap w128 (c.change-new.result -ℤ y)) was
           ∙ ap (λ (y : ℤ). int_wrap w128 (y -ℤ int_at now j)) (sym here))
           (ap (λ (l : List ℤ). int_at l k) bends ∙ inv.bends k z low start)
-          (λ w e. added k w (omega (arith, low, ap length bends, inv.many_bends,
-          c.requires.lists.bends)) e
+          (λ w e. added k w (omega (
+            arith,
+            low,
+            ap length bends,
+            inv.many_bends,
+            c.requires.lists.bends,
+          )) e
           ∙ ap (λ (l : List Entry). int_wrap w128 (w +ℤ coefficient_of l k *ℤ c.motion_difference.result))
           is);
     }

@@ -6,7 +6,7 @@ use Common.{Motion, motion_at, Moves, None, overflow_of, Place, place_rows, rang
 use Common.{rise_at, Row2, SecondSnapshot, snapshot_of, start_place, state_count, subst, sym}
 use Common.{tabulate, true, Vec}
 use Rattle.std.specs.Prelude.{flat_map}
-use Rattle.qss_order2.proofs.Motions.{sized_at, small_here, small_rise_here, on_the_way}
+use Rattle.qss_order2.proofs.Motions.{sized_at, small_here, small_rise_here, movable}
 use Rattle.qss_order2.proofs.RowLists.{listed_rows}
 use Rattle.qss_order2.proofs.Settled.{listed_below}
 use Rattle.qss_order2.proofs.Starts.{start_near, start_since, start_states_are, start_levels_are}
@@ -29,18 +29,18 @@ begin_rises-s-requires-clause-each g c j h =
 
 pub begin_rises-s-requires-clause-here : goal.begin_rises-s-requires-clause-here
 begin_rises-s-requires-clause-here g c = start_since c.args.f.now.machine c.args.s.now.motion.places.items
-    c.requires.resting.places
+    c.requires.at_rest.places
 
 pub begin_rises-s-requires-clause-start : goal.begin_rises-s-requires-clause-start
 begin_rises-s-requires-clause-start g c = start_levels_are c.args.f.now.machine
-    c.args.s.now.motion.places.items c.requires.resting.places c.args.s.now.motion.changes.items
+    c.args.s.now.motion.places.items c.requires.at_rest.places c.args.s.now.motion.changes.items
 
 pub returns-clause-start : goal.returns-clause-start
 returns-clause-start g c =
     let m = c.args.f.now.machine in
     let q : Motion = c.begin_rises-s.new.q in
     let places : q.places.items ≡ tabulate (state_count m) (start_place m) =
-    ap (λ (v : Vec Place Global). v.items) c.begin_rises-s.ensures.places ∙ c.requires.resting.places in
+    ap (λ (v : Vec Place Global). v.items) c.begin_rises-s.ensures.places ∙ c.requires.at_rest.places in
     let levels = start_levels_are m q.places.items places q.changes.items in
     record {
       states = start_states_are m q.places.items places q.rises.items q.bends.items;
@@ -49,14 +49,14 @@ returns-clause-start g c =
           ls [] q.changes.items) (sym levels) c.begin_rises-s.ensures.changes;
     }
 
-pub returns-clause-stands : goal.returns-clause-stands
-returns-clause-stands g c =
+pub returns-clause-is_store : goal.returns-clause-is_store
+returns-clause-is_store g c =
     let m = c.args.f.now.machine in
     let n = state_count m in
     let fits = c.requires.fits in
     let q : Motion = c.begin_rises-s.new.q in
     let places : q.places.items ≡ tabulate n (start_place m) =
-    ap (λ (v : Vec Place Global). v.items) c.begin_rises-s.ensures.places ∙ c.requires.resting.places in
+    ap (λ (v : Vec Place Global). v.items) c.begin_rises-s.ensures.places ∙ c.requires.at_rest.places in
     let levels = start_levels_are m q.places.items places q.changes.items in
     let states = start_states_are m q.places.items places q.rises.items q.bends.items in
     let lists = c.begin_rises-s.ensures.lists in
@@ -82,16 +82,16 @@ returns-clause-stands g c =
         lists = lists;
         dues = fits.dues;
         left = fits.left;
-        touched = fits.touched;
-        calm = fits.calm;
-        levels = same_length c.args.s.now.room c.begin_rises-s.new.levels ∙ fits.levels;
+        affected = fits.affected;
+        safe_bound = fits.safe_bound;
+        levels = same_length c.args.s.now.levels c.begin_rises-s.new.levels ∙ fits.levels;
         rows = omega (arith, c.set_left_rows.ensures.room, c.add_discretes.ensures.room, fits.rows);
       };
       over = over;
       at_start = λ var e. refl;
       goes = λ e. record {
         moves = moves e;
-        on_the_way = on_the_way m q 0 (moves e) c.args.s.now.window (λ j h. omega (
+        movable = movable m q 0 (moves e) c.args.s.now.window (λ j h. omega (
           arith,
           since j h,
         )) (λ j h. omega (arith, c.requires.window))
@@ -101,9 +101,9 @@ returns-clause-stands g c =
                   (since j h),
             ));
         in_window = omega arith;
-        calm = λ tame. none_else c.args.s.now.wild c.requires.wild tame;
-        calm_changes = λ tame. none_else c.args.s.now.wild c.requires.wild tame;
-        here = λ j e. none_listed j (ap (λ (l : List ℕ). is_listed l j) (sym c.requires.touched)
+        bounded = λ is_bounded. none_else c.args.s.now.unbounded c.requires.unbounded is_bounded;
+        bounded_slopes = λ is_bounded. none_else c.args.s.now.unbounded c.requires.unbounded is_bounded;
+        here = λ j e. none_listed j (ap (λ (l : List ℕ). is_listed l j) (sym c.requires.affected)
             ∙ e);
       };
       dues = λ e before. absurd (omega (arith, before, c.requires.window));
@@ -122,7 +122,7 @@ returns-clause-rows g c =
     let q : Motion = c.begin_rises-s.new.q in
     let w : SecondSnapshot = snapshot_of (motion_at m q 0) in
     let places : q.places.items ≡ tabulate n (start_place m) =
-    ap (λ (v : Vec Place Global). v.items) c.begin_rises-s.ensures.places ∙ c.requires.resting.places in
+    ap (λ (v : Vec Place Global). v.items) c.begin_rises-s.ensures.places ∙ c.requires.at_rest.places in
     let levels = start_levels_are m q.places.items places q.changes.items in
     let states = start_states_are m q.places.items places q.rises.items q.bends.items in
     let all : List ℕ = range_with_len 0 n in

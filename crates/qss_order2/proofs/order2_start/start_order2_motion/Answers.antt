@@ -9,9 +9,9 @@ use Rattle.qss_order2.proofs.order2_start.start_order2_motion.Goals as goal
 pub start_order2_places-requires : goal.start_order2_places-requires
 start_order2_places-requires c =
     let m = c.args.f.now.machine in
-    ap length c.as_slice-3.ensures.value ∙ ap length c.in_ok-levels.ensures
+    ap length c.deref-3.ensures.value ∙ ap length c.in_ok-levels.ensures
     ∙ length-map (fine_states m) (λ (x : ℤ). floor_of x (level_unit m))
-    ∙ sym (ap length c.as_slice-2.ensures.value ∙ ap length c.in_ok-states.ensures)
+    ∙ sym (ap length c.deref-2.ensures.value ∙ ap length c.in_ok-states.ensures)
 
 pub returns : goal.returns
 returns c =
@@ -25,8 +25,8 @@ returns c =
       c.in_ok-states.states.ok.0,
       many,
     ) in
-    let xs : List ℤ = c.as_slice-2.result.now in
-    let ls : List ℤ = c.as_slice-3.result.now in
+    let xs : List ℤ = c.deref-2.result.now in
+    let ls : List ℤ = c.deref-3.result.now in
     let place_of : List ℤ → List ℤ → ℕ → Place = λ a b j. record {
       since = 0;
       state =
@@ -35,10 +35,10 @@ returns c =
     } in
     let places =
     c.in_ok-start_order2_places.ensures
-    ∙ ap (λ (k : ℕ). tabulate k (place_of xs ls)) (ap length c.as_slice-2.ensures.value ∙ many)
-    ∙ ap (λ (l : List ℤ). tabulate n (place_of l ls)) (c.as_slice-2.ensures.value
+    ∙ ap (λ (k : ℕ). tabulate k (place_of xs ls)) (ap length c.deref-2.ensures.value ∙ many)
+    ∙ ap (λ (l : List ℤ). tabulate n (place_of l ls)) (c.deref-2.ensures.value
     ∙ c.in_ok-states.ensures)
-    ∙ ap (λ (l : List ℤ). tabulate n (place_of (fine_states m) l)) (c.as_slice-3.ensures.value
+    ∙ ap (λ (l : List ℤ). tabulate n (place_of (fine_states m) l)) (c.deref-3.ensures.value
     ∙ c.in_ok-levels.ensures) in
     record {
       lists = record {

@@ -39,7 +39,7 @@ loop-state-preserved c =
     let left : List ℕ = c.args.left.now in
     let var : ℕ = get_or left i 0 in
     let rows : List ℕ = rows_in (column_at f.columns.items var) in
-    let before : ℕ → _ = λ (j : ℕ). is_listed c.loop-state.touched.places j in
+    let before : ℕ → _ = λ (j : ℕ). is_listed c.loop-state.affected.places j in
     let more = c.touch_readers.ensures.places in
     record {
       count = c.touch_readers.ensures.count ∙ inv.count;
@@ -71,6 +71,6 @@ pub returns-clause-quiet : goal.returns-clause-quiet
 returns-clause-quiet c =
     let inv = c.loop-state.invariant in
     let f = c.args.f.now in
-    quiet_states f.machine f.columns.items c.args.left.now (is_listed c.loop-state.touched.places)
+    quiet_states f.machine f.columns.items c.args.left.now (is_listed c.loop-state.affected.places)
     f.has_columns c.requires.left inv.own
     (λ k j h e. inv.readers k j (omega (arith, h, c.loop-state-test.false)) e)

@@ -4,6 +4,6 @@ use Rattle.qss_order2.proofs.touching.touch_all.Given as goal
 -- the states so far
 abbrev pub invariant-loop-state : goal.invariant-loop-state
 invariant-loop-state l = record {
-  count : l.touched.count ≡ l.fn.touched.count;
-  places : (j : ℕ) → j < l.state → is_listed l.touched.places j ≡ true;
+  count : l.affected.count ≡ l.fn.affected.count;
+  places : (j : ℕ) → j < l.state → is_listed l.affected.places j ≡ true;
 }

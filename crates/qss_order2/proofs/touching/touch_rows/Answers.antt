@@ -10,7 +10,7 @@ pub loop-entry-init : goal.loop-entry-init
 loop-entry-init c = record {
   count = omega arith;
   places =
-      λ j. sym (or_none (is_listed c.args.touched.now.places j));
+      λ j. sym (or_none (is_listed c.args.affected.now.places j));
 }
 
 pub insert-requires : goal.insert-requires
@@ -32,11 +32,11 @@ loop-entry-preserved c =
       places = λ j.
           let row : get_or (rows_in column) i 0 ≡ (get_or column i entry_0).var =
           get_or-map (λ (entry : Entry). entry.var) column i entry_0 0 c.loop-entry-test.true in
-          touched_more (rows_in column) i j (is_listed c.args.touched.now.places j)
-          (is_listed c.loop-entry.touched.places j) (is_listed c.insert.new.self.places j)
+          touched_more (rows_in column) i j (is_listed c.args.affected.now.places j)
+          (is_listed c.loop-entry.affected.places j) (is_listed c.insert.new.self.places j)
           (omega (arith, c.loop-entry-test.true, many))
           (c.loop-entry.invariant.places j) (c.insert.ensures.places j
-          ∙ ap (λ (row : ℕ). is_listed c.loop-entry.touched.places j || eqb row j) (sym row));
+          ∙ ap (λ (row : ℕ). is_listed c.loop-entry.affected.places j || eqb row j) (sym row));
     }
 
 pub returns-clause-places : goal.returns-clause-places
@@ -46,5 +46,5 @@ returns-clause-places c j =
     length-map column (λ (entry : Entry). entry.var) in
     let all : length (rows_in column) ≤ c.loop-entry.entry-index =
     omega (arith, many, c.loop-entry-test.false) in
-    c.loop-entry.invariant.places j ∙ ap (λ l. is_listed c.args.touched.now.places j || is_listed l
+    c.loop-entry.invariant.places j ∙ ap (λ l. is_listed c.args.affected.now.places j || is_listed l
     j) (take_all c.loop-entry.entry-index (rows_in column) all)

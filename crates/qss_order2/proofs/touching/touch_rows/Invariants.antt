@@ -4,7 +4,7 @@ use Rattle.qss_order2.proofs.touching.touch_rows.Given as goal
 -- the rows so far
 abbrev pub invariant-loop-entry : goal.invariant-loop-entry
 invariant-loop-entry l = record {
-  count : l.touched.count ≡ l.fn.touched.count;
-  places : (j : ℕ) → is_listed l.touched.places j ≡ (is_listed l.fn.touched.places j || is_listed
+  count : l.affected.count ≡ l.fn.affected.count;
+  places : (j : ℕ) → is_listed l.affected.places j ≡ (is_listed l.fn.affected.places j || is_listed
       (take l.entry-index (rows_in l.column)) j);
 }

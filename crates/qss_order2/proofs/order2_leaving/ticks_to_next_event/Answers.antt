@@ -1,10 +1,10 @@
--- The next look is at the least due tick, or at the end of the window.
+-- The next event is at the least due tick, or the next limit check at the end of the window.
 use Rattle.qss_order2.proofs.Common
 use Common.{ℕ, ◌-◌, ◌<◌, ◌∙◌, ◌≡◌, ap, arith, due_at, is_listed, length, Some, state_count, sym}
 use Common.{until}
 use Rattle.qss_order2.proofs.NextLooks.{until_least, next_later, same_due, due_inside, from_first}
 use Rattle.qss_order2.proofs.NextLooks.{listed_is_due}
-use Rattle.qss_order2.proofs.order2_leaving.next_leaving_look.Goals as goal
+use Rattle.qss_order2.proofs.order2_leaving.ticks_to_next_event.Goals as goal
 
 pub take_all-requires-clause-none_before : goal.take_all-requires-clause-none_before
 take_all-requires-clause-none_before c = c.next_tick-next.ensures.none_before

@@ -1,7 +1,7 @@
 -- The states that leave are those that are due.
 use Rattle.qss_order2.proofs.Common
 use Common.{ℕ, ℤ, ◌*ℤ◌, ◌+◌, ◌<◌, ◌∙◌, ◌≡◌, ◌≤ℤ◌, abs_of, All, ap, AreQuiet, arith, bend_at}
-use Common.{exceeds, false, HasArrived, int_at, int_wrap, is_listed, IsWithin, level_unit, List}
+use Common.{exceeds, false, HasNewLevels, int_at, int_wrap, is_listed, IsWithin, level_unit, List}
 use Common.{motion_at, refl, rise_change_weight, snapshot_of, state_count, subst, sym, true}
 use Common.{within-passes}
 use Rattle.std.specs.Int.{w128}
@@ -11,10 +11,10 @@ use Rattle.qss_order2.proofs.ColumnSums.{wrap_small}
 use Rattle.qss_order2.proofs.Gains.{follows_levels}
 use Rattle.qss_order2.proofs.Motions.{bend_v}
 use Rattle.qss_order2.proofs.Settled.{listed_below}
-use Rattle.qss_order2.proofs.order2_events.go_on_after_event.Goals as goal
+use Rattle.qss_order2.proofs.order2_events.move_to_event.Goals as goal
 
-pub next_leaving_look-ticks-requires-clause-has_dues : goal.next_leaving_look-ticks-requires-clause-has_dues
-next_leaving_look-ticks-requires-clause-has_dues c = (
+pub ticks_to_next_event-ticks-requires-clause-has_dues : goal.ticks_to_next_event-ticks-requires-clause-has_dues
+ticks_to_next_event-ticks-requires-clause-has_dues c = (
   snapshot_of
       (motion_at c.args.f.now.machine c.args.s.now.motion c.args.tick),
   c.requires.ready.dues,
@@ -22,60 +22,60 @@ next_leaving_look-ticks-requires-clause-has_dues c = (
 
 pub touch-requires-clause-left : goal.touch-requires-clause-left
 touch-requires-clause-left c = subst (λ (l : List ℕ).
-    All (λ j. j < state_count c.args.f.now.machine) l) (sym c.as_slice.ensures.value)
-    c.next_leaving_look-ticks.ensures.numbers.below
+    All (λ j. j < state_count c.args.f.now.machine) l) (sym c.deref.ensures.value)
+    c.ticks_to_next_event-ticks.ensures.numbers.below
 
 pub returns-clause-next : goal.returns-clause-next
-returns-clause-next c = c.next_leaving_look-ticks.ensures.next
+returns-clause-next c = c.ticks_to_next_event-ticks.ensures.next
     (snapshot_of (motion_at c.args.f.now.machine c.args.s.now.motion c.args.tick))
     c.requires.ready.dues
 
 pub returns-clause-dues : goal.returns-clause-dues
-returns-clause-dues c = c.next_leaving_look-ticks.ensures.others
+returns-clause-dues c = c.ticks_to_next_event-ticks.ensures.others
 
 pub returns-clause-kept : goal.returns-clause-kept
 returns-clause-kept c = (refl, refl, refl)
 
-pub returns-clause-settles : goal.returns-clause-settles
-returns-clause-settles c =
+pub returns-clause-can_apply : goal.returns-clause-can_apply
+returns-clause-can_apply c =
     let m = c.args.f.now.machine in
     let n = state_count m in
     let s = c.args.s.now in
     let q0 = s.motion in
     let q1 = c.move_on_at_event.new.q in
     let tick = c.args.tick in
-    let ticks = c.next_leaving_look-ticks.result in
+    let ticks = c.ticks_to_next_event-ticks.result in
     let t : ℕ = tick + ticks in
-    let left : List ℕ = c.next_leaving_look-ticks.new.left.items in
-    let touched : List ℕ = c.touch.new.touched.places in
+    let left : List ℕ = c.ticks_to_next_event-ticks.new.left.items in
+    let affected : List ℕ = c.touch.new.affected.places in
     let goes = c.requires.ready.goes in
     let window = c.requires.ready.dues.is_window in
-    let within = c.next_leaving_look-ticks.ensures.within in
+    let within = c.ticks_to_next_event-ticks.ensures.within in
     let lists = c.move_on_at_event.ensures.lists in
-    let listed : c.as_slice.result.now ≡ left = c.as_slice.ensures.value in
-    let own : (j : ℕ) → is_listed left j ≡ true → is_listed touched j ≡ true =
+    let listed : c.deref.result.now ≡ left = c.deref.ensures.value in
+    let own : (j : ℕ) → is_listed left j ≡ true → is_listed affected j ≡ true =
     λ j e. c.touch.ensures.own j (ap (λ (l : List ℕ). is_listed l j) listed ∙ e) in
-    let arrived : HasArrived m t left touched q0 q1 =
-    subst (λ (l : List ℕ). HasArrived m t l touched q0 q1) c.as_slice-2.ensures.value
-    (subst (λ (l : List ℕ). HasArrived m t c.as_slice-2.result.now l q0 q1) c.places.ensures.places
+    let arrived : HasNewLevels m t left affected q0 q1 =
+    subst (λ (l : List ℕ). HasNewLevels m t l affected q0 q1) c.deref-2.ensures.value
+    (subst (λ (l : List ℕ). HasNewLevels m t c.deref-2.result.now l q0 q1) c.places.ensures.places
     c.move_on_at_event.ensures.arrived) in
     record {
-      reads = reads1 m tick ticks left touched q0 q1 goes.moves goes.on_the_way.past arrived
-          s.window goes.on_the_way within lists;
+      reads = reads1 m tick ticks left affected q0 q1 goes.moves goes.movable.past arrived
+          s.window goes.movable within lists;
       in_window = within;
-      near = near1 m tick ticks left touched q0 q1 goes.moves goes.on_the_way.past arrived s.window
-          (omega (arith, window.few, goes.in_window)) goes.on_the_way.near;
-      calm = λ tame.
-          let before = goes.calm tame in (
+      near = near1 m tick ticks left affected q0 q1 goes.moves goes.movable.past arrived s.window
+          (omega (arith, window.few, goes.in_window)) goes.movable.near;
+      bounded = λ is_bounded.
+          let before = goes.bounded is_bounded in (
             before.0,
             before.1,
             λ j h stays.
                 subst (λ z. abs_of z ≤ℤ before.0)
-                (sym (level1 m tick ticks left touched q0 q1 goes.moves goes.on_the_way.past arrived
+                (sym (level1 m tick ticks left affected q0 q1 goes.moves goes.movable.past arrived
                 j stays)) (before.2 j t h (omega arith) within),
           );
-      calm_changes = λ tame.
-          let before = goes.calm_changes tame in (
+      bounded_slopes = λ is_bounded.
+          let before = goes.bounded_slopes is_bounded in (
             before.0,
             before.1,
             λ j h. subst (λ (vs : List ℤ). abs_of (int_at vs j) ≤ℤ before.0) (sym arrived.changes)
@@ -84,7 +84,7 @@ returns-clause-settles c =
       risen = arrived.risen;
       bends = λ j h.
           let small : IsWithin 126 (int_at q0.bends.items j) =
-          omega (arith, goes.on_the_way.small_bends j h) in
+          omega (arith, goes.movable.small_bends j h) in
           let is : int_at q0.bends.items j ≡ bend_at m j q1.changes.items =
           bend_v m q0 tick goes.moves j h ∙ ap (bend_at m j) (sym arrived.changes) in
           ap (λ (xs : List ℤ). int_at xs j) arrived.bends
@@ -96,19 +96,19 @@ returns-clause-settles c =
           (bends_flat m (motion_at m q0 tick).levels q0.changes.items goes.moves.within j h));
       held = λ j h. subst (λ (vs : List ℤ). IsWithin 95 (level_unit m *ℤ int_at vs j))
           (sym arrived.changes) (goes.moves.has_rises.held j h);
-      numbers = c.next_leaving_look-ticks.ensures.numbers;
+      numbers = c.ticks_to_next_event-ticks.ensures.numbers;
       here = λ j e. (
         omega (
           arith,
-          listed_below c.touch.new.touched.count c.places.result.now
+          listed_below c.touch.new.affected.count c.places.result.now
               c.places.ensures.below j (ap (λ (l : List ℕ). is_listed l j) c.places.ensures.places
               ∙ e),
           c.touch.ensures.count,
         ),
-        since_touched m tick ticks left touched q0 q1 goes.moves goes.on_the_way.past arrived j e,
+        since_touched m tick ticks left affected q0 q1 goes.moves goes.movable.past arrived j e,
       );
       own = own;
-      quiet = subst (λ (l : List ℕ). AreQuiet m (is_listed l) (is_listed touched))
+      quiet = subst (λ (l : List ℕ). AreQuiet m (is_listed l) (is_listed affected))
           listed c.touch.ensures.quiet;
     }
 
@@ -117,16 +117,16 @@ returns-clause-arrived c =
     let m = c.args.f.now.machine in
     let q0 = c.args.s.now.motion in
     let q1 = c.move_on_at_event.new.q in
-    let t : ℕ = c.args.tick + c.next_leaving_look-ticks.result in
-    subst (λ (l : List ℕ). HasArrived m t l c.touch.new.touched.places q0 q1)
-    c.as_slice-2.ensures.value (subst (λ (l : List ℕ). HasArrived m t c.as_slice-2.result.now l q0
+    let t : ℕ = c.args.tick + c.ticks_to_next_event-ticks.result in
+    subst (λ (l : List ℕ). HasNewLevels m t l c.touch.new.affected.places q0 q1)
+    c.deref-2.ensures.value (subst (λ (l : List ℕ). HasNewLevels m t c.deref-2.result.now l q0
     q1) c.places.ensures.places c.move_on_at_event.ensures.arrived)
 
-pub move_on_at_event-requires-clause-on_the_way : goal.move_on_at_event-requires-clause-on_the_way
-move_on_at_event-requires-clause-on_the_way c =
+pub move_on_at_event-requires-clause-movable : goal.move_on_at_event-requires-clause-movable
+move_on_at_event-requires-clause-movable c =
     let goes = c.requires.ready.goes in
-    let way = goes.on_the_way in
-    let within = c.next_leaving_look-ticks.ensures.within in
+    let way = goes.movable in
+    let within = c.ticks_to_next_event-ticks.ensures.within in
     record {
       past = λ j h. omega (arith, way.past j h);
       near = λ j h. omega (arith, way.near j h, within);
@@ -138,11 +138,11 @@ move_on_at_event-requires-clause-on_the_way c =
 
 pub move_on_at_event-requires-clause-left : goal.move_on_at_event-requires-clause-left
 move_on_at_event-requires-clause-left c = subst (λ (l : List ℕ).
-    All (λ j. j < state_count c.args.f.now.machine) l) (sym c.as_slice-2.ensures.value)
-    c.next_leaving_look-ticks.ensures.numbers.below
+    All (λ j. j < state_count c.args.f.now.machine) l) (sym c.deref-2.ensures.value)
+    c.ticks_to_next_event-ticks.ensures.numbers.below
 
-pub move_on_at_event-requires-clause-touched : goal.move_on_at_event-requires-clause-touched
-move_on_at_event-requires-clause-touched c k d h = omega (
+pub move_on_at_event-requires-clause-affected : goal.move_on_at_event-requires-clause-affected
+move_on_at_event-requires-clause-affected c k d h = omega (
   arith,
   c.places.ensures.below k d h,
   c.touch.ensures.count,
@@ -151,22 +151,22 @@ move_on_at_event-requires-clause-touched c k d h = omega (
 pub move_on_at_event-requires-clause-own : goal.move_on_at_event-requires-clause-own
 move_on_at_event-requires-clause-own c j e =
     ap (λ (l : List ℕ). is_listed l j) c.places.ensures.places
-    ∙ c.touch.ensures.own j (ap (λ (l : List ℕ). is_listed l j) (c.as_slice.ensures.value
-    ∙ sym c.as_slice-2.ensures.value) ∙ e)
+    ∙ c.touch.ensures.own j (ap (λ (l : List ℕ). is_listed l j) (c.deref.ensures.value
+    ∙ sym c.deref-2.ensures.value) ∙ e)
 
 pub move_on_at_event-requires-clause-quiet : goal.move_on_at_event-requires-clause-quiet
 move_on_at_event-requires-clause-quiet c =
     let m = c.args.f.now.machine in
-    subst (λ (l : List ℕ). AreQuiet m (is_listed c.as_slice-2.result.now) (is_listed l))
+    subst (λ (l : List ℕ). AreQuiet m (is_listed c.deref-2.result.now) (is_listed l))
     (sym c.places.ensures.places)
-    (subst (λ (l : List ℕ). AreQuiet m (is_listed l) (is_listed c.touch.new.touched.places))
-    (c.as_slice.ensures.value ∙ sym c.as_slice-2.ensures.value) c.touch.ensures.quiet)
+    (subst (λ (l : List ℕ). AreQuiet m (is_listed l) (is_listed c.touch.new.affected.places))
+    (c.deref.ensures.value ∙ sym c.deref-2.ensures.value) c.touch.ensures.quiet)
 
 pub move_on_at_event-requires-clause-rises : goal.move_on_at_event-requires-clause-rises
 move_on_at_event-requires-clause-rises c =
     let goes = c.requires.ready.goes in
     follows_levels c.args.f.now.machine c.args.s.now.motion c.args.tick goes.moves
-    goes.on_the_way.past c.next_leaving_look-ticks.result
+    goes.movable.past c.ticks_to_next_event-ticks.result
 
 pub overflow_add-tick : goal.overflow_add-tick
-overflow_add-tick c = omega (arith, c.next_leaving_look-ticks.ensures.within)
+overflow_add-tick c = omega (arith, c.ticks_to_next_event-ticks.ensures.within)

@@ -1,4 +1,4 @@
--- Levels at most a calm one in size are past no limit.
+-- Levels within a safe bound exceed no limit.
 use Rattle.qss_order2.proofs.Common
 use Common.{ℕ, ℤ, ◌*ℤ◌, ◌<◌, ◌≡◌, ◌≤ℤ◌, ◌≤◌, abs_of, arith, exceeds, int_at, int_at-tabulate, ints}
 use Common.{IsWithin, length, List, Machine, mul-le-mul_left, None, none_past, Option, option_or}
@@ -62,8 +62,8 @@ module _ (m : Machine) (b : ℕ) (none : past_levels m (replicate (state_count m
       (none_past 49 all (option_or-None _ _ none).0 j) in
       omega (arith, ints, own, small j h)
 
-  pub calm : past_levels m levels ≡ None
-  calm =
+  pub bounded : past_levels m levels ≡ None
+  bounded =
       both _ _ (none_is (exceeds 49) levels (pos 0) (λ k h. within-passes 49 (int_at levels k)
       (level_le k (omega (arith, h, many)))))
       (none_of_table (exceeds 94) (state_count m) (rise_weight m levels) (λ k h. within-passes 94

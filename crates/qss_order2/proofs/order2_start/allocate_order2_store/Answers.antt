@@ -1,7 +1,7 @@
 -- All lists have the machine's lengths.
 use Rattle.qss_order2.proofs.Common
 use Common.{◌∙◌, ap, arith, length, length-replicate, PlaceList, range_with_len, refl}
-use Rattle.qss_order2.proofs.order2_start.blank_order2_store.Goals as goal
+use Rattle.qss_order2.proofs.order2_start.allocate_order2_store.Goals as goal
 
 pub returns : goal.returns
 returns c = record {
@@ -9,9 +9,9 @@ returns c = record {
     lists = c.in_ok-start_order2_motion.ensures.lists;
     dues = c.in_ok-with_places.ensures.places ∙ ap length c.as_slice-states.ensures;
     left = omega (arith, c.in_ok-start_order2_list.ensures.room, ap length c.as_slice-states.ensures);
-    touched = ap (λ (s : PlaceList). s.count) c.in_ok-empty.ensures
+    affected = ap (λ (s : PlaceList). s.count) c.in_ok-empty.ensures
         ∙ ap length c.as_slice-states.ensures;
-    calm = c.in_ok-calm_level_limit.ensures;
+    safe_bound = c.in_ok-greatest_safe_bound.ensures;
     levels = ap length c.in_ok-repeat_value.ensures ∙ length-replicate _ _
         ∙ ap length c.as_slice-states.ensures;
     rows = omega (
@@ -21,10 +21,10 @@ returns c = record {
       ap length c.as_slice-discretes.ensures,
     );
   };
-  resting = c.in_ok-start_order2_motion.ensures;
+  at_rest = c.in_ok-start_order2_motion.ensures;
   left = c.in_ok-start_order2_list.ensures.list ∙ ap (range_with_len 0)
       (ap length c.as_slice-states.ensures);
-  touched = ap (λ (s : PlaceList). s.places) c.in_ok-empty.ensures;
+  affected = ap (λ (s : PlaceList). s.places) c.in_ok-empty.ensures;
   window = refl;
-  wild = refl;
+  unbounded = refl;
 }

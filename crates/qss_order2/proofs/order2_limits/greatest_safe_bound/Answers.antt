@@ -1,9 +1,9 @@
 -- The level that was tried.
 use Rattle.qss_order2.proofs.Common
-use Common.{◌-◌, ◌^◌, ◌∙◌, ◌≡◌, ◌≤◌, arith, FitsSigned, ints, IsCalmLevel, IsWithin, of_z, pos}
+use Common.{◌-◌, ◌^◌, ◌∙◌, ◌≡◌, ◌≤◌, arith, FitsSigned, ints, IsSafeBound, IsWithin, of_z, pos}
 use Common.{subst, sym, to_z, to_z-of_z, w128}
 use Rattle.std.proofs.Math.Pow.{pow_mono}
-use Rattle.qss_order2.proofs.order2_limits.calm_level_limit.Goals as goal
+use Rattle.qss_order2.proofs.order2_limits.greatest_safe_bound.Goals as goal
 
 pub returns-then-branch : goal.returns-then-branch
 returns-then-branch c level same =
@@ -16,5 +16,5 @@ returns-then-branch c level same =
     let few : b ≤ 49 = omega (arith, c.loop-bits.invariant) in
     let most : 2 ^ b ≤ 2 ^ 49 = pow_mono few in
     let small : IsWithin 49 (pos (2 ^ b)) = omega (arith, ints, most) in
-    let calm : IsCalmLevel m (pos (2 ^ b)) = c.in_ok-is_within_calm_limit.ensures c.if-branch.true in
-    (subst (IsWithin 49) is small, subst (IsCalmLevel m) is calm)
+    let bounded : IsSafeBound m (pos (2 ^ b)) = c.in_ok-is_safe_bound.ensures c.if-branch.true in
+    (subst (IsWithin 49) is small, subst (IsSafeBound m) is bounded)

@@ -5,7 +5,7 @@ use Common.{levels_on, List, start_coefficient, state_count, subst, sym, w128}
 use Rattle.qss_order2.proofs.ColumnSums.{gain_is}
 use Rattle.qss_order2.proofs.Settled.{listed_below, rise_bounded, listed_changes}
 use Rattle.qss_order2.proofs.Settlings.{held_after}
-use Rattle.qss_order2.proofs.order2_rises.settle_rises.Goals as goal
+use Rattle.qss_order2.proofs.order2_rises.apply_slope_rule.Goals as goal
 
 pub update_rise_changes-requires-clause-size_limit : goal.update_rise_changes-requires-clause-size_limit
 update_rise_changes-requires-clause-size_limit g c j e =
@@ -18,8 +18,8 @@ update_rise_changes-requires-clause-size_limit g c j e =
     (listed_below n c.args.left.now c.requires.left j e)) in
     omega (arith, small)
 
-pub returns-clause-settled : goal.returns-clause-settled
-returns-clause-settled g c =
+pub returns-clause-applied : goal.returns-clause-applied
+returns-clause-applied g c =
     let m = c.args.f.now.machine in
     let n = state_count m in
     let q = c.args.q.now in

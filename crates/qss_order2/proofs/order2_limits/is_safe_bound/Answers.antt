@@ -3,10 +3,10 @@ use Rattle.qss_order2.proofs.Common
 use Common.{◌^◌, ◌∙◌, ◌≡◌, ap, arith, Err, FitsSigned, length, length-map-range_with_len}
 use Common.{length-replicate, None, Ok, overflow_of, past_levels, pos, reach_of, refl, replicate}
 use Common.{Result, state_count, sym, to_z-of_z, true, w128}
-use Rattle.qss_order2.proofs.CalmLevels.{calm}
+use Rattle.qss_order2.proofs.SafeBounds.{bounded}
 use Rattle.qss_hand.specs.declared.handler_statements.Over.{Over}
 use Rattle.std.specs.Prelude.{is_ok}
-use Rattle.qss_order2.proofs.order2_limits.is_within_calm_limit.Goals as goal
+use Rattle.qss_order2.proofs.order2_limits.is_safe_bound.Goals as goal
 
 none_of : (r : Result Unit Over) → is_ok r ≡ true → overflow_of r ≡ None
 none_of (Ok done) e = refl
@@ -37,6 +37,6 @@ returns c e levels many small =
     let all : c.deref.result.now ≡ replicate n (pos b) =
     c.deref.ensures.value ∙ own ∙ ap (λ k. replicate k c.unit.result) count
     ∙ ap (λ z. replicate n z) value in
-    calm m b (ap (past_levels m) (sym all) ∙ sym c.check_levels.ensures
+    bounded m b (ap (past_levels m) (sym all) ∙ sym c.check_levels.ensures
     ∙ none_of c.check_levels.result (sym c.is_ok.ensures.value ∙ e))
     levels many small

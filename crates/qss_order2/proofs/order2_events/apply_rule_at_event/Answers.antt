@@ -1,42 +1,42 @@
 -- The limits are checked in their order.
 use Rattle.qss_order2.proofs.Common
 use Common.{ℕ, ℤ, ◌<◌, ◌∙◌, ◌≡◌, ◌≤ℤ◌, abs_of, All, ap, AreQuiet, arith, CanRead, cases_Bool, Err}
-use Common.{false, Global, HasChanged, HasSettled, inl, inr, int_at, is_listed, IsRuled2, length}
+use Common.{false, Global, HasChanged, inl, inr, int_at, is_listed, IsRuleApplied, IsRuled2, length}
 use Common.{levels_on, List, Motion, None, not, Option, overflow_of, past_levels, Place, rise_at}
 use Common.{rules, Some, state_count, Store, subst, sym, true, Vec}
 use Rattle.qss_order2.proofs.Arrivals.{by_false}
-use Rattle.qss_order2.proofs.CalmLines.{same_bound}
-use Rattle.qss_order2.proofs.Settled.{high_settled, has_settled, window_reads, rise_bounded}
-use Rattle.qss_order2.proofs.Settled.{flat_after, calm_flat, exact}
+use Rattle.qss_order2.proofs.BoundedLines.{same_bound}
+use Rattle.qss_order2.proofs.Settled.{is_past_limit, is_rule_applied, window_reads, rise_bounded}
+use Rattle.qss_order2.proofs.Settled.{flat_after, bounded_flat, exact}
 use Rattle.qss_order2.proofs.Settlings.{of_changes}
-use Rattle.qss_order2.proofs.order2_events.arrive_at_event.Goals as goal
+use Rattle.qss_order2.proofs.order2_events.apply_rule_at_event.Goals as goal
 
 not_none : {A : Type 0} (o : Option ℕ) (var : ℕ) → o ≡ Some var → o ≡ None → A
 not_none o var e f = absurd (cc)
 
-pub returns-in_err-check_event_levels-clause-settled : goal.returns-in_err-check_event_levels-clause-settled
-returns-in_err-check_event_levels-clause-settled g c =
+pub returns-in_err-check_event_levels-clause-applied : goal.returns-in_err-check_event_levels-clause-applied
+returns-in_err-check_event_levels-clause-applied g c =
     let m = c.args.f.now.machine in
     let s = c.args.s.now in
     let n = state_count m in
     let levels = levels_on n s.motion.places.items s.motion.changes.items c.args.tick in
     let over = c.in_err-check_event_levels.field-0.0 in
     let given : c.from_residual.result ≡ Err over = search rules in
-    subst (λ (q : Motion). HasSettled (IsRuled2 c.args.rule.now.nearest) m s.left.items
-    s.touched.places levels s.motion q (overflow_of c.from_residual.result))
+    subst (λ (q : Motion). IsRuleApplied (IsRuled2 c.args.rule.now.nearest) m s.left.items
+    s.affected.places levels s.motion q (overflow_of c.from_residual.result))
     (sym (ap (λ (t : Store). t.motion) c.check_event_levels.ensures.same))
-    (high_settled c.args.rule.now.nearest m s.left.items s.touched.places levels s.motion
+    (is_past_limit c.args.rule.now.nearest m s.left.items s.affected.places levels s.motion
     (overflow_of c.from_residual.result) over.var (ap overflow_of given)
     (ap overflow_of given ∙ ap overflow_of (sym c.in_err-check_event_levels.was)
     ∙ c.check_event_levels.ensures.past))
 
-pub returns-in_err-check_event_levels-clause-wild : goal.returns-in_err-check_event_levels-clause-wild
-returns-in_err-check_event_levels-clause-wild g c none =
+pub returns-in_err-check_event_levels-clause-unbounded : goal.returns-in_err-check_event_levels-clause-unbounded
+returns-in_err-check_event_levels-clause-unbounded g c none =
     let given : c.from_residual.result ≡ Err c.in_err-check_event_levels.field-0.0 = search rules in
     not_none _ _ (ap overflow_of given) none
 
-pub settle_rises-requires-clause-within : goal.settle_rises-requires-clause-within
-settle_rises-requires-clause-within g c =
+pub apply_slope_rule-requires-clause-within : goal.apply_slope_rule-requires-clause-within
+apply_slope_rule-requires-clause-within g c =
     let m = c.args.f.now.machine in
     let n = state_count m in
     let none : past_levels m (levels_on n c.args.s.now.motion.places.items
@@ -45,37 +45,37 @@ settle_rises-requires-clause-within g c =
     subst (λ (q : Motion). past_levels m (levels_on n q.places.items q.changes.items c.args.tick)
     ≡ None) (sym (ap (λ (t : Store). t.motion) c.check_event_levels.ensures.same)) none
 
-pub settle_rises-requires-clause-left : goal.settle_rises-requires-clause-left
-settle_rises-requires-clause-left g c = subst (λ (l : List ℕ).
+pub apply_slope_rule-requires-clause-left : goal.apply_slope_rule-requires-clause-left
+apply_slope_rule-requires-clause-left g c = subst (λ (l : List ℕ).
     All (λ j. j < state_count c.args.f.now.machine) l) (sym c.deref.ensures.value)
-    c.check_event_levels.ensures.settles.numbers.below
+    c.check_event_levels.ensures.can_apply.numbers.below
 
-pub settle_rises-requires-clause-risen : goal.settle_rises-requires-clause-risen
-settle_rises-requires-clause-risen g c j e =
+pub apply_slope_rule-requires-clause-risen : goal.apply_slope_rule-requires-clause-risen
+apply_slope_rule-requires-clause-risen g c j e =
     let m = c.args.f.now.machine in
     let n = state_count m in
     let s1 = c.check_event_levels.new.s in
-    let settles = c.check_event_levels.ensures.settles in
+    let can_apply = c.check_event_levels.ensures.can_apply in
     let levels = levels_on n s1.motion.places.items s1.motion.changes.items c.args.tick in
-    let t : is_listed s1.touched.places j ≡ true =
-    settles.own j (ap (λ (l : List ℕ). is_listed l j) (sym c.deref.ensures.value) ∙ e) in
-    let h : j < n = (settles.here j t).0 in
-    exact (int_at s1.motion.rises.items j) (rise_at m j levels) (settles.risen j h t)
-    (rise_bounded m levels (settle_rises-requires-clause-within g c) j h)
+    let t : is_listed s1.affected.places j ≡ true =
+    can_apply.own j (ap (λ (l : List ℕ). is_listed l j) (sym c.deref.ensures.value) ∙ e) in
+    let h : j < n = (can_apply.here j t).0 in
+    exact (int_at s1.motion.rises.items j) (rise_at m j levels) (can_apply.risen j h t)
+    (rise_bounded m levels (apply_slope_rule-requires-clause-within g c) j h)
 
-pub settle_rises-requires-clause-bends : goal.settle_rises-requires-clause-bends
-settle_rises-requires-clause-bends g c = c.check_event_levels.ensures.settles.bends
+pub apply_slope_rule-requires-clause-bends : goal.apply_slope_rule-requires-clause-bends
+apply_slope_rule-requires-clause-bends g c = c.check_event_levels.ensures.can_apply.bends
 
-pub settle_rises-requires-clause-held : goal.settle_rises-requires-clause-held
-settle_rises-requires-clause-held g c = c.check_event_levels.ensures.settles.held
+pub apply_slope_rule-requires-clause-held : goal.apply_slope_rule-requires-clause-held
+apply_slope_rule-requires-clause-held g c = c.check_event_levels.ensures.can_apply.held
 
 pub is_line_limit_needed-s-requires-clause-list : goal.is_line_limit_needed-s-requires-clause-list
 is_line_limit_needed-s-requires-clause-list g c =
-    let q2 = c.settle_rises.new.q in
+    let q2 = c.apply_slope_rule.new.q in
     subst (λ (l : List ℕ). All (λ j. j < length q2.places.items) l) (sym c.deref-2.ensures.value)
     (subst (λ n. All (λ j. j < n) c.check_event_levels.new.s.left.items)
-    (sym c.settle_rises.ensures.lists.places)
-    c.check_event_levels.ensures.settles.numbers.below)
+    (sym c.apply_slope_rule.ensures.lists.places)
+    c.check_event_levels.ensures.can_apply.numbers.below)
 
 pub is_line_limit_needed-s-requires-clause-reads : goal.is_line_limit_needed-s-requires-clause-reads
 is_line_limit_needed-s-requires-clause-reads g c =
@@ -83,62 +83,62 @@ is_line_limit_needed-s-requires-clause-reads g c =
     let n = state_count m in
     let s1 = c.check_event_levels.new.s in
     let q1 = s1.motion in
-    let q2 = c.settle_rises.new.q in
-    let settles = c.check_event_levels.ensures.settles in
-    let settled = c.settle_rises.ensures.settled in
+    let q2 = c.apply_slope_rule.new.q in
+    let can_apply = c.check_event_levels.ensures.can_apply in
+    let applied = c.apply_slope_rule.ensures.applied in
     let none : past_levels m (levels_on n s1.motion.places.items s1.motion.changes.items
     c.args.tick) ≡ None =
     subst (λ (q : Motion). past_levels m (levels_on n q.places.items q.changes.items c.args.tick)
     ≡ None) (sym (ap (λ (t : Store). t.motion) c.check_event_levels.ensures.same))
     (sym c.check_event_levels.ensures.past ∙ ap overflow_of c.in_ok-check_event_levels.was) in
     subst (λ k. CanRead k s1.window q2.places.items q2.changes.items)
-    (sym c.settle_rises.ensures.lists.places)
+    (sym c.apply_slope_rule.ensures.lists.places)
     (subst (λ (ps : Vec Place Global). CanRead n s1.window ps.items q2.changes.items)
-    (sym settled.places)
+    (sym applied.places)
     (window_reads m c.args.tick s1.window q1.places.items q1.changes.items q2.changes.items
-    settles.reads none settles.in_window settles.near c.settle_rises.ensures.lists.changes
-    settled.held))
+    can_apply.reads none can_apply.in_window can_apply.near c.apply_slope_rule.ensures.lists.changes
+    applied.held))
 
 -- the level slopes of the states that did not leave stay
 pub check_level_slopes-requires-clause-list : goal.check_level_slopes-requires-clause-list
 check_level_slopes-requires-clause-list g c k d h = omega (
   arith,
   c.places.ensures.below k d h,
-  c.check_event_levels.ensures.fits.touched,
+  c.check_event_levels.ensures.fits.affected,
 )
 
 pub check_level_slopes-requires-clause-flat : goal.check_level_slopes-requires-clause-flat
 check_level_slopes-requires-clause-flat g c j h not =
     let m = c.args.f.now.machine in
     let s1 = c.check_event_levels.new.s in
-    let q2 = c.settle_rises.new.q in
-    let settles = c.check_event_levels.ensures.settles in
-    let settled = c.settle_rises.ensures.settled in
+    let q2 = c.apply_slope_rule.new.q in
+    let can_apply = c.check_event_levels.ensures.can_apply in
+    let applied = c.apply_slope_rule.ensures.applied in
     let left : List ℕ = c.deref.result.now in
-    let touched : List ℕ = c.places.result.now in
+    let affected : List ℕ = c.places.result.now in
     let new : List ℤ = c.deref-3.result.now in
-    let quiet : AreQuiet m (is_listed left) (is_listed touched) =
-    subst (λ (l : List ℕ). AreQuiet m (is_listed l) (is_listed touched))
+    let quiet : AreQuiet m (is_listed left) (is_listed affected) =
+    subst (λ (l : List ℕ). AreQuiet m (is_listed l) (is_listed affected))
     (sym c.deref.ensures.value)
     (subst (λ (l : List ℕ). AreQuiet m (is_listed s1.left.items) (is_listed l))
-    (sym c.places.ensures.places) settles.quiet) in
+    (sym c.places.ensures.places) can_apply.quiet) in
     let kept : (i : ℕ) → i < state_count m → is_listed left i ≡ false →
     int_at new i ≡ int_at s1.motion.changes.items i = λ i k stays.
     ap (λ (xs : List ℤ). int_at xs i) c.deref-3.ensures.value ∙ by_false (is_listed left i)
-    _ _ stays (settled.are_changes.each i k) in
-    flat_after m left touched s1.motion.changes.items new quiet kept j h not (settles.flat j h)
+    _ _ stays (applied.are_changes.each i k) in
+    flat_after m left affected s1.motion.changes.items new quiet kept j h not (can_apply.flat j h)
 
-pub check_level_slopes-requires-clause-calm : goal.check_level_slopes-requires-clause-calm
-check_level_slopes-requires-clause-calm g c tame j h =
+pub check_level_slopes-requires-clause-bounded : goal.check_level_slopes-requires-clause-bounded
+check_level_slopes-requires-clause-bounded g c is_bounded j h =
     let m = c.args.f.now.machine in
     let n = state_count m in
     let s1 = c.check_event_levels.new.s in
-    let q2 = c.settle_rises.new.q in
-    let settled = c.settle_rises.ensures.settled in
+    let q2 = c.apply_slope_rule.new.q in
+    let applied = c.apply_slope_rule.ensures.applied in
     let left : List ℕ = c.deref.result.now in
     let new : List ℤ = c.deref-3.result.now in
-    let fresh = c.is_line_limit_needed-s.ensures.calm tame in
-    let before = c.check_event_levels.ensures.settles.calm_changes (c.is_line_limit_needed-s.ensures.was tame) in
+    let fresh = c.is_line_limit_needed-s.ensures.bounded is_bounded in
+    let before = c.check_event_levels.ensures.can_apply.bounded_slopes (c.is_line_limit_needed-s.ensures.was is_bounded) in
     let bounds : before.0 ≡ fresh.0 = same_bound before.0 fresh.0 (sym before.1 ∙ fresh.1) in
     let small : (i : ℕ) → i < n → abs_of (int_at new i) ≤ℤ fresh.0 = λ i k.
     subst (λ (xs : List ℤ). abs_of (int_at xs i) ≤ℤ fresh.0) (sym c.deref-3.ensures.value)
@@ -147,20 +147,20 @@ check_level_slopes-requires-clause-calm g c tame j h =
           ∙ sym c.deref.ensures.value) ∙ leaves)).slope
       | inr stays ↦
           subst (λ z. abs_of z ≤ℤ fresh.0) (sym (by_false (is_listed left i) _ _ stays
-          (settled.are_changes.each i k)))
+          (applied.are_changes.each i k)))
           (subst (λ b. abs_of (int_at s1.motion.changes.items i) ≤ℤ b) bounds (before.2 i k))
     ]) in
-    calm_flat m fresh.0 (c.check_event_levels.ensures.fits.calm fresh.0 fresh.1).1 new
-    (ap length c.deref-3.ensures.value ∙ c.settle_rises.ensures.lists.changes) small j h
+    bounded_flat m fresh.0 (c.check_event_levels.ensures.fits.safe_bound fresh.0 fresh.1).1 new
+    (ap length c.deref-3.ensures.value ∙ c.apply_slope_rule.ensures.lists.changes) small j h
 
-pub returns-clause-settled : goal.returns-clause-settled
-returns-clause-settled g c =
+pub returns-clause-applied : goal.returns-clause-applied
+returns-clause-applied g c =
     let m = c.args.f.now.machine in
     let n = state_count m in
     let nearest = c.args.rule.now.nearest in
     let tick = c.args.tick in
     let s1 = c.check_event_levels.new.s in
-    let q2 : Motion = c.settle_rises.new.q in
+    let q2 : Motion = c.apply_slope_rule.new.q in
     let over = overflow_of c.check_level_slopes.result in
     let levels = levels_on n s1.motion.places.items s1.motion.changes.items tick in
     let none : past_levels m (levels_on n s1.motion.places.items s1.motion.changes.items
@@ -170,12 +170,12 @@ returns-clause-settled g c =
     (sym c.check_event_levels.ensures.past ∙ ap overflow_of c.in_ok-check_event_levels.was) in
     let changed : HasChanged (IsRuled2 nearest) m s1.left.items levels s1.motion q2 =
     subst (λ (l : List ℕ). HasChanged (IsRuled2 nearest) m l levels s1.motion q2)
-    c.deref.ensures.value c.settle_rises.ensures.settled in
-    let there : HasSettled (IsRuled2 nearest) m s1.left.items s1.touched.places levels s1.motion q2
+    c.deref.ensures.value c.apply_slope_rule.ensures.applied in
+    let there : IsRuleApplied (IsRuled2 nearest) m s1.left.items s1.affected.places levels s1.motion q2
     over =
-    has_settled nearest m s1.left.items s1.touched.places levels s1.motion q2 over changed none
+    is_rule_applied nearest m s1.left.items s1.affected.places levels s1.motion q2 over changed none
     (c.check_level_slopes.ensures ∙ ap (of_changes m) c.deref-3.ensures.value)
-    c.check_event_levels.ensures.settles.risen in
-    subst (λ (t : Store). HasSettled (IsRuled2 nearest) m t.left.items t.touched.places
+    c.check_event_levels.ensures.can_apply.risen in
+    subst (λ (t : Store). IsRuleApplied (IsRuled2 nearest) m t.left.items t.affected.places
     (levels_on n t.motion.places.items t.motion.changes.items tick) t.motion q2 over)
     c.check_event_levels.ensures.same there

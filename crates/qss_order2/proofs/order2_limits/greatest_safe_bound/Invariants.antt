@@ -1,5 +1,5 @@
 use Rattle.qss_order2.proofs.Common.{◌≤◌}
-use Rattle.qss_order2.proofs.order2_limits.calm_level_limit.Given as goal
+use Rattle.qss_order2.proofs.order2_limits.greatest_safe_bound.Given as goal
 
 -- at most 50 bits are left to try
 abbrev pub invariant-loop-bits : goal.invariant-loop-bits
