@@ -5,7 +5,7 @@ use Common.{bend_at, Bool, CanRead, cases_Bool, false, floor_of, HasLists, HasNe
 use Common.{if-true, if◌then◌else◌, inl, inr, int_at, int_at-tabulate, is_listed, IsRuleApplied}
 use Common.{IsSized, IsSmallPlace, IsWithin, length, length-map-range_with_len, level_on}
 use Common.{level_unit, levels_after, levels_on, List, Machine, MatchBool, Motion, motion_at, Moves}
-use Common.{None, not, Option, Place, place_in, pos, rise_at, second_snapshot_after, SecondSnapshot}
+use Common.{None, Option, Place, place_in, pos, rise_at, second_snapshot_after, SecondSnapshot}
 use Common.{snapshot_of, state_count, state_on, subst, sym, tabulate, true}
 use Rattle.qss_order2.specs.Stores.{HasRises}
 use Rattle.qss_order2.proofs.Motions.{here_level, here_state, here_line, line_later, states_later}

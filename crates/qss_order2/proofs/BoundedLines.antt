@@ -39,5 +39,6 @@ between x (negsuc w) bound a b le first last = let step = less_down a b w le in 
 
 pub bounded_between : (x v bound : ℤ) (since t end : ℕ) → since ≤ t → t ≤ end → abs_of x ≤ℤ bound →
     abs_of (x +ℤ pos (end - since) *ℤ v) ≤ℤ bound → abs_of (x +ℤ pos (t - since) *ℤ v) ≤ℤ bound
-bounded_between x v bound since t end low high first last = between x v bound (t - since) (end - since)
+bounded_between x v bound since t end low high first last = between x v bound (t - since) (end -
+    since)
     (omega (arith, low, high)) first last

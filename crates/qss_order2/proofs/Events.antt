@@ -17,7 +17,8 @@ pub within_then : (Rule : ℤ → ℤ → ℤ → Type 0) (m : Machine) (from : 
 within_then Rule m from s (Events tick) to after n is_store e =
     let there = is_store e in
     ap (λ (t : ℕ). first_exceeding_limit m (motion_at m after.motion t).levels
-    after.motion.changes.items) n.1.here ∙ there.over ∙ none_over (overflow_of after.over) tick (omega (
+    after.motion.changes.items) n.1.here ∙ there.over
+    ∙ none_over (overflow_of after.over) tick (omega (
       arith,
       n.1.is_next,
     )) there.at_start

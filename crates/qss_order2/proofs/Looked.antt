@@ -16,7 +16,8 @@ module _ (Rule : ℤ → ℤ → ℤ → Type 0) (m : Machine) (tick ticks : ℕ
     Option ℕ) (left affected : List ℕ) (over : Option ℕ) (moves : Moves m (motion_at m q1 tick))
     (past : (j : ℕ) → j < state_count m → (place_in q1.places.items j).since ≤ tick)
     (next : IsNextEvent m tick (snapshot_of (motion_at m q1 tick)) due (is_listed left) ticks)
-    (arrived : HasNewLevels m (tick + ticks) left affected q1 q2) (quiet : AreQuiet m (is_listed left)
+    (arrived : HasNewLevels m (tick + ticks) left affected q1 q2) (quiet : AreQuiet m (is_listed
+    left)
     (is_listed affected)) (lists : HasLists m q3)
     (applied : IsRuleApplied Rule m left affected (levels_on (state_count m) q2.places.items
     q2.changes.items (tick + ticks)) q2 q3 over) where
@@ -88,7 +89,8 @@ module _ (Rule : ℤ → ℤ → ℤ → Type 0) (m : Machine) (tick ticks : ℕ
       same_states same_levels)
 
   pub visited_rows : (t : ℕ) (to : SecondSnapshot) → rows_of_left kind.Level t to (is_listed left)
-      (state_count m) ≡ tick_rows2 m t (last_second_snapshot w (event_free_snapshots m w found.0)) to
+      (state_count m) ≡ tick_rows2 m t (last_second_snapshot w (event_free_snapshots m w found.0))
+      to
   visited_rows t to = looked_rows Rule m tick w found.0 (is_listed left) v1 v3 over found.2 each
       refl has_ruled_slopes same_states same_levels t to
 

@@ -1,13 +1,13 @@
 -- Places, and the motion of all states that they give at a tick.
 use Rattle.qss_order2.proofs.Common
 use Common.{ℕ, ℤ, ◌*ℤ◌, ◌+ℤ◌, ◌+◌, ◌-◌, ◌<◌, ◌∙◌, ◌≡◌, ◌≤ℤ◌, ◌≤◌, abs_of, add-mul, ap}
-use Common.{AreMovableUntil, arith, bend_at, CanMove, CanRead, cases_Bool, curve_at, curve_zero}
-use Common.{false, HasLists, inl, inr, int_at, int_at-tabulate, ints, is_listed, IsSized}
-use Common.{IsSmallPlace, IsWithin, IsWritten, length, length-map-range_with_len, level_on}
-use Common.{levels_on, List, Machine, Motion, motion_at, MotionAt, Moves, no_place, not, Option}
-use Common.{Place, place_at, place_in, place_there, pos, rise_at, rise_on, rises_on}
-use Common.{second_snapshot_after, snapshot_of, Some, state_count, state_on, states_on, subst, sym}
-use Common.{tabulate, true, zero-*ℤ}
+use Common.{AreMovableUntil, arith, bend_at, CanMove, cases_Bool, curve_at, curve_zero, false}
+use Common.{HasLists, inl, inr, int_at, int_at-tabulate, ints, is_listed, IsSized, IsSmallPlace}
+use Common.{IsWithin, IsWritten, length, length-map-range_with_len, level_on, levels_on, List}
+use Common.{Machine, Motion, motion_at, MotionAt, Moves, no_place, Option, Place, place_at}
+use Common.{place_in, place_there, pos, rise_at, rise_on, rises_on, second_snapshot_after}
+use Common.{snapshot_of, Some, state_count, state_on, states_on, subst, sym, tabulate, true}
+use Common.{zero-*ℤ}
 use Rattle.qss_order2.specs.Stores.{AreLevelsBoundedUntil, AreLevelSlopesBounded}
 use Rattle.qss_order2.proofs.Bounds.{state_small, level_within, rise_small, rise_is, bend_small}
 use Rattle.qss_order2.proofs.Bounds.{bend_is, change_small}
@@ -337,40 +337,6 @@ sized_at m q tick lists = record {
   bends = lists.bends;
 }
 
--- what may be moved may be read
-pub can_read : (n tick window : ℕ) (places : List Place) (changes rises bends : List ℤ) →
-    length changes ≡ n → AreMovableUntil n tick window places changes rises bends →
-    (next : ℕ) → tick ≤ next → next ≤ window → CanRead n next places changes
-can_read n tick window places changes rises bends of_changes way next later within = record {
-  as_many_changes = of_changes;
-  past = λ j h. omega (arith, way.past j h, later);
-  near = λ j h. omega (arith, way.near j h, within);
-  small = λ j h before. (way.small j h).level;
-  small_changes = λ j h before. way.small_changes j h;
-}
-
--- the same of slices
-pub can_move_slices : (n tick : ℕ) (ps ps2 : List Place) (cs cs2 rs rs2 bs bs2 : List ℤ) →
-    ps ≡ ps2 → cs ≡ cs2 → rs ≡ rs2 → bs ≡ bs2 → length ps2 ≡ n → CanMove n tick ps2 cs2 rs2 bs2 →
-    CanMove (length ps) tick ps cs rs bs
-can_move_slices n tick ps ps2 cs cs2 rs rs2 bs bs2 e f g h many can =
-    subst (λ l. CanMove (length l) tick l cs rs bs) (sym e)
-    (subst (λ k. CanMove k tick ps2 cs rs bs) (sym many)
-    (subst (λ l. CanMove n tick ps2 l rs bs) (sym f) (subst (λ l. CanMove n tick ps2 cs2 l bs)
-    (sym g) (subst (λ l. CanMove n tick ps2 cs2 rs2 l) (sym h) can))))
-
-pub can_read_slices : (n tick : ℕ) (ps ps2 : List Place) (cs cs2 : List ℤ) → ps ≡ ps2 → cs ≡ cs2 →
-    length ps2 ≡ n → CanRead n tick ps2 cs2 → CanRead (length ps) tick ps cs
-can_read_slices n tick ps ps2 cs cs2 e f many can =
-    subst (λ l. CanRead (length l) tick l cs) (sym e) (subst (λ k. CanRead k tick ps2 cs) (sym many)
-    (subst (λ l. CanRead n tick ps2 l) (sym f) can))
-
-pub levels_of_slices : (n tick : ℕ) (ps ps2 : List Place) (cs cs2 : List ℤ) → ps ≡ ps2 → cs ≡ cs2 →
-    length ps2 ≡ n → levels_on (length ps) ps cs tick ≡ levels_on n ps2 cs2 tick
-levels_of_slices n tick ps ps2 cs cs2 e f many =
-    ap (λ (l : List Place). levels_on (length l) l cs tick) e
-    ∙ ap (λ (k : ℕ). levels_on k ps2 cs tick) many ∙ ap (λ (l : List ℤ). levels_on n ps2 l tick) f
-
 -- where all are at a tick
 module _ (m : Machine) (q : Motion) (tick : ℕ) (ps : List Place) (rs : List ℤ)
     (each : (j : ℕ) → j < state_count m → place_in ps j ≡ place_there tick q j) where
@@ -395,28 +361,6 @@ module _ (m : Machine) (q : Motion) (tick : ℕ) (ps : List Place) (rs : List �
       q.bends.items tick
       (λ j h. here_line (int_at rs j) (int_at q.bends.items j) (place_in ps j).since tick
       (since_all j h) ∙ own j h)
-
-pub place_slices : (tick j : ℕ) (ps ps2 : List Place) (cs cs2 rs rs2 bs bs2 : List ℤ) → ps ≡ ps2 →
-    cs ≡ cs2 → rs ≡ rs2 → bs ≡ bs2 →
-    place_at (place_in ps j) (int_at cs j) (int_at rs j) (int_at bs j) tick ≡ place_at
-    (place_in ps2 j) (int_at cs2 j) (int_at rs2 j) (int_at bs2 j) tick
-place_slices tick j ps ps2 cs cs2 rs rs2 bs bs2 e f g h =
-    ap (λ (l : List Place). place_at (place_in l j) (int_at cs j) (int_at rs j) (int_at bs j) tick)
-    e
-    ∙ ap (λ (l : List ℤ). place_at (place_in ps2 j) (int_at l j) (int_at rs j) (int_at bs j) tick) f
-    ∙ ap (λ (l : List ℤ). place_at (place_in ps2 j) (int_at cs2 j) (int_at l j) (int_at bs j) tick)
-    g
-    ∙ ap (λ (l : List ℤ). place_at (place_in ps2 j) (int_at cs2 j) (int_at rs2 j) (int_at l j) tick)
-    h
-
-pub rise_slices : (tick j : ℕ) (ps ps2 : List Place) (rs rs2 bs bs2 : List ℤ) → ps ≡ ps2 →
-    rs ≡ rs2 → bs ≡ bs2 →
-    rise_on (place_in ps j) (int_at rs j) (int_at bs j) tick ≡ rise_on (place_in ps2 j)
-    (int_at rs2 j) (int_at bs2 j) tick
-rise_slices tick j ps ps2 rs rs2 bs bs2 e f g =
-    ap (λ (l : List Place). rise_on (place_in l j) (int_at rs j) (int_at bs j) tick) e
-    ∙ ap (λ (l : List ℤ). rise_on (place_in ps2 j) (int_at l j) (int_at bs j) tick) f
-    ∙ ap (λ (l : List ℤ). rise_on (place_in ps2 j) (int_at rs2 j) (int_at l j) tick) g
 
 -- moving some states to a tick does not change the levels there
 pub moved_levels : (n tick : ℕ) (q : Motion) (ps : List Place) (affected : List ℕ) →
@@ -479,13 +423,15 @@ some_same : (a b : ℤ) → Some a ≡ Some b → a ≡ b
 some_same a b e = cc
 
 -- levels within a bound, some of which were new at a tick
-pub bounded_on : (n : ℕ) (old new : List Place) (vs ws : List ℤ) (left : List ℕ) (tick t end end2 : ℕ)
-    (bounded safe_bound2 : Option ℤ) (bound : ℤ) → bounded ≡ Some bound → safe_bound2 ≡ bounded → tick ≤ t → end2 ≡ end →
-    AreLevelsBoundedUntil n old vs tick end bounded → ((j u : ℕ) → is_listed left j ≡ true → t ≤ u → u ≤ end2 →
+pub bounded_on : (n : ℕ) (old new : List Place) (vs ws : List ℤ) (left : List ℕ) (tick t end end2 :
+    ℕ)
+    (safe safe2 : Option ℤ) (bound : ℤ) → safe ≡ Some bound → safe2 ≡ safe → tick ≤ t → end2 ≡ end →
+    AreLevelsBoundedUntil n old vs tick end safe → ((j u : ℕ) → is_listed left j ≡ true → t ≤ u → u
+    ≤ end2 →
     abs_of (level_on (place_in new j) (int_at ws j) u) ≤ℤ bound) →
     ((j u : ℕ) → j < n → is_listed left j ≡ false → t ≤ u → level_on (place_in new j) (int_at ws j)
-    u ≡ level_on (place_in old j) (int_at vs j) u) → AreLevelsBoundedUntil n new ws t end2 safe_bound2
-bounded_on n old new vs ws left tick t end end2 bounded safe_bound2 bound is same later ends before fresh
+    u ≡ level_on (place_in old j) (int_at vs j) u) → AreLevelsBoundedUntil n new ws t end2 safe2
+bounded_on n old new vs ws left tick t end end2 safe safe2 bound is same later ends before fresh
     along = (
       bound,
       same ∙ is,
@@ -500,12 +446,12 @@ bounded_on n old new vs ws left tick t end end2 bounded safe_bound2 bound is sam
     )
 
 -- level slopes within a bound, some of which are new
-pub slopes_bounded : (n : ℕ) (vs ws : List ℤ) (left : List ℕ) (bounded safe_bound2 : Option ℤ) (bound : ℤ) →
-    bounded ≡ Some bound → safe_bound2 ≡ bounded → AreLevelSlopesBounded n vs bounded →
+pub slopes_bounded : (n : ℕ) (vs ws : List ℤ) (left : List ℕ) (safe safe2 : Option ℤ) (bound : ℤ) →
+    safe ≡ Some bound → safe2 ≡ safe → AreLevelSlopesBounded n vs safe →
     ((j : ℕ) → is_listed left j ≡ true → abs_of (int_at ws j) ≤ℤ bound) →
     ((j : ℕ) → j < n → is_listed left j ≡ false → int_at ws j ≡ int_at vs j) →
-    AreLevelSlopesBounded n ws safe_bound2
-slopes_bounded n vs ws left bounded safe_bound2 bound is same before fresh kept = (
+    AreLevelSlopesBounded n ws safe2
+slopes_bounded n vs ws left safe safe2 bound is same before fresh kept = (
   bound,
   same ∙ is,
   λ j h. elim (cases_Bool (is_listed left j)) [

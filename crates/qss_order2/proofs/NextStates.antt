@@ -84,7 +84,8 @@ no_mode m row from next right_side known is entries products i low high =
     let none : SlopeRow = record { entries = []; products = []; beta = pos 0 } in
     let own : right_side ≡ row_at m row = is ∙ get_or_default m.rows row right_side none known in
     let free =
-    λ (k : ℕ) (d : Product) (inside : k < length right_side.products) (e : (get_or right_side.products k d).state ≡ i).
+    λ (k : ℕ) (d : Product) (inside : k < length right_side.products) (e : (get_or
+    right_side.products k d).state ≡ i).
     absurd (omega (arith, products k d inside (omega (arith, e, low)), e, high)) in
     subst (λ (r : SlopeRow). mode_coefficient m.f (state_count m) r (start_discretes m) i ≡ pos 0)
     own

@@ -2,9 +2,9 @@
 use Rattle.qss_order2.proofs.Common
 use Common.{ℕ, ℤ, ◌*ℤ◌, ◌+ℤ◌, ◌<◌, ◌∙◌, ◌≡◌, abs_of, ap, arith, bend_at, Bool, cases_Bool, false}
 use Common.{floor_of, if-false, if◌then◌else◌, inl, inr, int_at, int_at-tabulate, ints, IsQuiet}
-use Common.{leaves_quantum, level_unit, levels_after, List, Machine, pos, rise_at}
-use Common.{rise_change_weight, second_snapshot_after, SecondSnapshot, start_coefficient}
-use Common.{state_count, sum_below-same, sym, zero-*ℤ}
+use Common.{level_unit, levels_after, List, Machine, pos, rise_at, rise_change_weight}
+use Common.{second_snapshot_after, SecondSnapshot, start_coefficient, state_count, sum_below-same}
+use Common.{sym, zero-*ℤ}
 use Rattle.qss_order2.proofs.EventFree.{rise_later}
 
 module _ (m : Machine) (left : ℕ → Bool) (j : ℕ) (quiet : IsQuiet m left j) where

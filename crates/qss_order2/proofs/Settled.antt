@@ -1,13 +1,12 @@
 -- What follows from new levels, of the states of a list.
 use Rattle.qss_order2.proofs.Common
-use Common.{ℕ, ℤ, ◌*ℤ◌, ◌+◌, ◌<◌, ◌^◌, ◌∙◌, ◌≡◌, ◌≤ℤ◌, ◌≤◌, abs_of, All, among_at, ap, AreChanges}
-use Common.{AreQuiet, arith, bend_at, Bool, CanRead, cases_lt, exceeds, false, get_or}
-use Common.{get_or_default, HasChanged, index_of, inl, inr, int_at, int_at-tabulate, int_wrap, ints}
-use Common.{is_listed, IsAnswer, IsRuleApplied, IsRuled2, IsSafeBound, IsWithin, IsWritten, length}
-use Common.{level_unit, levels_on, List, Machine, MatchBool, Motion, None, none_past, not, Option}
-use Common.{option_or-None, past_levels, Place, place_in, pos, refl, rise_at, rise_change_weight}
-use Common.{rise_weight, Some, start_coefficient, state_count, subst, sym, tabulate, true}
-use Common.{unit_fits, within-passes}
+use Common.{ℕ, ℤ, ◌*ℤ◌, ◌+◌, ◌<◌, ◌^◌, ◌∙◌, ◌≡◌, ◌≤ℤ◌, ◌≤◌, abs_of, All, ap, AreChanges, AreQuiet}
+use Common.{arith, bend_at, Bool, CanRead, cases_lt, exceeds, false, HasChanged, index_of, inl, inr}
+use Common.{int_at, int_at-tabulate, int_wrap, ints, is_listed, IsAnswer, IsRuleApplied, IsRuled2}
+use Common.{IsSafeBound, IsWithin, IsWritten, length, level_unit, levels_on, List, Machine}
+use Common.{MatchBool, Motion, None, none_past, Option, option_or-None, past_levels, Place}
+use Common.{place_in, pos, refl, rise_at, rise_change_weight, rise_weight, Some, start_coefficient}
+use Common.{state_count, subst, sym, tabulate, true, unit_fits, within-passes}
 use Rattle.std.specs.Int.{w128}
 use Rattle.std.specs.Prelude.{is_some}
 use Rattle.qss_order2.proofs.Bounds.{rise_by_weight, bend_by_weight, factor_small}
@@ -18,17 +17,6 @@ use Rattle.qss_order2.proofs.SizeSums.{size_from_zero}
 use Rattle.qss_order2.proofs.Quiet.{same_bend_weight}
 use Rattle.qss_order2.proofs.Settlings.{are_changes, near_ones, near_are, past_first, past_then}
 use Rattle.qss_order2.proofs.Settlings.{of_changes}
-use Rattle.qss_order2.proofs.Tables.{all_of}
-
--- numbers that are all in a list of small ones are small
-pub inside_of : (n : ℕ) (left affected : List ℕ) → ((j : ℕ) → is_listed left j ≡ true →
-    is_listed affected j ≡ true) → All (λ j. j < n) affected → All (λ j. j < n) left
-inside_of n left affected own below k d h =
-    let there : is_listed affected (get_or left k 0) ≡ true =
-    own (get_or left k 0) (among_at left k h) in
-    let found = index_of affected (get_or left k 0) there in
-    let same : get_or left k d ≡ get_or left k 0 = get_or_default left k d 0 h in
-    omega (arith, below found.0 0 found.1, found.2, same)
 
 pub listed_below : (n : ℕ) (list : List ℕ) → All (λ j. j < n) list → (j : ℕ) →
     is_listed list j ≡ true → j < n
@@ -43,12 +31,6 @@ by_listed true P Q p q = p refl
 by_listed false P Q p q = q refl
 
 module _ (m : Machine) (levels : List ℤ) (none : past_levels m levels ≡ None) where
-  pub within_levels : length levels ≡ state_count m → All (IsWithin 50) levels
-  within_levels many = all_of (IsWithin 50) levels (state_count m) many (λ k h. omega (
-    arith,
-    none_past 49 levels (option_or-None _ _ none).0 k,
-  ))
-
   pub rise_bounded : (j : ℕ) → j < state_count m → IsWithin 94 (rise_at m j levels)
   rise_bounded j h = rise_by_weight m levels (option_or-None _ _ none).1 j h
 

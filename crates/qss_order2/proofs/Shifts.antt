@@ -4,7 +4,7 @@ use Common.{ℕ, ℤ, ◌%◌, ◌*ℤ◌, ◌+ℤ◌, ◌+◌, ◌-ℤ◌, ◌-
 use Common.{AreQuiet, arith, bend_at, Bool, curve_at, curve_more, curve_zero, due_at, eqb-false}
 use Common.{false, FirstUpTo, floor_of, gap_after, HasDues, if-false, if◌then◌else◌, int_at}
 use Common.{int_at-tabulate, ints, is_due, IsDue2, IsNextEvent, IsQuiet, IsWindow, KeepsDues}
-use Common.{level_unit, levels_after, limit_check_period, List, Machine, None, not, Option, pos}
+use Common.{level_unit, levels_after, limit_check_period, List, Machine, None, Option, pos}
 use Common.{reach_of, refl, rise_at, second_snapshot_after, SecondSnapshot, Some, state_count}
 use Common.{subst, suc, sym, unsigned_abs, until, zero}
 use Rattle.qss_order2.proofs.EventFree.{gap_is}

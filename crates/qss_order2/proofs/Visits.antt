@@ -62,7 +62,8 @@ next_inside m w j h =
     (sym l) own)
 
 module _ (Rule : ℤ → ℤ → ℤ → Type 0) (m : Machine) (tick : ℕ) (w : SecondSnapshot) (skipped : ℕ)
-    (left : ℕ → Bool) (states levels : List ℤ) (moved : IsMovedOn m tick w skipped left states levels)
+    (left : ℕ → Bool) (states levels : List ℤ) (moved : IsMovedOn m tick w skipped left states
+    levels)
     (each : HasEach m w)
     (changes : List ℤ) (are : AreChanges Rule m (left) levels w.changes changes) where
   answers : AreChanges Rule m (leaves_quantum m (second_snapshot_after m w skipped))
@@ -118,14 +119,17 @@ module _ (Rule : ℤ → ℤ → ℤ → Type 0) (m : Machine) (tick : ℕ) (w :
 
   -- the rows of the requantized states
   pub rows_are : (t : ℕ) (next : SecondSnapshot) → rows_of_left kind.Level t next left
-      (state_count m) ≡ tick_rows2 m t (last_second_snapshot w (event_free_snapshots m w skipped)) next
+      (state_count m) ≡ tick_rows2 m t (last_second_snapshot w (event_free_snapshots m w skipped))
+      next
   rows_are t next =
       flat_same (left_rows kind.Level t next left) (λ j. if leaves_quantum m
-      (second_snapshot_after m w skipped) j then level_row kind.Level t next j ∷ slope_row t next j ∷
+      (second_snapshot_after m w skipped) j then level_row kind.Level t next j ∷ slope_row t next j
+      ∷
       [] else []) 0 (state_count m)
       (λ j low high. ap (λ (b : Bool). if b then level_row kind.Level t next j ∷ slope_row t next j
       ∷ [] else []) (moved.flags j (omega (arith, high))))
-      ∙ ap (λ (v : SecondSnapshot). tick_rows2 m t v next) (sym (event_free_last Rule m tick w each skipped))
+      ∙ ap (λ (v : SecondSnapshot). tick_rows2 m t v next) (sym (event_free_last Rule m tick w each
+      skipped))
 
   -- each state is near its level there
   pub near_there : IsNear2 m (record { states = states; levels = levels; changes = changes })
@@ -190,7 +194,8 @@ module _ (Rule : ℤ → ℤ → ℤ → Type 0) (m : Machine) (tick : ℕ) (w :
         after_handlers.is_over)
 
     pub looked_rows : (t : ℕ) (next : SecondSnapshot) → rows_of_left kind.Level t next left
-        (state_count m) ≡ tick_rows2 m t (last_second_snapshot w (event_free_snapshots m w skipped)) next
+        (state_count m) ≡ tick_rows2 m t (last_second_snapshot w (event_free_snapshots m w skipped))
+        next
     looked_rows t next = rows_are Rule m tick w skipped left q1.states q1.levels moved each
         after_handlers.changes are t next
 

@@ -87,4 +87,5 @@ pub record EventFreeTicksAreForced : Type 0 where
       IsSecondStep FreeChange m (tick + ticks + 1) (second_snapshot_after m w ticks) result ↔
       (result ≡ Ok (second_snapshot_after m w (ticks + 1)))
   pub kept : (m : Machine) (tick : ℕ) (w : SecondSnapshot) (ticks : ℕ) → HasEach m w →
-      AreEventFree2 m tick w (ticks + 1) → is_requantization m (second_snapshot_after m w ticks) ≡ false
+      AreEventFree2 m tick w (ticks + 1) → is_requantization m (second_snapshot_after m w ticks)
+      ≡ false

@@ -17,11 +17,13 @@ past_levels m levels = option_or (first_exceeding bits_of_second_level levels)
 
 -- the least row whose absolute row sum exceeds its limit
 abbrev pub heavy_row : Machine → List ℤ → Option ℕ
-heavy_row m levels = first_exceeding bits_of_second_state (tabulate (state_count m) (rise_weight m levels))
+heavy_row m levels = first_exceeding bits_of_second_state (tabulate (state_count m) (rise_weight m
+    levels))
 
 -- the least row for which the absolute row sum of the level slopes exceeds its limit
 abbrev pub steep_row : Machine → List ℤ → Option ℕ
-steep_row m changes = first_exceeding bits_of_second_state (tabulate (state_count m) (rise_change_weight m changes))
+steep_row m changes = first_exceeding bits_of_second_state (tabulate (state_count m)
+    (rise_change_weight m changes))
 
 -- the absolute row sum of the level slopes of a row is within its limit
 abbrev pub IsFlat : Machine → List ℤ → ℕ → Type 0
@@ -44,4 +46,5 @@ IsSafeBound m bound =
 
 -- if a bound is known, it has at most 49 bits, and levels up to it exceed no limit
 abbrev pub IsSafeIfKnown : Machine → Option ℤ → Type 0
-IsSafeIfKnown m safe_bound = (level : ℤ) → safe_bound ≡ Some level → IsSecondLevel level × IsSafeBound m level
+IsSafeIfKnown m safe_bound = (level : ℤ) → safe_bound ≡ Some level → IsSecondLevel level
+    × IsSafeBound m level

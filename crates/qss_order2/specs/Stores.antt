@@ -22,6 +22,8 @@ use Rattle.qss_order2.specs.declared.outcome2.Outcome2.{Outcome2}
 use Rattle.qss_order2.specs.declared.order2_rows.Row2.{Row2}
 use Rattle.qss_order2.specs.declared.order2_rows.Kind2.{Kind2}
 use Rattle.qss_order2.specs.declared.order2_rows.Kind2.TheVariants.{Slope}
+use Rattle.mu_num.specs.Writes.{IsWritten}
+use Rattle.qss_order2.specs.Places.{AreLevelsWithin, no_place}
 use Rattle.qss_order2.specs.Places.{place_in, place_at, floor_place, level_on, rise_on, states_on}
 use Rattle.qss_order2.specs.Places.{levels_on, rises_on, IsSmallPlace, IsLineBounded, CanMove, CanRead}
 use Rattle.qss_order2.specs.SecondRuns.{level_row, slope_row}
@@ -85,6 +87,26 @@ abbrev pub AreLinesBounded : ℤ → List ℕ → Motion → ℕ → Type 0
 AreLinesBounded bound list q window =
     (j : ℕ) → is_listed list j ≡ true → IsLineBounded bound (place_in q.places.items j)
     (int_at q.changes.items j) window
+
+-- a bound is known, the level slopes of the states of a list are within it, and so are their levels
+-- up to the end of a window
+abbrev pub AreLinesSafe : Option ℤ → List ℕ → Motion → ℕ → Type 0
+AreLinesSafe safe_bound list q window =
+    (bound : ℤ) × (safe_bound ≡ Some bound) × AreLinesBounded bound list q window
+
+-- a bound is known, and the levels of the states of a list are within it at their own ticks
+abbrev pub AreLevelsSafe : Option ℤ → List ℕ → Motion → Type 0
+AreLevelsSafe safe_bound list q =
+    (bound : ℤ) × (safe_bound ≡ Some bound) × AreLevelsWithin bound list q.places.items
+
+-- the levels of a motion can be computed at a tick
+abbrev pub CanReadAt : ℕ → Motion → Type 0
+CanReadAt tick q = CanRead (length q.places.items) tick q.places.items q.changes.items
+
+-- all states of a motion can be advanced to a tick
+abbrev pub CanAdvance : ℕ → Motion → Type 0
+CanAdvance tick q = CanMove (length q.places.items) tick q.places.items q.changes.items
+    q.rises.items q.bends.items
 
 -- lists with an element for each state
 pub record HasLists (m : Machine) (q : Motion) : Type 0 where
@@ -178,7 +200,8 @@ pub record KeepsDues (m : Machine) (tick window : ℕ) (w : SecondSnapshot) (aff
 
 -- the number of ticks from a snapshot to the next event or limit check, and the states that leave
 -- their quanta there
-pub record IsNextEvent (m : Machine) (tick : ℕ) (w : SecondSnapshot) (due : ℕ → Option ℕ) (left : ℕ →
+pub record IsNextEvent (m : Machine) (tick : ℕ) (w : SecondSnapshot) (due : ℕ → Option ℕ) (left : ℕ
+    →
     Bool) (ticks : ℕ) : Type 0 where
   pub reach : ℕ
   pub is_window : IsWindow tick m.last reach
@@ -251,12 +274,14 @@ AreLevelsBoundedUntil n places changes tick end safe_bound =
 
 -- the level slopes are within the safe bound
 abbrev pub AreLevelSlopesBounded : ℕ → List ℤ → Option ℤ → Type 0
-AreLevelSlopesBounded n changes safe_bound = (bound : ℤ) × (safe_bound ≡ Some bound) × ((j : ℕ) → j < n →
+AreLevelSlopesBounded n changes safe_bound = (bound : ℤ) × (safe_bound ≡ Some bound) × ((j : ℕ)
+    → j < n →
     abs_of (int_at changes j) ≤ℤ bound)
 
 -- each state is at a tick of its own up to this one, at most a period before the end of the window,
 -- and all numbers are small
-pub record AreMovableUntil (n tick window : ℕ) (places : List Place) (changes rises bends : List ℤ) :
+pub record AreMovableUntil (n tick window : ℕ) (places : List Place) (changes rises bends : List ℤ)
+    :
     Type 0 where
   pub past : (j : ℕ) → j < n → (place_in places j).since ≤ tick
   pub near : (j : ℕ) → j < n → window ≤ (place_in places j).since + look_span
@@ -278,7 +303,8 @@ pub record IsWithinLimits (m : Machine) (tick : ℕ) (s : Store) : Type 0 where
   pub in_window : tick ≤ s.window
   pub bounded : s.unbounded ≡ false → AreLevelsBoundedUntil (state_count m) s.motion.places.items
       s.motion.changes.items tick s.window s.safe_bound
-  pub bounded_slopes : s.unbounded ≡ false → AreLevelSlopesBounded (state_count m) s.motion.changes.items s.safe_bound
+  pub bounded_slopes : s.unbounded ≡ false → AreLevelSlopesBounded (state_count m)
+      s.motion.changes.items s.safe_bound
   pub here : (j : ℕ) → is_listed s.affected.places j ≡ true →
       (j < state_count m) × ((place_in s.motion.places.items j).since ≡ tick)
 
@@ -291,6 +317,20 @@ pub record HasSchedule (m : Machine) (tick : ℕ) (s : Store) : Type 0 where
 abbrev pub place_there : ℕ → Motion → ℕ → Place
 place_there tick q j = place_at (place_in q.places.items j) (int_at q.changes.items j)
     (int_at q.rises.items j) (int_at q.bends.items j) tick
+
+-- the slope of a state at a later tick
+abbrev pub rise_there : ℕ → Motion → ℕ → ℤ
+rise_there tick q j = rise_on (place_in q.places.items j) (int_at q.rises.items j)
+    (int_at q.bends.items j) tick
+
+-- the states of a list are at a tick, with their slopes
+pub record IsAdvanced (tick : ℕ) (list : List ℕ) (old new : Motion) : Type 0 where
+  pub changes : new.changes ≡ old.changes
+  pub bends : new.bends ≡ old.bends
+  pub places : IsWritten no_place (λ j p. p ≡ place_there tick old j) list old.places.items
+      new.places.items
+  pub rises : IsWritten (pos 0) (λ j z. z ≡ rise_there tick old j) list old.rises.items
+      new.rises.items
 
 -- the slopes of all states at a tick are those of its levels
 abbrev pub FollowsLevels : Machine → ℕ → Motion → Type 0
@@ -308,7 +348,8 @@ HasRisen m tick affected q =
 
 -- the affected states are at a tick, those that left have new levels, and the slopes follow; the
 -- other states are unchanged
-pub record HasNewLevels (m : Machine) (tick : ℕ) (left affected : List ℕ) (old new : Motion) : Type 0
+pub record HasNewLevels (m : Machine) (tick : ℕ) (left affected : List ℕ) (old new : Motion) : Type
+    0
   where
     pub changes : new.changes.items ≡ old.changes.items
     pub bends : new.bends.items ≡ old.bends.items
@@ -323,6 +364,11 @@ pub record HasNewLevels (m : Machine) (tick : ℕ) (left affected : List ℕ) (o
     pub others : (j : ℕ) → is_listed affected j ≡ false →
         place_in new.places.items j ≡ place_in old.places.items j
 
+-- the window and what is known of the levels in it are the same
+abbrev pub KeepsWindow : Store → Store → Type 0
+KeepsWindow old new = (new.window ≡ old.window) × (new.unbounded ≡ old.unbounded)
+    × (new.safe_bound ≡ old.safe_bound)
+
 -- at a tick, the states that left have new levels, and the rule can be applied to them
 pub record CanApplyRule (m : Machine) (tick : ℕ) (s : Store) : Type 0 where
   pub reads : CanRead (state_count m) tick s.motion.places.items s.motion.changes.items
@@ -334,11 +380,13 @@ pub record CanApplyRule (m : Machine) (tick : ℕ) (s : Store) : Type 0 where
       × ((j : ℕ) → j < state_count m → is_listed s.left.items j ≡ false →
       abs_of (level_on (place_in s.motion.places.items j) (int_at s.motion.changes.items j) tick)
       ≤ℤ bound)
-  pub bounded_slopes : s.unbounded ≡ false → AreLevelSlopesBounded (state_count m) s.motion.changes.items s.safe_bound
+  pub bounded_slopes : s.unbounded ≡ false → AreLevelSlopesBounded (state_count m)
+      s.motion.changes.items s.safe_bound
   pub risen : HasRisen m tick s.affected.places s.motion
   pub bends : (j : ℕ) → j < state_count m → int_at s.motion.bends.items j ≡ int_wrap w128
       (bend_at m j s.motion.changes.items)
-  pub flat : (j : ℕ) → j < state_count m → exceeds bits_of_second_state (rise_change_weight m s.motion.changes.items
+  pub flat : (j : ℕ) → j < state_count m → exceeds bits_of_second_state (rise_change_weight m
+      s.motion.changes.items
       j) ≡ false
   pub held : (j : ℕ) → j < state_count m → IsWithin 95
       (level_unit m *ℤ int_at s.motion.changes.items j)

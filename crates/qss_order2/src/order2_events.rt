@@ -7,7 +7,7 @@ ghost use Rattle.qss_order2.specs.Events.{IsNext2};
 ghost use Rattle.qss_order2.specs.Places.{place_in};
 ghost use Rattle.qss_order2.specs.SecondRunLimits.{past_levels};
 ghost use Rattle.qss_order2.specs.SlopeRules.{IsRuled2};
-ghost use Rattle.qss_order2.specs.Stores.{snapshot_at, levels_of, AreLinesBounded, IsMovableUntil, motion_at, HasLists, FitsMachine, Moves, IsStoreAt, IsWithinLimits, HasSchedule, KeepsDues, due_at, until, IsNextEvent, HasNewLevels, AreQuiet, FollowsLevels, CanApplyRule, IsRuleApplied};
+ghost use Rattle.qss_order2.specs.Stores.{snapshot_at, levels_of, AreLinesSafe, KeepsWindow, IsMovableUntil, motion_at, HasLists, FitsMachine, Moves, IsStoreAt, IsWithinLimits, HasSchedule, KeepsDues, due_at, until, IsNextEvent, HasNewLevels, AreQuiet, FollowsLevels, CanApplyRule, IsRuleApplied};
 
 use crate::fixed_machine::FixedMachine;
 use crate::order2_leaving::{Window, set_leaving_dues, ticks_to_limit_check, ticks_to_next_event};
@@ -168,8 +168,7 @@ fn move_to_event(f: &FixedMachine, tick: u64, s: &mut Store) -> u64
         s.old.motion s.new.motion }
     ensures dues { (j : ℕ) → is_listed s.new.left.items j ≡ false
         → due_at s.new.dues j ≡ due_at s.old.dues j }
-    ensures kept { (s.new.window ≡ s.old.window) × (s.new.unbounded ≡ s.old.unbounded)
-        × (s.new.safe_bound ≡ s.old.safe_bound) }
+    ensures kept { KeepsWindow s.old s.new }
     ensures over { s.new.over ≡ s.old.over }
 {
     let ticks = ticks_to_next_event(f, tick, s.window, &mut s.dues, &mut s.left);
@@ -218,8 +217,7 @@ fn apply_rule_at_event(
         } }
     ensures unbounded { overflow_of result ≡ None
         → s.new.unbounded ≡ false
-        → (s.old.unbounded ≡ false) × (bound : ℤ) × (s.old.safe_bound ≡ Some bound)
-        × AreLinesBounded bound s.old.left.items s.new.motion s.old.window }
+        → (s.old.unbounded ≡ false) × AreLinesSafe s.old.safe_bound s.old.left.items s.new.motion s.old.window }
 {
     check_event_levels(f, tick, s)?;
     apply_slope_rule(f, rule, tick, &s.left, &mut s.motion);

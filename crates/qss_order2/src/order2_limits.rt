@@ -3,10 +3,10 @@
 
 ghost use Rattle.std.specs.Prelude.{◌≡◌, ◌<◌, ◌≤◌, ◌^◌, ◌≤ℤ◌, ℕ, All, None, Some, true, false, length, ℤ, pos, IfOk};
 ghost use Rattle.qss_order2.specs.Prelude.{overflow_of, IsWithin, exceeds, state_count, is_listed, int_at, first_exceeding, abs_of, variable_limit, bits_of_second_level, bits_of_second_state};
-ghost use Rattle.qss_order2.specs.Places.{AreLevelsWithin, AreLinesWithin, place_in, CanRead, IsLineWithin};
+ghost use Rattle.qss_order2.specs.Places.{AreLevelsWithin, AreLinesWithin, place_in, IsLineWithin};
 ghost use Rattle.qss_order2.specs.SecondRunLimits.{heavy_row, steep_row, IsFlat, past_levels, IsSafeBound, IsSafeIfKnown};
 ghost use Rattle.qss_order2.specs.SecondSteps.{rise_weight, rise_change_weight};
-ghost use Rattle.qss_order2.specs.Stores.{AreLinesBounded};
+ghost use Rattle.qss_order2.specs.Stores.{AreLevelsSafe, AreLinesSafe, CanReadAt};
 
 use crate::fixed_machine::FixedMachine;
 use crate::order2_motion::Motion;
@@ -57,8 +57,7 @@ pub(crate) fn is_limit_check_needed(
 ) -> bool
     requires { All (λ j. j < length q.now.places.items) list.now }
     ensures was { result ≡ false → unbounded ≡ false }
-    ensures bounded { result ≡ false
-        → (bound : ℤ) × (safe_bound ≡ Some bound) × AreLevelsWithin bound list.now q.now.places.items }
+    ensures bounded { result ≡ false → AreLevelsSafe safe_bound list.now q.now }
 {
     if unbounded {
         return true;
@@ -79,11 +78,9 @@ pub(crate) fn is_line_limit_needed(
     window: u64,
 ) -> bool
     requires list { All (λ j. j < length q.now.places.items) list.now }
-    requires reads { CanRead (length q.now.places.items) window q.now.places.items
-        q.now.changes.items }
+    requires reads { CanReadAt window q.now }
     ensures was { result ≡ false → unbounded ≡ false }
-    ensures bounded { result ≡ false
-        → (bound : ℤ) × (safe_bound ≡ Some bound) × AreLinesBounded bound list.now q.now window }
+    ensures bounded { result ≡ false → AreLinesSafe safe_bound list.now q.now window }
 {
     if unbounded {
         return true;
@@ -144,7 +141,7 @@ fn is_level_above_limit(z: i128, bound: i128) -> bool
 // bound.
 fn has_line_above_limit(list: &[u32], q: &Motion, tick: u64, bound: i128) -> bool
     requires list { All (λ j. j < length q.now.places.items) list.now }
-    requires reads { CanRead (length q.now.places.items) tick q.now.places.items q.now.changes.items }
+    requires reads { CanReadAt tick q.now }
     ensures { result ≡ false
         → AreLinesWithin bound list.now q.now.places.items q.now.changes.items tick }
 {
@@ -160,7 +157,7 @@ fn has_line_above_limit(list: &[u32], q: &Motion, tick: u64, bound: i128) -> boo
 // bound.
 fn is_line_above_limit(q: &Motion, tick: u64, state: usize, bound: i128) -> bool
     requires state { state < length q.now.places.items }
-    requires reads { CanRead (length q.now.places.items) tick q.now.places.items q.now.changes.items }
+    requires reads { CanReadAt tick q.now }
     ensures { result ≡ false
         → IsLineWithin bound (place_in q.now.places.items state)
         (int_at q.now.changes.items state) tick }

@@ -2,7 +2,8 @@
 
 ghost use Rattle.std.specs.Prelude.{◌≡◌, ◌≤◌, ◌<◌, ◌+◌, ◌*◌, ◌-◌, ◌/◌, ◌+ℤ◌, ◌-ℤ◌, ◌*ℤ◌, All, ℕ, ℤ, List, length, pos};
 ghost use Rattle.qss_order2.specs.Prelude.{int_wrap, w128, sum_to, curve_at, IsWithin, IsWritten, int_at, look_span, IsSecondLevel, IsSecondState, state_count, level_unit};
-ghost use Rattle.qss_order2.specs.Places.{levels_in, moved_in, no_place, place_in, place_at, floor_place, level_on, rise_on, level_shift, IsSmallPlace, CanMove, CanRead};
+ghost use Rattle.qss_order2.specs.Places.{levels_in, no_place, place_in, place_at, floor_place, level_on, level_shift, IsSmallPlace};
+ghost use Rattle.qss_order2.specs.Stores.{CanAdvance, CanReadAt, IsAdvanced, place_there, rise_there};
 
 use crate::fixed_machine::{FixedMachine, add_fixed_column_multiple};
 use mu_num::floor_div;
@@ -28,21 +29,9 @@ pub(crate) struct Motion {
 impl Motion {
     /// Moves the states of a list to a tick, with their slopes.
     pub(crate) fn advance(&mut self, list: &[u32], tick: u64)
-        requires moves { CanMove (length self.old.places.items) tick self.old.places.items
-            self.old.changes.items self.old.rises.items self.old.bends.items }
+        requires moves { CanAdvance tick self.old }
         requires list { All (λ j. j < length self.old.places.items) list.now }
-        ensures changes { self.new.changes ≡ self.old.changes }
-        ensures bends { self.new.bends ≡ self.old.bends }
-        ensures places { IsWritten no_place
-            (λ j p. p
-            ≡ moved_in self.old.places.items self.old.changes.items self.old.rises.items
-            self.old.bends.items tick j) list.now
-            self.old.places.items self.new.places.items }
-        ensures rises { IsWritten (pos 0)
-            (λ j z. z
-            ≡ rise_on (place_in self.old.places.items j) (int_at self.old.rises.items j)
-            (int_at self.old.bends.items j) tick) list.now
-            self.old.rises.items self.new.rises.items }
+        ensures { IsAdvanced tick list.now self.old self.new }
     {
         for state in list {
             let j = *state as usize;
@@ -54,12 +43,9 @@ impl Motion {
 
     // The slope of a state at a tick.
     fn rise_at(&self, state: usize, tick: u64) -> i128
-        requires moves { CanMove (length self.now.places.items) tick self.now.places.items
-            self.now.changes.items self.now.rises.items self.now.bends.items }
+        requires moves { CanAdvance tick self.now }
         requires state { state < length self.now.places.items }
-        ensures { result
-            ≡ rise_on (place_in self.now.places.items state) (int_at self.now.rises.items state)
-            (int_at self.now.bends.items state) tick }
+        ensures { result ≡ rise_there tick self.now state }
     {
         let p = self.places[state];
         if p.since == tick {
@@ -70,12 +56,9 @@ impl Motion {
 
     /// The place of a state at a tick. A place of that tick is returned unchanged.
     pub(crate) fn place_at(&self, state: usize, tick: u64) -> Place
-        requires moves { CanMove (length self.now.places.items) tick self.now.places.items
-            self.now.changes.items self.now.rises.items self.now.bends.items }
+        requires moves { CanAdvance tick self.now }
         requires state { state < length self.now.places.items }
-        ensures { result
-            ≡ moved_in self.now.places.items self.now.changes.items self.now.rises.items
-            self.now.bends.items tick state }
+        ensures { result ≡ place_there tick self.now state }
     {
         let p = self.places[state];
         if p.since == tick {
@@ -93,8 +76,7 @@ impl Motion {
     /// The level of a state at a tick.
     pub(crate) fn level_at(&self, state: usize, tick: u64) -> i128
         requires state { state < length self.now.places.items }
-        requires reads { CanRead (length self.now.places.items) tick self.now.places.items
-            self.now.changes.items }
+        requires reads { CanReadAt tick self.now }
         ensures { result
             ≡ level_on (place_in self.now.places.items state) (int_at self.now.changes.items state)
             tick }
@@ -108,8 +90,7 @@ impl Motion {
 
     /// Lists the levels of all states at a tick.
     pub(crate) fn list_levels(&self, tick: u64, levels: &mut [i128])
-        requires reads { CanRead (length self.now.places.items) tick self.now.places.items
-            self.now.changes.items }
+        requires reads { CanReadAt tick self.now }
         requires levels { length levels.old ≡ length self.now.places.items }
         ensures { levels.new ≡ levels_in self.now.places.items self.now.changes.items tick }
     {

@@ -3,9 +3,8 @@
 
 ghost use Rattle.std.specs.Prelude.{◌≡◌, ◌+◌, ◌<◌, ◌≤◌, ◌++◌, ◌∷◌, [], length, pos, flat_map, vec_len, vec_capacity, OnOk, OnErr};
 ghost use Rattle.qss_order2.specs.Prelude.{state_count, discrete_count, tabulate, AreRisingBelow, variable_limit, lines_in, number_text};
-ghost use Rattle.qss_order2.specs.Places.{moved_in, CanMove};
 ghost use Rattle.qss_order2.specs.SecondRuns.{discrete_rows2, end_rows, overflow_row};
-ghost use Rattle.qss_order2.specs.Stores.{CanMoveTo, snapshot_of, motion_at, HasLists, place_rows};
+ghost use Rattle.qss_order2.specs.Stores.{CanAdvance, CanMoveTo, place_there, snapshot_of, motion_at, HasLists, place_rows};
 ghost use Rattle.qss_order2.specs.declared.order2_rows.Kind2.TheVariants.{Slope, End};
 ghost use Rattle.qss_order2.specs.SecondRowLines as Spec;
 
@@ -142,15 +141,13 @@ fn push_state(row: Row2, change: i128, rows: &mut Vec<Row2>)
 // A row of the level of each state, at the end.
 fn add_levels(tick: u64, q: &Motion, rows: &mut Vec<Row2>)
     requires count_limit { length q.now.places.items ≤ variable_limit }
-    requires moves { CanMove (length q.now.places.items) tick q.now.places.items q.now.changes.items
-        q.now.rises.items q.now.bends.items }
+    requires moves { CanAdvance tick q.now }
     requires room { vec_len rows.old + length q.now.places.items ≤ vec_capacity rows.old }
     ensures rows { rows.new.items
         ≡ rows.old.items
         ++ tabulate (length q.now.places.items)
         (λ j.
-        let p = moved_in q.now.places.items q.now.changes.items q.now.rises.items q.now.bends.items
-        tick j in
+        let p = place_there tick q.now j in
         record { tick = tick; kind = End; var = j; level = p.level; state = p.state }) }
     ensures count { vec_len rows.new ≡ vec_len rows.old + length q.now.places.items }
     ensures room { vec_capacity rows.new ≡ vec_capacity rows.old }

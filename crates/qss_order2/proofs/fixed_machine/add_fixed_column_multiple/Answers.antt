@@ -29,7 +29,8 @@ loop-entry-preserved c =
     let of_sum : FitsSigned w128 c.fixed_column_sum.result = record { sfits = c.fixed_column_sum.type_inv } in
     let part : c.fixed_column_multiple.result ≡ int_wrap w128 (e.coef *ℤ a.factor) =
     simp to_z-of_z at c.fixed_column_multiple.ensures in
-    let sum : c.fixed_column_sum.result ≡ int_wrap w128 (int_at now e.var +ℤ c.fixed_column_multiple.result) =
+    let sum : c.fixed_column_sum.result ≡ int_wrap w128 (int_at now e.var +ℤ
+    c.fixed_column_multiple.result) =
     simp to_z-of_z at c.fixed_column_sum.ensures in
     let factor : ℤ = to_z w128 (of_z w128 a.factor) in
     let is : to_z w128 (of_z w128 c.fixed_column_sum.result) ≡ int_wrap w128
@@ -40,7 +41,8 @@ loop-entry-preserved c =
     record {
       as_many = length-set now e.var _ ∙ inv.as_many;
       so_far = λ i z low before. multiple_more a.column.now k factor now
-          (to_z w128 (of_z w128 c.fixed_column_sum.result)) i z h inside is (inv.so_far i z low before);
+          (to_z w128 (of_z w128 c.fixed_column_sum.result)) i z h inside is (inv.so_far i z low
+          before);
     }
 
 pub returns : goal.returns

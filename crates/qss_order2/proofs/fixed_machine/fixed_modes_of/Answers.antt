@@ -30,7 +30,8 @@ loop-state-preserved c =
     let added = simp to_z-of_z at c.in_ok-add_fixed_mode.ensures in
     let more : AreModesBelow m row (state + 1) new =
     modes_more m row state c.loop-state.entries.items new c.fixed_mode_at-coef.result
-    c.loop-state.invariant.modes c.fixed_mode_at-coef.ensures.value c.fixed_mode_at-coef.ensures.bound added.0
+    c.loop-state.invariant.modes c.fixed_mode_at-coef.ensures.value
+    c.fixed_mode_at-coef.ensures.bound added.0
     added.1 in
     record {
       within = next.ensures.known;

@@ -34,8 +34,10 @@ pub returns-in-Err-clause-next : goal.returns-in-Err-clause-next
 returns-in-Err-clause-next g c = (
   record {
     overflows = overflows_at_start (IsRuled2 c.args.rule.now.nearest)
-        (view_of c.args.f.now.machine c.args.from c.args.s.now None) c.args.from c.in-Err.over.var refl
-        (c.requires.is_store.at_start c.in-Err.over.var (ap overflow_of c.in-Err.is)) (c.requires.is_store.over
+        (view_of c.args.f.now.machine c.args.from c.args.s.now None) c.args.from c.in-Err.over.var
+        refl
+        (c.requires.is_store.at_start c.in-Err.over.var (ap overflow_of c.in-Err.is))
+        (c.requires.is_store.over
         ∙ ap overflow_of c.in-Err.is);
     own_rows = c.set_overflow_row.ensures;
     here = refl;
@@ -91,7 +93,8 @@ returns-then-not-is_empty-clause-next g c =
         is_next = stepped.is_next;
         in_time = c.go_to_event-step.ensures.tick_limit;
         is_step = stepped.is_step;
-        own_rows = visited.2 (ap overflow_of c.in_default-ran.is) ∙ rows_on Rule m c.args.from w0 before.0
+        own_rows = visited.2 (ap overflow_of c.in_default-ran.is)
+            ∙ rows_on Rule m c.args.from w0 before.0
             c.loop-tick.tick w before.1 visited.0 t next;
         some_rows = some_rows c.go_to_event-step.new.s.rows (sym c.is_empty.ensures
             ∙ c.if-not-is_empty.true);
@@ -101,7 +104,8 @@ returns-then-not-is_empty-clause-next g c =
     )
 
 pub returns-then-not-is_empty-clause-is_store : goal.returns-then-not-is_empty-clause-is_store
-returns-then-not-is_empty-clause-is_store g c e = c.go_to_event-step.ensures.is_store (ap overflow_of c.in_default-ran.is)
+returns-then-not-is_empty-clause-is_store g c e = c.go_to_event-step.ensures.is_store (ap
+    overflow_of c.in_default-ran.is)
 
 pub loop-tick-preserved : goal.loop-tick-preserved
 loop-tick-preserved g c =
@@ -117,7 +121,8 @@ loop-tick-preserved g c =
     (second_snapshot_unless (overflow_of c.go_to_event-step.result.ran) next) visited.1 in
     let stepped = subst (λ (o : Option ℕ). IsVisit2 Rule m c.args.from w0 (before.0 ++ visited.0) t
     (second_snapshot_unless o next)) (ap overflow_of c.in_default-ran.is) all in
-    let none = sym (visited.2 (ap overflow_of c.in_default-ran.is) ∙ rows_on Rule m c.args.from w0 before.0
+    let none = sym (visited.2 (ap overflow_of c.in_default-ran.is)
+    ∙ rows_on Rule m c.args.from w0 before.0
     c.loop-tick.tick w before.1 visited.0 t next)
     ∙ no_rows c.go_to_event-step.new.s.rows (sym c.is_empty.ensures ∙ c.if-not-is_empty.false) in
     record {

@@ -138,7 +138,8 @@ check_level_slopes-requires-clause-bounded g c is_bounded j h =
     let left : List ℕ = c.deref.result.now in
     let new : List ℤ = c.deref-3.result.now in
     let fresh = c.is_line_limit_needed-s.ensures.bounded is_bounded in
-    let before = c.check_event_levels.ensures.can_apply.bounded_slopes (c.is_line_limit_needed-s.ensures.was is_bounded) in
+    let before = c.check_event_levels.ensures.can_apply.bounded_slopes
+    (c.is_line_limit_needed-s.ensures.was is_bounded) in
     let bounds : before.0 ≡ fresh.0 = same_bound before.0 fresh.0 (sym before.1 ∙ fresh.1) in
     let small : (i : ℕ) → i < n → abs_of (int_at new i) ≤ℤ fresh.0 = λ i k.
     subst (λ (xs : List ℤ). abs_of (int_at xs i) ≤ℤ fresh.0) (sym c.deref-3.ensures.value)
@@ -171,7 +172,8 @@ returns-clause-applied g c =
     let changed : HasChanged (IsRuled2 nearest) m s1.left.items levels s1.motion q2 =
     subst (λ (l : List ℕ). HasChanged (IsRuled2 nearest) m l levels s1.motion q2)
     c.deref.ensures.value c.apply_slope_rule.ensures.applied in
-    let there : IsRuleApplied (IsRuled2 nearest) m s1.left.items s1.affected.places levels s1.motion q2
+    let there : IsRuleApplied (IsRuled2 nearest) m s1.left.items s1.affected.places levels s1.motion
+    q2
     over =
     is_rule_applied nearest m s1.left.items s1.affected.places levels s1.motion q2 over changed none
     (c.check_level_slopes.ensures ∙ ap (of_changes m) c.deref-3.ensures.value)

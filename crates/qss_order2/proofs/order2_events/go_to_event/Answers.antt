@@ -2,9 +2,9 @@
 use Rattle.qss_order2.proofs.Common
 use Common.{ℕ, ℤ, ◌+◌, ◌-◌, ◌<◌, ◌∙◌, ◌≡◌, ap, arith, due_at, false, int_at, is_listed, IsDue2}
 use Common.{IsRuled2, IsVisit2, KeepsDues, last_second_snapshot, levels_on, List, motion_at, Moves}
-use Common.{None, not, Option, overflow_of, Place, place_in, place_rows, refl}
-use Common.{second_snapshot_unless, SecondSnapshot, snapshot_of, Some, state_count, Store, subst}
-use Common.{sym, tick_rows2, true, until}
+use Common.{None, Option, overflow_of, Place, place_in, place_rows, refl, second_snapshot_unless}
+use Common.{SecondSnapshot, snapshot_of, Some, state_count, Store, subst, sym, tick_rows2, true}
+use Common.{until}
 use Rattle.std.specs.Prelude.{flat_map}
 use Rattle.qss_order2.proofs.Arrivals.{by_false, states2, levels2, past2, near2, small2, line2}
 use Rattle.qss_order2.proofs.Looks.{look_later}
@@ -78,7 +78,8 @@ returns-clause-visited g c =
       λ none.
           let on = moves_on Rule m tick ticks s1.motion s2.motion s3.motion due left
           s2.affected.places over moves past next arrived can_apply.quiet lists applied none in
-          let here = λ (j : ℕ) (e : is_listed left j ≡ true). can_apply.here j (can_apply.own j e) in
+          let here = λ (j : ℕ) (e : is_listed left j
+          ≡ true). can_apply.here j (can_apply.own j e) in
           let place : (j : ℕ) → place_in s3.motion.places.items j ≡ place_in s2.motion.places.items
           j = λ j. ap (λ ps. place_in ps.items j) applied.places in
           let since : (j : ℕ) → is_listed left j ≡ true → (place_in s3.motion.places.items j).since
@@ -150,7 +151,7 @@ returns-clause-is_store g c e =
     let window : s3.window ≡ s2.window = ap (λ (s : Store). s.window) same in
     let affected : s3.affected.places ≡ s2.affected.places =
     ap (λ (s : Store). s.affected.places) same in
-    let safe_bound3 : s3.safe_bound ≡ s1.safe_bound = ap (λ (s : Store). s.safe_bound) same
+    let same_bound : s3.safe_bound ≡ s1.safe_bound = ap (λ (s : Store). s.safe_bound) same
     ∙ c.move_to_event-ticks.ensures.kept.2 in
     let here3 : (j : ℕ) → is_listed s2.affected.places j ≡ true →
     (j < n) × ((place_in s3.motion.places.items j).since ≡ t) = λ j f.
@@ -193,18 +194,23 @@ returns-clause-is_store g c e =
             let now = c.apply_rule_at_event-ran.ensures.unbounded e is_bounded in
             let before = ready.goes.bounded (sym c.move_to_event-ticks.ensures.kept.1 ∙ now.0) in
             bounded_on n s1.motion.places.items s3.motion.places.items s1.motion.changes.items
-            s3.motion.changes.items left tick t s1.window s3.window s1.safe_bound s3.safe_bound now.1
-            (sym c.move_to_event-ticks.ensures.kept.2 ∙ now.2) safe_bound3
+            s3.motion.changes.items left tick t s1.window s3.window s1.safe_bound s3.safe_bound
+            now.1.0
+            (sym c.move_to_event-ticks.ensures.kept.2 ∙ now.1.1) same_bound
             (omega arith) (omega (arith, window, window2)) before (λ j u f low high.
-            (now.3 j f).levels u (omega (arith, since j f, low)) (omega (arith, high, window)))
+            (now.1.2 j f).levels u (omega (arith, since j f, low)) (omega (arith, high, window)))
             (λ j u h stays later. line2 m tick ticks left s2.affected.places s1.motion s2.motion
-            moves way.past arrived Rule s3.motion over levels there can_apply.quiet lists applied e j
+            moves way.past arrived Rule s3.motion over levels there can_apply.quiet lists applied e
+            j
             u h stays later);
         bounded_slopes = λ is_bounded.
             let now = c.apply_rule_at_event-ran.ensures.unbounded e is_bounded in
-            let before = ready.goes.bounded_slopes (sym c.move_to_event-ticks.ensures.kept.1 ∙ now.0) in
-            slopes_bounded n s1.motion.changes.items s3.motion.changes.items left s1.safe_bound s3.safe_bound now.1
-            (sym c.move_to_event-ticks.ensures.kept.2 ∙ now.2) safe_bound3 before (λ j f. (now.3 j f).slope)
+            let before = ready.goes.bounded_slopes (sym c.move_to_event-ticks.ensures.kept.1
+            ∙ now.0) in
+            slopes_bounded n s1.motion.changes.items s3.motion.changes.items left s1.safe_bound
+            s3.safe_bound now.1.0
+            (sym c.move_to_event-ticks.ensures.kept.2
+            ∙ now.1.1) same_bound before (λ j f. (now.1.2 j f).slope)
             (λ j h stays. ap (λ (xs : List ℤ). int_at xs j) (applied.taken e)
             ∙ by_false (is_listed left j) _ _ stays (applied.are_changes.each j h)
             ∙ ap (λ (xs : List ℤ). int_at xs j) arrived.changes);

@@ -2,8 +2,8 @@
 use Rattle.qss_order2.proofs.Common
 use Common.{ℕ, ℤ, ◌+ℤ◌, ◌<◌, ◌∙◌, ◌≡◌, ap, arith, cases_Bool, false, floor_place, Global}
 use Common.{HasNewLevels, inl, inr, int_at, int_wrap, ints, is_listed, IsWithin, length}
-use Common.{level_shift, level_unit, levels_on, List, not, Place, place_in, place_there, pos}
-use Common.{rise_at, rise_on, state_count, sym, true, Vec, with_items, with_items_is}
+use Common.{level_shift, level_unit, levels_on, List, Place, place_in, place_there, pos, rise_at}
+use Common.{rise_on, state_count, sym, true, Vec, with_items, with_items_is}
 use Rattle.std.specs.Int.{w128}
 use Rattle.qss_order2.proofs.ColumnSums.{wrap_small}
 use Rattle.qss_order2.proofs.Gains.{rise_on_small, risen_by, quiet_shift}
@@ -21,7 +21,11 @@ advance-requires-clause-moves c =
     (omega arith) (omega arith))
 
 pub advance-requires-clause-list : goal.advance-requires-clause-list
-advance-requires-clause-list c k d h = omega (arith, c.requires.affected k d h, c.requires.lists.places)
+advance-requires-clause-list c k d h = omega (
+  arith,
+  c.requires.affected k d h,
+  c.requires.lists.places,
+)
 
 pub take_motion_levels-requires-clause-places : goal.take_motion_levels-requires-clause-places
 take_motion_levels-requires-clause-places c =
@@ -58,13 +62,16 @@ returns c =
     let fourth : c.deref_mut-2.result.now ≡ rs = c.deref_mut-2.ensures.value in
     let there : (j : ℕ) → is_listed affected j ≡ true → place_in ps j ≡ place_there tick q j =
     λ j e. is.places.each j e in
-    let stayed : (j : ℕ) → is_listed affected j ≡ false → place_in ps j ≡ place_in q.places.items j =
+    let stayed : (j : ℕ) → is_listed affected j ≡ false → place_in ps j
+    ≡ place_in q.places.items j =
     λ j not. is.places.others j not in
     let same : (j : ℕ) → is_listed left j ≡ false → place_in qs j ≡ place_in ps j = λ j stays.
-    c.take_motion_levels.ensures.places.others j stays ∙ ap (λ (l : List Place). place_in l j) third in
+    c.take_motion_levels.ensures.places.others j stays
+    ∙ ap (λ (l : List Place). place_in l j) third in
     let leaves : (j : ℕ) → is_listed left j ≡ true → place_in qs j ≡ floor_place (place_in ps j)
     (level_unit m) = λ j e.
-    c.take_motion_levels.ensures.places.each j e ∙ ap (λ (l : List Place). floor_place (place_in l j)
+    c.take_motion_levels.ensures.places.each j e
+    ∙ ap (λ (l : List Place). floor_place (place_in l j)
     (level_unit m)) third in
     let since : (j : ℕ) → j < n → (place_in qs j).since ≡ (place_in ps j).since =
     λ j h. elim (cases_Bool (is_listed left j)) [

@@ -1,7 +1,7 @@
 -- All states are at the tick, and the next window begins.
 use Rattle.qss_order2.proofs.Common
 use Common.{ℕ, ◌+◌, ◌-◌, ◌<◌, ◌∙◌, ◌≡◌, ap, arith, Bool, CanRead, false, is_listed, IsWindow}
-use Common.{length, List, motion_at, Moves, not, state_count, subst, sym, true}
+use Common.{length, List, motion_at, Moves, state_count, subst, sym, true}
 use Rattle.qss_order2.proofs.Bounds.{change_small}
 use Rattle.qss_order2.proofs.Motions.{small_here, small_rise_here, movable}
 use Rattle.qss_order2.proofs.Settled.{listed_below}
@@ -63,7 +63,8 @@ returns-clause-goes c =
     let goes = c.requires.is_store.goes c.requires.within in
     let reach = c.ticks_to_limit_check-reach.result in
     let is = c.ticks_to_limit_check-reach.ensures in
-    let moves : Moves m (motion_at m q tick) = subst (Moves m) (sym c.move_all_at_event.ensures.same)
+    let moves : Moves m (motion_at m q tick) = subst (Moves m) (sym
+    c.move_all_at_event.ensures.same)
     goes.moves in
     let here = c.move_all_at_event.ensures.here in
     let listed : (j : ℕ) → j < n → is_listed c.places-2.result.now j ≡ true = λ j h.
@@ -81,13 +82,15 @@ returns-clause-goes c =
           let bounded = c.is_line_limit_needed-s.ensures.bounded is_bounded in (
             bounded.0,
             bounded.1,
-            λ j t h low high. (bounded.2 j (listed j h)).levels t (omega (arith, here j h, low)) high,
+            λ j t h low high. (bounded.2 j (listed j h)).levels t (omega (arith, here j h, low))
+                high,
           );
-      bounded_slopes = λ is_bounded. let bounded = c.is_line_limit_needed-s.ensures.bounded is_bounded in (
-        bounded.0,
-        bounded.1,
-        λ j h. (bounded.2 j (listed j h)).slope,
-      );
+      bounded_slopes = λ is_bounded. let bounded = c.is_line_limit_needed-s.ensures.bounded
+          is_bounded in (
+            bounded.0,
+            bounded.1,
+            λ j h. (bounded.2 j (listed j h)).slope,
+          );
       here = λ j e.
           let h : j < n = omega (
             arith,
@@ -120,10 +123,12 @@ is_line_limit_needed-s-requires-clause-reads c =
     let m = c.args.f.now.machine in
     let tick = c.args.tick in
     let q = c.move_all_at_event.new.q in
-    let moves : Moves m (motion_at m q tick) = subst (Moves m) (sym c.move_all_at_event.ensures.same)
+    let moves : Moves m (motion_at m q tick) = subst (Moves m) (sym
+    c.move_all_at_event.ensures.same)
     (c.requires.is_store.goes c.requires.within).moves in
     let here = c.move_all_at_event.ensures.here in
-    let reads : CanRead (state_count m) (tick + c.ticks_to_limit_check-reach.result) q.places.items q.changes.items =
+    let reads : CanRead (state_count m) (tick + c.ticks_to_limit_check-reach.result) q.places.items
+    q.changes.items =
     record {
       as_many_changes = c.move_all_at_event.ensures.lists.changes;
       past = λ j h. omega (arith, here j h);
@@ -131,5 +136,6 @@ is_line_limit_needed-s-requires-clause-reads c =
       small = λ j h before. (small_here m q tick moves j h (here j h)).level;
       small_changes = λ j h before. change_small m (motion_at m q tick) moves j h;
     } in
-    subst (λ n. CanRead n (tick + c.ticks_to_limit_check-reach.result) q.places.items q.changes.items)
+    subst (λ n. CanRead n (tick + c.ticks_to_limit_check-reach.result) q.places.items
+    q.changes.items)
     (sym c.move_all_at_event.ensures.lists.places) reads

@@ -1,6 +1,6 @@
 -- Only due ticks are new, of the affected states.
 use Rattle.qss_order2.proofs.Common
-use Common.{ℕ, ◌-◌, ◌∙◌, ap, arith, cases_Bool, inl, inr, is_listed, IsDue2, List, motion_at, not}
+use Common.{ℕ, ◌-◌, ◌∙◌, ap, arith, cases_Bool, inl, inr, is_listed, IsDue2, List, motion_at}
 use Common.{Option, snapshot_of, subst, sym, until}
 use Rattle.qss_order2.proofs.order2_events.prepare_event.Goals as goal
 

@@ -57,7 +57,8 @@ leaving_gap_of-gap-requires-clause-state c =
     let q = c.args.q.now in
     let v = motion_at m q c.args.window.from in
     let is : c.index-p.result.now.state ≡ int_at v.states c.args.state =
-    state_read c.args.f.now.machine q c.args.window.from c.requires.lists c.requires.moves c.args.state
+    state_read c.args.f.now.machine q c.args.window.from c.requires.lists c.requires.moves
+    c.args.state
     c.requires.state c.requires.here c.index-p.result.now c.index-p.ensures in
     let small : IsWithin 94 c.index-p.result.now.state =
     subst (IsWithin 94) (sym is) (state_small m v c.requires.moves c.args.state c.requires.state) in
@@ -70,7 +71,8 @@ leaving_gap_of-gap-requires-clause-level c =
     let q = c.args.q.now in
     let v = motion_at m q c.args.window.from in
     let is : c.index-p.result.now.level ≡ int_at v.levels c.args.state =
-    level_read c.args.f.now.machine q c.args.window.from c.requires.lists c.requires.moves c.args.state
+    level_read c.args.f.now.machine q c.args.window.from c.requires.lists c.requires.moves
+    c.args.state
     c.requires.state c.requires.here c.index-p.result.now c.index-p.ensures in
     let small : IsWithin 49 c.index-p.result.now.level =
     subst (IsWithin 49) (sym is) (level_within m v.levels v.changes c.requires.moves.within
@@ -93,7 +95,8 @@ leaving_drift_of-drift-requires-clause-rise c =
     let v = motion_at m q c.args.window.from in
     let is : c.index.result.now ≡ int_at v.rises c.args.state =
     at_index q.rises.items c.args.state (state_count m) _ c.requires.lists.rises c.requires.state
-    c.index.ensures ∙ rise_here c.args.f.now.machine q c.args.window.from c.requires.moves c.args.state
+    c.index.ensures ∙ rise_here c.args.f.now.machine q c.args.window.from c.requires.moves
+    c.args.state
     c.requires.state c.requires.here in
     let small : IsWithin 94 c.index.result.now =
     subst (IsWithin 94) (sym is) (rise_small m v c.requires.moves c.args.state c.requires.state) in
@@ -227,7 +230,8 @@ returns c =
     c.index-p.result.now.level = simp to_z-of_z at c.leaving_gap_of-gap.ensures.value in
     let drift : c.leaving_drift_of-drift.result ≡ c.index.result.now -ℤ c.args.f.now.unit *ℤ
     c.index-2.result.now = simp to_z-of_z at c.leaving_drift_of-drift.ensures.value in
-    let own_gap : c.leaving_gap_of-gap.result ≡ int_at v.states j -ℤ level_unit m *ℤ int_at v.levels j =
+    let own_gap : c.leaving_gap_of-gap.result
+    ≡ int_at v.states j -ℤ level_unit m *ℤ int_at v.levels j =
     gap ∙ ap (λ (z : ℤ). z -ℤ c.args.f.now.unit *ℤ c.index-p.result.now.level) x
     ∙ ap (λ (u : ℤ). int_at v.states j -ℤ u *ℤ c.index-p.result.now.level)
     c.args.f.now.is_fixed.own_unit
@@ -241,7 +245,8 @@ returns c =
     ∙ ap (λ (z : ℤ). rise_at m j v.levels -ℤ level_unit m *ℤ z) change in
     let Found = λ (g d b l : ℤ). FirstUpTo (λ k. l ≤ℤ pos (unsigned_abs (curve_at g d b k)))
     c.args.window.ticks c.first_step_past_limit.result in
-    let found : Found c.leaving_gap_of-gap.result c.leaving_drift_of-drift.result c.index-3.result.now
+    let found : Found c.leaving_gap_of-gap.result c.leaving_drift_of-drift.result
+    c.index-3.result.now
     c.index-4.result.now = simp to_z-of_z at c.first_step_past_limit.ensures in
     let at_gap : Found (int_at v.states j -ℤ level_unit m *ℤ int_at v.levels j)
     c.leaving_drift_of-drift.result c.index-3.result.now c.index-4.result.now =

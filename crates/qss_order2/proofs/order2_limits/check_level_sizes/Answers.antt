@@ -8,7 +8,8 @@ pub returns-then-exceeds_power_of_two : goal.returns-then-exceeds_power_of_two
 returns-then-exceeds_power_of_two c =
     let fits : FitsSigned w128 (int_at c.args.levels.now c.loop-j.j) = omega (arith, ints) in
     let here : exceeds 49 (int_at c.args.levels.now c.loop-j.j) ≡ true =
-    sym (rw (to_z-of_z w128 (int_at c.args.levels.now c.loop-j.j) fits) at c.exceeds_power_of_two.ensures)
+    sym (rw (to_z-of_z w128 (int_at c.args.levels.now c.loop-j.j) fits) at
+    c.exceeds_power_of_two.ensures)
     ∙ c.if-exceeds_power_of_two.true in
     sym (first_is (exceeds 49) c.args.levels.now c.loop-j.j (pos 0) c.loop-j-test.true
     c.loop-j.invariant here)

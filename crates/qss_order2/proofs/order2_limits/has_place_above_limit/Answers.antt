@@ -7,7 +7,8 @@ pub returns : goal.returns
 returns c e j among =
     let found = index_of c.args.list.now j among in
     subst (λ k. abs_of (place_in c.args.q.now.places.items k).level ≤ℤ c.args.bound) found.2
-    (subst (λ b. abs_of (place_in c.args.q.now.places.items (get_or c.args.list.now found.0 0)).level ≤ℤ b)
+    (subst (λ b. abs_of (place_in c.args.q.now.places.items (get_or c.args.list.now found.0
+    0)).level ≤ℤ b)
     (to_z-of_z w128 c.args.bound c.ranges.bound) (c.loop-state.invariant found.0 (omega (
       arith,
       found.1,

@@ -9,6 +9,7 @@ returns c =
     let m = c.args.f.now.machine in
     let modes : AreModes m c.args.row c.index.result.now =
     row_is c.args.f.now c.args.row c.requires.row c.index.result.now c.index.ensures in
-    c.is_rise_change_steep.ensures ∙ ap (exceeds 94) (bend_weight_is m c.args.row c.as_slice.result.now
+    c.is_rise_change_steep.ensures ∙ ap (exceeds 94) (bend_weight_is m c.args.row
+    c.as_slice.result.now
     (subst (AreModes m c.args.row) (sym c.as_slice.ensures) modes) c.args.changes.now
     c.requires.changes)

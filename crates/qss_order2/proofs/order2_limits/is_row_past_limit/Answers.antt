@@ -30,4 +30,5 @@ returns c =
     own ∙ weight_is m c.args.row c.as_slice.result.now (subst (AreModes m c.args.row)
     (sym c.as_slice.ensures) modes) c.args.levels.now c.requires.levels c.index-2.result.now
     (drive_is c.args.f.now c.args.row c.requires.row c.index-2.result.now c.index-2.ensures) in
-    c.exceeds_power_of_two.ensures ∙ ap (exceeds 94) (to_z-of_z w128 c.rise_weight_of.result of_weight ∙ weight)
+    c.exceeds_power_of_two.ensures ∙ ap (exceeds 94) (to_z-of_z w128 c.rise_weight_of.result
+    of_weight ∙ weight)

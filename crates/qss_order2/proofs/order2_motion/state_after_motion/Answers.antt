@@ -15,6 +15,7 @@ returns c =
     let small_bent = c.bend_in_motion.ensures.bound in
     let of_two : FitsSigned w128 (c.args.x +ℤ c.rise_in_motion.result) =
     omega (arith, ints, c.requires.state, small_risen) in
-    let of_sum : FitsSigned w128 ((c.args.x +ℤ c.rise_in_motion.result) +ℤ c.bend_in_motion.result) =
+    let of_sum : FitsSigned w128 ((c.args.x +ℤ c.rise_in_motion.result) +ℤ c.bend_in_motion.result)
+    =
     omega (arith, ints, c.requires.state, small_risen, small_bent) in
     simp to_z-of_z (omega (arith, ints, risen, bent))

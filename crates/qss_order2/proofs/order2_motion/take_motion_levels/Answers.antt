@@ -59,7 +59,8 @@ loop-state-preserved c =
     let of_new : FitsSigned w128 p.level = search rules in
     let of_old : FitsSigned w128 (place_in now j).level = search rules in
     let of_d : FitsSigned w128 c.motion_difference.result = record { sfits = c.motion_difference.type_inv } in
-    let difference : c.motion_difference.result ≡ int_wrap w128 (p.level -ℤ (place_in now j).level) =
+    let difference : c.motion_difference.result
+    ≡ int_wrap w128 (p.level -ℤ (place_in now j).level) =
     simp to_z-of_z at c.motion_difference.ensures in
     let added = simp to_z-of_z at c.add_fixed_column_multiple.ensures in
     let here : (place_in (set now j p) j).level ≡ p.level =
@@ -72,13 +73,15 @@ loop-state-preserved c =
       rises = λ k z low start.
           column_gain m f.columns.items k j (λ l. (place_in a.places.now l).level)
           (λ l. (place_in now l).level) (λ l. (place_in (set now j p) l).level)
-          (int_at c.loop-state.rises k) (int_at c.add_fixed_column_multiple.new.sums k) z c.motion_difference.result
+          (int_at c.loop-state.rises k) (int_at c.add_fixed_column_multiple.new.sums k) z
+          c.motion_difference.result
           f.has_columns h low (λ l known ne. ap (λ (q : Place). q.level)
           (get_or-set_other now j l p no_place ne))
           (difference ∙ ap (λ (y : ℤ). int_wrap w128 (y -ℤ (place_in now j).level)) (sym here))
           (inv.rises k z low start)
           (λ w e. added k w (omega (arith, low, inv.many_rises, c.requires.rises)) e
-          ∙ ap (λ (l : List Entry). int_wrap w128 (w +ℤ coefficient_of l k *ℤ c.motion_difference.result))
+          ∙ ap (λ (l : List Entry). int_wrap w128 (w +ℤ coefficient_of l k *ℤ
+          c.motion_difference.result))
           is);
     }
 

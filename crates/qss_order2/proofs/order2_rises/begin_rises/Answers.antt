@@ -3,8 +3,8 @@ use Rattle.qss_order2.proofs.Common
 use Common.{[], ℕ, ℤ, ◌<◌, ◌∙◌, ◌≡◌, All, ap, AreChanges, arith, bend_at, Bool, CanRead, Err, false}
 use Common.{fine_levels, int_at, int_at-tabulate, is_listed, IsAnswer, IsRuled2, IsWithin}
 use Common.{IsWritten, length, length-map-range_with_len, level_unit, levels_on, List, Machine}
-use Common.{None, not, Option, overflow_of, past_levels, pos, refl, rise_at, rules, Some}
-use Common.{state_count, subst, sym, tabulate, true, with_items, with_items_is}
+use Common.{None, Option, overflow_of, past_levels, pos, refl, rise_at, rules, Some, state_count}
+use Common.{subst, sym, tabulate, true, with_items, with_items_is}
 use Rattle.qss_order2.proofs.Motions.{many_levels}
 use Rattle.qss_order2.proofs.Settled.{listed_below, rise_bounded, listed_changes}
 use Rattle.qss_order2.proofs.Settlings.{of_changes, past_first, past_then}
@@ -175,7 +175,8 @@ returns g c =
       held = λ e. held_first nearest m levels new changes (rise_bounded m levels none);
       rises = λ e. risen ∙ same_list rs (tabulate n rise) n (c.set_rises.auto.rises
           ∙ ap length c.deref_mut.ensures.value ∙ c.requires.lists.rises)
-          (length-map-range_with_len rise 0 n) (λ j h. c.set_rises.ensures.each j (c.requires.each j h)
+          (length-map-range_with_len rise 0 n) (λ j h. c.set_rises.ensures.each j (c.requires.each j
+          h)
           ∙ ap (rise_at m j) at_start ∙ sym (int_at-tabulate n rise j h));
       bends = λ e. bent ∙ same_list bs (tabulate n second) n (c.bend.auto.bends
           ∙ ap length c.deref_mut-3.ensures.value ∙ c.requires.lists.bends)

@@ -13,5 +13,6 @@ set_rise_bends-requires-clause-within c j e =
     within-passes 94 (rise_change_weight m c.args.changes.now j)
     (subst (λ z. unsigned_abs z ≤ 2 ^ 94) (int_at-tabulate n
     (rise_change_weight m c.args.changes.now) j h)
-    (none_past 94 (tabulate n (rise_change_weight m c.args.changes.now)) (sym c.check_level_slopes.ensures
+    (none_past 94 (tabulate n (rise_change_weight m c.args.changes.now)) (sym
+    c.check_level_slopes.ensures
     ∙ ap overflow_of c.in_ok-check_level_slopes.was) j))

@@ -1,7 +1,6 @@
 -- None of the list, and none of the others.
 use Rattle.qss_order2.proofs.Common
-use Common.{cases_Bool, exceeds, inl, inr, is_listed, not, rise_change_weight, rules, state_count}
-use Common.{sym}
+use Common.{cases_Bool, exceeds, inl, inr, is_listed, rise_change_weight, rules, state_count, sym}
 use Rattle.qss_order2.proofs.Tables.{none_of_table}
 use Rattle.qss_order2.proofs.order2_rises.check_level_slopes.Goals as goal
 

@@ -17,7 +17,8 @@ loop-entry-preserved c =
 
 pub returns-clause-value : goal.returns-clause-value
 returns-clause-value c =
-    sum_done (λ (entry : Entry). entry.coef *ℤ int_at c.args.levels.now entry.var) c.args.entries.now
+    sum_done (λ (entry : Entry). entry.coef *ℤ int_at c.args.levels.now entry.var)
+    c.args.entries.now
     c.loop-entry.entry-index (to_z w128 c.loop-entry.sum-bits)
     c.loop-entry.invariant.so_far c.loop-entry-test.false
     ∙ sym (weighted_sum-is c.args.entries.now c.args.levels.now c.requires.known)

@@ -46,7 +46,8 @@ change-new-requires g c =
     let a = c.args in
     let s = c.loop-state in
     let j : ℕ = get_or a.list.now s.state-index 0 in
-    let h : j < state_count a.f.now.machine = c.requires.list s.state-index 0 c.loop-state-test.true in
+    let h : j < state_count a.f.now.machine = c.requires.list s.state-index 0 c.loop-state-test.true
+    in
     let small : IsPositiveWithin 44 a.f.now.unit =
     subst (IsPositiveWithin 44) (sym a.f.now.is_fixed.own_unit) (unit_fits a.f.now.machine) in
     let of_unit : FitsSigned w128 a.f.now.unit = wide _ (omega (arith, small.within)) in
@@ -122,7 +123,8 @@ loop-state-preserved g c =
     at_index now j n c.index-old.result.now many h c.index-old.ensures in
     let of_old : FitsSigned w128 c.index-old.result.now = search rules in
     let of_d : FitsSigned w128 c.motion_difference.result = record { sfits = c.motion_difference.type_inv } in
-    let difference : c.motion_difference.result ≡ int_wrap w128 (c.change-new.result -ℤ c.index-old.result.now) =
+    let difference : c.motion_difference.result
+    ≡ int_wrap w128 (c.change-new.result -ℤ c.index-old.result.now) =
     simp to_z-of_z at c.motion_difference.ensures in
     let added = simp to_z-of_z at c.add_fixed_column_multiple.ensures in
     let here : int_at (set now j v) j ≡ c.change-new.result = get_or-set_same now j v (pos 0) inside
@@ -136,9 +138,11 @@ loop-state-preserved g c =
     record {
       places = inv.places;
       rises = inv.rises;
-      changes = written_more (pos 0) (λ k z. IsAnswer nearest (int_at q.rises.items k) (level_unit m)
+      changes = written_more (pos 0) (λ k z. IsAnswer nearest (int_at q.rises.items k) (level_unit
+          m)
           z) a.list.now q.changes.items now i v before inside inv.changes
-          (subst (λ z. IsAnswer nearest (int_at q.rises.items j) (level_unit m) z) (sym same) there);
+          (subst (λ z. IsAnswer nearest (int_at q.rises.items j) (level_unit m) z) (sym same)
+          there);
       many_bends = ap length bent ∙ length_is;
       bends = λ k z low start.
           ap (λ (l : List ℤ). int_at l k) bent
@@ -156,7 +160,8 @@ loop-state-preserved g c =
             inv.many_bends,
             c.requires.lists.bends,
           )) e
-          ∙ ap (λ (l : List Entry). int_wrap w128 (w +ℤ coefficient_of l k *ℤ c.motion_difference.result))
+          ∙ ap (λ (l : List Entry). int_wrap w128 (w +ℤ coefficient_of l k *ℤ
+          c.motion_difference.result))
           is);
     }
 

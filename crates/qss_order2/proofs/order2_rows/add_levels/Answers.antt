@@ -9,7 +9,8 @@ loop-j-preserved c =
     let a = c.args in
     let j = c.loop-j.j in
     let inv = c.loop-j.invariant in
-    let f : ℕ → Row2 = λ i. let p = place_at (place_in a.q.now.places.items i) (int_at a.q.now.changes.items i)
+    let f : ℕ → Row2 = λ i. let p = place_at (place_in a.q.now.places.items i) (int_at
+    a.q.now.changes.items i)
     (int_at a.q.now.rises.items i) (int_at a.q.now.bends.items i) a.tick in record {
       tick = a.tick;
       kind =

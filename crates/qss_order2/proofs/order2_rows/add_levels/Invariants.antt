@@ -7,7 +7,8 @@ use Rattle.qss_order2.proofs.order2_rows.add_levels.Given as goal
 abbrev pub invariant-loop-j : goal.invariant-loop-j
 invariant-loop-j l = record {
   rows : l.rows.items ≡ l.fn.rows.items ++ tabulate l.j (λ j. let p =
-      place_at (place_in l.q.places.items j) (int_at l.q.changes.items j) (int_at l.q.rises.items j) (int_at l.q.bends.items j)
+      place_at (place_in l.q.places.items j) (int_at l.q.changes.items j) (int_at l.q.rises.items j)
+      (int_at l.q.bends.items j)
       l.tick in record {
         tick = l.tick;
         kind = kind.End;

@@ -23,7 +23,8 @@ returns c =
       level = level;
       state = state;
     } in
-    let moved : ℕ → Row2 = λ j. row_of j (place_there tick q j).level (place_there tick q j).state in
+    let moved : ℕ → Row2 = λ j. row_of j (place_there tick q j).level (place_there tick q j).state
+    in
     let w = snapshot_of (motion_at m q tick) in
     let same : tabulate n moved ≡ tabulate n (level_row kind.End tick w) =
     tabulate-same (moved 0) n moved (level_row kind.End tick w) (λ j h.
@@ -33,6 +34,7 @@ returns c =
     (sym (at_states n q.places.items q.rises.items q.bends.items tick j h))) in
     let rows : c.add_levels.new.rows.items ≡ tabulate n (level_row kind.End tick w) =
     c.add_levels.ensures.rows
-    ∙ ap (λ (front : List Row2). front ++ tabulate (length q.places.items) moved) c.clear.ensures.items
+    ∙ ap (λ (front : List Row2). front ++ tabulate (length q.places.items) moved)
+    c.clear.ensures.items
     ∙ ap (λ (k : ℕ). tabulate k moved) c.requires.lists.places ∙ same in
     c.add_discretes.ensures.rows ∙ ap (λ (r : List Row2). r ++ discrete_rows2 kind.End tick m) rows

@@ -21,8 +21,10 @@ push_state-requires c =
 
 pub returns-clause-rows : goal.returns-clause-rows
 returns-clause-rows c =
-    c.loop-state.invariant.rows ∙ ap (flat_map (place_rows c.args.kind c.args.tick c.args.q.now.places.items
-    c.args.q.now.changes.items)) (take_all c.loop-state.state-index c.args.left.now c.loop-state-test.false)
+    c.loop-state.invariant.rows ∙ ap (flat_map (place_rows c.args.kind c.args.tick
+    c.args.q.now.places.items
+    c.args.q.now.changes.items)) (take_all c.loop-state.state-index c.args.left.now
+    c.loop-state-test.false)
 
 pub returns-clause-count : goal.returns-clause-count
 returns-clause-count c =

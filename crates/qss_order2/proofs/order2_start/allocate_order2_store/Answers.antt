@@ -8,7 +8,12 @@ returns c = record {
   fits = record {
     lists = c.in_ok-start_order2_motion.ensures.lists;
     dues = c.in_ok-with_places.ensures.places ∙ ap length c.as_slice-states.ensures;
-    left = omega (arith, c.in_ok-start_order2_list.ensures.room, ap length c.as_slice-states.ensures);
+    left = omega (
+      arith,
+      c.in_ok-start_order2_list.ensures.room,
+      ap length
+          c.as_slice-states.ensures,
+    );
     affected = ap (λ (s : PlaceList). s.count) c.in_ok-empty.ensures
         ∙ ap length c.as_slice-states.ensures;
     safe_bound = c.in_ok-greatest_safe_bound.ensures;

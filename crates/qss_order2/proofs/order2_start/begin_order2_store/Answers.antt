@@ -28,7 +28,8 @@ begin_rises-s-requires-clause-each g c j h =
     ∙ all_listed (state_count c.args.f.now.machine) j h
 
 pub begin_rises-s-requires-clause-here : goal.begin_rises-s-requires-clause-here
-begin_rises-s-requires-clause-here g c = start_since c.args.f.now.machine c.args.s.now.motion.places.items
+begin_rises-s-requires-clause-here g c = start_since c.args.f.now.machine
+    c.args.s.now.motion.places.items
     c.requires.at_rest.places
 
 pub begin_rises-s-requires-clause-start : goal.begin_rises-s-requires-clause-start
@@ -40,7 +41,8 @@ returns-clause-start g c =
     let m = c.args.f.now.machine in
     let q : Motion = c.begin_rises-s.new.q in
     let places : q.places.items ≡ tabulate (state_count m) (start_place m) =
-    ap (λ (v : Vec Place Global). v.items) c.begin_rises-s.ensures.places ∙ c.requires.at_rest.places in
+    ap (λ (v : Vec Place Global). v.items) c.begin_rises-s.ensures.places
+    ∙ c.requires.at_rest.places in
     let levels = start_levels_are m q.places.items places q.changes.items in
     record {
       states = start_states_are m q.places.items places q.rises.items q.bends.items;
@@ -56,7 +58,8 @@ returns-clause-is_store g c =
     let fits = c.requires.fits in
     let q : Motion = c.begin_rises-s.new.q in
     let places : q.places.items ≡ tabulate n (start_place m) =
-    ap (λ (v : Vec Place Global). v.items) c.begin_rises-s.ensures.places ∙ c.requires.at_rest.places in
+    ap (λ (v : Vec Place Global). v.items) c.begin_rises-s.ensures.places
+    ∙ c.requires.at_rest.places in
     let levels = start_levels_are m q.places.items places q.changes.items in
     let states = start_states_are m q.places.items places q.rises.items q.bends.items in
     let lists = c.begin_rises-s.ensures.lists in
@@ -71,7 +74,8 @@ returns-clause-is_store g c =
       within = over ∙ e;
       has_rises = record {
         rises = start_rises_are m q.places.items places q.rises.items q.bends.items lists.rises
-            ∙ c.begin_rises-s.ensures.rises e ∙ ap (λ (ls : List ℤ). tabulate n (λ j. rise_at m j ls))
+            ∙ c.begin_rises-s.ensures.rises e ∙ ap (λ (ls : List ℤ). tabulate n (λ j. rise_at m j
+            ls))
             (sym levels);
         bends = c.begin_rises-s.ensures.bends e;
         held = c.begin_rises-s.ensures.held e;
@@ -102,7 +106,8 @@ returns-clause-is_store g c =
             ));
         in_window = omega arith;
         bounded = λ is_bounded. none_else c.args.s.now.unbounded c.requires.unbounded is_bounded;
-        bounded_slopes = λ is_bounded. none_else c.args.s.now.unbounded c.requires.unbounded is_bounded;
+        bounded_slopes = λ is_bounded. none_else c.args.s.now.unbounded c.requires.unbounded
+            is_bounded;
         here = λ j e. none_listed j (ap (λ (l : List ℕ). is_listed l j) (sym c.requires.affected)
             ∙ e);
       };
@@ -122,7 +127,8 @@ returns-clause-rows g c =
     let q : Motion = c.begin_rises-s.new.q in
     let w : SecondSnapshot = snapshot_of (motion_at m q 0) in
     let places : q.places.items ≡ tabulate n (start_place m) =
-    ap (λ (v : Vec Place Global). v.items) c.begin_rises-s.ensures.places ∙ c.requires.at_rest.places in
+    ap (λ (v : Vec Place Global). v.items) c.begin_rises-s.ensures.places
+    ∙ c.requires.at_rest.places in
     let levels = start_levels_are m q.places.items places q.changes.items in
     let states = start_states_are m q.places.items places q.rises.items q.bends.items in
     let all : List ℕ = range_with_len 0 n in

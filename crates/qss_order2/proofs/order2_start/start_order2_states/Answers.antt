@@ -47,7 +47,8 @@ loop-j-preserved c =
     record {
       so_far = map_more (λ (s : StateInfo). pos 64 *ℤ s.x0) m.states j state c.loop-j.list.items
           c.push_reserved.new.self.items _ h inv.so_far c.push_reserved.ensures.items
-          (to_z-of_z w128 c.fine_state.result fits ∙ own ∙ ap (λ (s : StateInfo). pos 64 *ℤ s.x0) is);
+          (to_z-of_z w128 c.fine_state.result fits ∙ own
+          ∙ ap (λ (s : StateInfo). pos 64 *ℤ s.x0) is);
       as_many = omega (arith, c.push_reserved.ensures.len, inv.as_many);
       room = omega (arith, c.push_reserved.ensures.capacity, inv.room);
     }

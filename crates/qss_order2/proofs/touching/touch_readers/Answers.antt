@@ -19,5 +19,6 @@ returns-clause-places c j =
     let f = c.args.f.now in
     let is : c.as_slice.result.now ≡ column_at f.columns.items c.args.state = c.as_slice.ensures
     ∙ column_is f c.args.state c.requires.state c.index.result.now c.index.ensures in
-    c.touch_rows.ensures.places j ∙ ap (λ (l : List Entry). is_listed c.args.affected.now.places j ||
+    c.touch_rows.ensures.places j ∙ ap (λ (l : List Entry). is_listed c.args.affected.now.places j
+    ||
     is_listed (rows_in l) j) is

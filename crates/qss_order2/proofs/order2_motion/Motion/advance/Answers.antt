@@ -32,7 +32,11 @@ rise_at-rise-requires-clause-moves c =
 pub rise_at-rise-requires-clause-state : goal.rise_at-rise-requires-clause-state
 rise_at-rise-requires-clause-state c =
     let s = c.loop-state in
-    omega (arith, c.requires.list s.state-index 0 c.loop-state-test.true, s.invariant.places.as_many)
+    omega (
+      arith,
+      c.requires.list s.state-index 0 c.loop-state-test.true,
+      s.invariant.places.as_many,
+    )
 
 pub place_at-requires-clause-moves : goal.place_at-requires-clause-moves
 place_at-requires-clause-moves c =
@@ -44,7 +48,11 @@ place_at-requires-clause-moves c =
 pub place_at-requires-clause-state : goal.place_at-requires-clause-state
 place_at-requires-clause-state c =
     let s = c.loop-state in
-    omega (arith, c.requires.list s.state-index 0 c.loop-state-test.true, s.invariant.places.as_many)
+    omega (
+      arith,
+      c.requires.list s.state-index 0 c.loop-state-test.true,
+      s.invariant.places.as_many,
+    )
 
 pub loop-state-preserved : goal.loop-state-preserved
 loop-state-preserved c =

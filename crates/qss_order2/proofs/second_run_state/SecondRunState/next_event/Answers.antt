@@ -25,7 +25,8 @@ returns-clause-rows g c nearest going =
     ∙ ap (λ (e : Option Outcome2). rows2_left nearest_change (view_of m from s e)) none
     ∙ named_rows m from (snapshot_of (motion_at m s.motion from)) s.rows.items outcome to
     (snapshot_of (motion_at m after.motion to)) after.rows.items (end_of outcome)
-    (within_then (IsRuled2 true) m from s outcome to after next c.advance_to_event-outcome.ensures.is_store)
+    (within_then (IsRuled2 true) m from s outcome to after next
+    c.advance_to_event-outcome.ensures.is_store)
     next
     ∙ ap (λ (t : ℕ). after.rows.items ++ rows2_left nearest_change
     (view_of m t after (end_of outcome))) (sym c.tick-self-inside.ensures)
