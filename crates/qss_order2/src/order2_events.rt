@@ -70,7 +70,7 @@ pub(crate) fn advance_to_event(
 }
 
 /// Advances to the next event or limit check, and lists the rows of the states that left there.
-/// After an error, only the capacity for rows is specified.
+/// After an error, the snapshot of the store is unspecified.
 pub(crate) fn go_to_event(f: &FixedMachine, rule: &SlopeRule, tick: u64, s: &mut Store) -> EventStep
     requires is_store { IsStoreAt f.now.machine tick s.old }
     requires within { overflow_of s.old.over ≡ None }
