@@ -6,7 +6,7 @@ use Common.{Components, components_move, ComponentsRepresent, Condition, conditi
 use Common.{crossing_at, crossings_tell, CrossingsLater, discrete_count, exceeds_row_limits, false}
 use Common.{firing_flags, first_exceeding, flag_at, function_state_at, get_or, get_or-map}
 use Common.{handlers_at, HandlerState, handling_of, HasEach, holds_at, Input, input_at, int_at}
-use Common.{is_some, IsAllowedLevel, IsCrossingNext, IsLineNext, IsStep, IsSummingReady, IsTimely}
+use Common.{Err, IsAllowedLevel, IsCrossingNext, IsLineNext, IsStep, IsSummingReady, IsTimely}
 use Common.{IsWithin, length, length-map, length-map-range_with_len, Less, Line, line_at, List}
 use Common.{Machine, moved_states, Moving, moving_state, None, Option, option_or, pos, position}
 use Common.{refl, Rule, run_clauses, same_lists, slope_at, slopes_of, Snapshot, snapshot_after}
@@ -17,14 +17,21 @@ use Rattle.qss_events.proofs.Quiet.{moved_is}
 use Rattle.qss_devs.proofs.Followed.{states_are}
 use Rattle.qss_devs.proofs.Stays.{holds_still}
 
--- where a state overflowed on arrival no branch fires
-pub stays_over : (m : Machine) (tick : ℕ) (w : Snapshot) (o : Option ℕ) → o ≡ first_exceeding 88 (moved_states m w) → (o ≡ None → ⊥) → o ≡ (handlers_at m tick w).overflow
-stays_over m tick w None is some = absurd (some refl)
-stays_over m tick w (Some var) is some =
+-- if a state overflows on arrival, no branch fires
+pub arrival_over : (m : Machine) (tick : ℕ) (w : Snapshot) (var : ℕ) →
+    Some var ≡ first_exceeding 88 (moved_states m w) → Some var ≡ (handlers_at m tick w).overflow
+arrival_over m tick w var is =
     is
     ∙ sym (ap (λ (h : HandlerState). h.overflow)
-    (clauses_stay m tick w.discretes 0 (record { states = moved_states m w; discretes = w.discretes; rows = []; overflow = first_exceeding 88 (moved_states m w) }) var m.clauses
-    (firing_flags (truths m (moved_states m w) w.discretes tick) w.at_arrival w.after_handlers) (sym is)))
+    (clauses_stay m tick w.discretes 0
+    (record {
+      states = moved_states m w;
+      discretes = w.discretes;
+      rows = [];
+      overflow = first_exceeding 88 (moved_states m w);
+    }) var m.clauses
+    (firing_flags (truths m (moved_states m w) w.discretes tick) w.at_arrival w.after_handlers)
+    (sym is)))
 
 -- the handlers, from what they work on
 pub handling_is : (m : Machine) (tick : ℕ) (w : Snapshot) (x d pre : List ℤ) (now at_arrival after_handlers : List Bool) →
@@ -40,7 +47,8 @@ handling_is m tick w x d pre now at_arrival after_handlers of_x of_d of_pre none
     ∙ ap (λ (flags : List Bool). run_clauses m tick w.discretes 0 (record { states = moved_states m w; discretes = w.discretes; rows = []; overflow = first_exceeding 88 (moved_states m w) }) m.clauses (firing_flags (truths m (moved_states m w) w.discretes tick) flags after_handlers)) of_arrived
     ∙ ap (λ (flags : List Bool). run_clauses m tick w.discretes 0 (record { states = moved_states m w; discretes = w.discretes; rows = []; overflow = first_exceeding 88 (moved_states m w) }) m.clauses (firing_flags (truths m (moved_states m w) w.discretes tick) w.at_arrival flags)) of_settled
 
-module _ {X : Type 0} {g : _} (m : Machine) (name : Option Rule) (tick : ℕ) (s : Store X g) (stands : StoreRepresents m name tick s) (before : tick < m.last) where
+module _ {X : Type 0} {g : _} {m : Machine} {name : Option Rule} {tick : ℕ} {s : Store X g}
+    (stands : StoreRepresents m name tick s) (before : tick < m.last) where
   abbrev w : Snapshot
   w = snapshot_of tick s
 
@@ -167,13 +175,15 @@ module _ {X : Type 0} {g : _} (m : Machine) (name : Option Rule) (tick : ℕ) (s
     }
 
 -- the step of a tick whose handlers overflow
-pub over_step : (m : Machine) (name : Option Rule) (tick : ℕ) (w next : Snapshot) (over : Option ℕ) → is_some over ≡ true → over ≡ (handlers_at m tick w).overflow →
-    IsStep (IsAllowedLevel name) m tick w (snapshot_unless over next)
-over_step m name tick w next None some is = absurd (cc)
-over_step m name tick w next (Some var) some is = (
+pub over_step : (m : Machine) (name : Option Rule) (tick : ℕ) (w : Snapshot) (var : ℕ) →
+    Some var ≡ (handlers_at m tick w).overflow → IsStep (IsAllowedLevel name) m tick w (Err var)
+over_step m name tick w var is = (
   [],
   (λ none. absurd (cc)),
-  ap (λ o. snapshot_unless (option_or o (option_or (first_exceeding 43 []) (position (exceeds_row_limits m [] (handlers_at m tick w).discretes) m.rows))) (record {
+  ap (λ o. snapshot_unless (option_or o
+  (option_or (first_exceeding 43 [])
+  (position (exceeds_row_limits m [] (handlers_at m tick w).discretes) m.rows)))
+  (record {
     states = (handlers_at m tick w).states;
     levels = [];
     discretes = (handlers_at m tick w).discretes;

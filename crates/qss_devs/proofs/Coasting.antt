@@ -72,16 +72,16 @@ module _ {X : Type 0} {g : _} (m : Machine) (name : Option Rule) (tick : ℕ) (s
       ∙ ap (λ (a : List Bool). record { states = states_after m (snapshot_of tick s) (suc ticks); levels = levels_of s.parts; discretes = s.work.d; at_arrival = a; after_handlers = s.truths.after_handlers.items }) is
 
   fits_then : (at_arrival : Vec Bool Global) → length at_arrival.items ≡ length (conditions m) → FitsMachine m name (with_arrived s at_arrival)
-  fits_then at_arrival many = record {
-    parts = stands.fits.parts;
-    ruled = stands.fits.ruled;
-    values = stands.fits.values;
-    work_room = stands.fits.work_room;
-    now = stands.fits.now;
-    at_arrival = many;
-    after_handlers = stands.fits.after_handlers;
-    row_room = stands.fits.row_room;
-  }
+  fits_then at_arrival many =
+      let flags = stands.fits.flags in
+      record {
+        parts = stands.fits.parts;
+        ruled = stands.fits.ruled;
+        values = stands.fits.values;
+        work_room = stands.fits.work_room;
+        flags = record { current = flags.current; at_arrival = many; after_handlers = flags.after_handlers };
+        row_room = stands.fits.row_room;
+      }
 
   -- each condition holds as after the last handlers
   still_settled : (ticks : ℕ) → tick + ticks < m.last → (0 < ticks → Dues (tick + ticks + 1)) → s.truths.after_handlers.items ≡ truths m (snapshot_after m (snapshot_of tick s) ticks).states s.work.d (tick + ticks)
@@ -112,8 +112,8 @@ module _ {X : Type 0} {g : _} (m : Machine) (name : Option Rule) (tick : ℕ) (s
       }
     where
       many : (k : ℕ) → length (arrived_then k s.truths.at_arrival.items s.truths.after_handlers.items) ≡ length (conditions m)
-      many zero = stands.fits.at_arrival
-      many (suc k) = stands.fits.after_handlers
+      many zero = stands.fits.flags.at_arrival
+      many (suc k) = stands.fits.flags.after_handlers
 
   pub silent_then : (Rule : ℤ → ℤ → ℤ → ℤ → Type 0) (ticks : ℕ) → tick + ticks < m.last → (0 < ticks → Dues (tick + ticks + 1)) →
       AreEventFree Rule m tick (snapshot_of tick s) (quiet_worlds m (snapshot_of tick s) ticks) (tick + ticks) (snapshot_after m (snapshot_of tick s) ticks)

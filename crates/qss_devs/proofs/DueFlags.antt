@@ -5,22 +5,32 @@ use Common.{clauses_stay, conditions, drop, false, firing_flags, flag_at, flags_
 use Common.{HandlerState, handling_of, inl, inr, length, length-conditions, List, Machine, None}
 use Common.{none_passes, not, refl, run_clauses, run_first_due, Some, sym, take, values_after}
 use Common.{width_of}
+use Common.{length-due_flags}
 use Rattle.std.proofs.lemmas.List.{get_or-take, get_or-drop, length-take, length-drop}
 use Rattle.std.proofs.lemmas.List.Sums.{sum_by_more_le}
 use Rattle.std.specs.List.{position, sum_by}
 use Rattle.qss_hand.specs.Values.{Values}
+use Rattle.qss_devs.specs.Flags.{HaveFlags, due_flags}
+use Rattle.qss_devs.specs.declared.coupled_start.Truths.{Truths}
 use Rattle.qss_hand.proofs.AfterStatements.{whole}
 use Rattle.qss_hand.proofs.Turns.{next_turn}
 use Rattle.qss_events.proofs.Flags.{flag_at-due_flags}
 
--- as these truths say
-pub due_of : (now at_arrival after_handlers : List Bool) (k : ℕ) → length at_arrival ≡ length now → length after_handlers ≡ length now → k < length now →
-    (n a s : Bool) → flag_at now k ≡ n → flag_at at_arrival k ≡ a → flag_at after_handlers k ≡ s → flag_at (firing_flags now at_arrival after_handlers) k ≡ (n && not (a && s))
-due_of now at_arrival after_handlers k e f h n a s is_now is_arrived is_settled =
-    flag_at-due_flags now at_arrival after_handlers k e f h
-    ∙ ap (λ x. x && not (flag_at at_arrival k && flag_at after_handlers k)) is_now
-    ∙ ap (λ x. n && not (x && flag_at after_handlers k)) is_arrived
-    ∙ ap (λ x. n && not (a && x)) is_settled
+pub length-due : {count : ℕ} {t : Truths} → HaveFlags count t → length (due_flags t) ≡ count
+length-due {count} {t} have =
+    length-due_flags t.current.items t.at_arrival.items t.after_handlers.items
+    (have.at_arrival ∙ sym have.current) (have.after_handlers ∙ sym have.current)
+    ∙ have.current
+
+-- a flag, from the three truth values of its condition
+pub due_of : {count : ℕ} {t : Truths} → HaveFlags count t → (k : ℕ) → k < count → (n a s : Bool) →
+    flag_at t.current.items k ≡ n → flag_at t.at_arrival.items k ≡ a →
+    flag_at t.after_handlers.items k ≡ s → flag_at (due_flags t) k ≡ (n && not (a && s))
+due_of {count} {t} have k h n a s is_n is_a is_s =
+    flag_at-due_flags t.current.items t.at_arrival.items t.after_handlers.items k
+    (have.at_arrival ∙ sym have.current) (have.after_handlers ∙ sym have.current)
+    (omega (arith, h, have.current))
+    ∙ rw (is_n, is_a, is_s) refl
 
 -- no flag is set, also past the end
 pub none_set : (flags : List Bool) → position (λ flag. flag) flags ≡ None → (k : ℕ) → flag_at flags k ≡ false

@@ -33,7 +33,7 @@ pub record AreFirst {X : Type 0} {g : _} (m : Machine) (q : Quantizer X g) (s : 
   pub functions : EachAt (IsFirstFunction m) s.parts.functions.items
   pub crossings : EachAt (IsFirstAt m) s.parts.crossings.items
   pub work : s.work ≡ record { x = start_states m; d = start_discretes m; pre = start_discretes m; tick = 0; log = []; room = row_room m.clauses }
-  pub now : s.truths.now.items ≡ map (λ c. compares c.detector.rel c.detector.value) s.parts.crossings.items
+  pub current : s.truths.current.items ≡ map (λ c. compares c.detector.rel c.detector.value) s.parts.crossings.items
   pub at_arrival : s.truths.at_arrival.items ≡ map (λ c. compares c.detector.rel c.detector.value) s.parts.crossings.items
   pub after_handlers : s.truths.after_handlers.items ≡ map (λ c. compares c.detector.rel c.detector.value) s.parts.crossings.items
   pub room : row_room m.clauses + state_count m + discrete_count m + 1 ≤ vec_capacity s.rows
@@ -109,6 +109,9 @@ module _ {X : Type 0} {g : _} (m : Machine) (q : Quantizer X g) (s : Store X g) 
       ∙ ap (λ (a : List Bool). record { states = start_states m; levels = levels_at_start m; discretes = start_discretes m; at_arrival = a; after_handlers = s.truths.after_handlers.items }) (first.at_arrival ∙ flags_are)
       ∙ ap (λ (b : List Bool). record { states = start_states m; levels = levels_at_start m; discretes = start_discretes m; at_arrival = now; after_handlers = b }) (first.after_handlers ∙ flags_are)
 
+  many : length (map held s.parts.crossings.items) ≡ length (conditions m)
+  many = length-map s.parts.crossings.items held ∙ first.parts.crossings
+
   fits : FitsMachine m q.name s
   fits = record {
     parts = first.parts;
@@ -123,9 +126,7 @@ module _ {X : Type 0} {g : _} (m : Machine) (q : Quantizer X g) (s : Store X g) 
       in_time = omega (arith, ap (λ (v : Values). v.tick) first.work);
     };
     work_room = omega (arith, ap (λ (v : Values). v.room) first.work);
-    now = ap length first.now ∙ length-map s.parts.crossings.items held ∙ first.parts.crossings;
-    at_arrival = ap length first.at_arrival ∙ length-map s.parts.crossings.items held ∙ first.parts.crossings;
-    after_handlers = ap length first.after_handlers ∙ length-map s.parts.crossings.items held ∙ first.parts.crossings;
+    flags = record { current = ap length first.current ∙ many; at_arrival = ap length first.at_arrival ∙ many; after_handlers = ap length first.after_handlers ∙ many };
     row_room = first.room;
   }
 

@@ -15,7 +15,7 @@ use Rattle.std.specs.Prelude.{Result}
 use Rattle.qss_components.proofs.RowsTold.{rows_tell_handlers}
 use Rattle.qss_devs.proofs.Stays.{holds_still}
 
-module _ (m : Machine) (name : Option Rule) (tick : ℕ) (w : Snapshot) where
+module _ (m : Machine) (tick : ℕ) (w : Snapshot) where
   abbrev h : HandlerState
   h = handlers_at m tick w
 
@@ -35,7 +35,7 @@ module _ (m : Machine) (name : Option Rule) (tick : ℕ) (w : Snapshot) where
         (row_is_light m w.levels w.discretes left.light j inside).slope;
   }
 
-  module _ (none : h.overflow ≡ None) (levels : List ℤ) (allowed : AreNextLevels (IsAllowedLevel name) m h.states w.levels levels) where
+  module _ (name : Option Rule) (none : h.overflow ≡ None) (levels : List ℤ) (allowed : AreNextLevels (IsAllowedLevel name) m h.states w.levels levels) where
     abbrev next : Snapshot
     next = record { states = h.states; levels = levels; discretes = h.discretes; at_arrival = truths m (moved_states m w) w.discretes tick; after_handlers = truths m h.states h.discretes tick }
 

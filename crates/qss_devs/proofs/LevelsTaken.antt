@@ -28,30 +28,30 @@ rule_free Floor unit state old h = floor-free unit state old h
 rule_free Near unit state old h = near-free unit state old h
 rule_free Inward unit state old h = inward-free unit state old h
 
-same_rule : (name : Option Rule) (rule other : Rule) → name ≡ Some rule → name ≡ Some other → rule ≡ other
-same_rule name rule other a b = cc
+same_rule : (rule other : Rule) → Some rule ≡ Some other → rule ≡ other
+same_rule rule other is = cc
 
-module _ (m : Machine) (name : Option Rule) (rule : Rule) (named : name ≡ Some rule) (v : Values) where
-  after_allowed : (j : ℕ) → IsNextLevel (IsAllowedLevel name) m j (int_at v.states j) (int_at v.levels j) (level_after m rule v j)
+module _ (m : Machine) (rule : Rule) (v : Values) where
+  after_allowed : (j : ℕ) → IsNextLevel (IsAllowedLevel (Some rule)) m j (int_at v.states j) (int_at v.levels j) (level_after m rule v j)
   after_allowed j = by (is_within_quantum m j (int_at v.states j) (int_at v.levels j)) refl
     where
       positive : pos 0 <ℤ level_unit m
       positive = omega (arith, ints, (unit_fits m).from_one)
 
       by : (b : Bool) → is_within_quantum m j (int_at v.states j) (int_at v.levels j) ≡ b →
-          MatchBool b (level_after m rule v j ≡ int_at v.levels j) (IsAnswer name (int_at v.states j) (int_at v.levels j) (level_unit m) (level_after m rule v j))
+          MatchBool b (level_after m rule v j ≡ int_at v.levels j) (IsAnswer (Some rule) (int_at v.states j) (int_at v.levels j) (level_unit m) (level_after m rule v j))
       by true e = if-true (is_within_quantum m j (int_at v.states j) (int_at v.levels j)) _ _ e
       by false e =
           let taken : level_after m rule v j ≡ level_by rule (level_unit m) (int_at v.states j) (int_at v.levels j) = if-false (is_within_quantum m j (int_at v.states j) (int_at v.levels j)) _ _ e in
           record {
             close = subst (IsWithinOneLevel (level_unit m) (int_at v.states j) (int_at v.levels j)) (sym taken) (rule_free rule (level_unit m) (int_at v.states j) (int_at v.levels j) positive);
-            named = λ other is. taken ∙ ap (λ (r : Rule). level_by r (level_unit m) (int_at v.states j) (int_at v.levels j)) (same_rule name rule other named is);
+            named = λ other is. taken ∙ ap (λ (r : Rule). level_by r (level_unit m) (int_at v.states j) (int_at v.levels j)) (same_rule rule other is);
           }
 
-  pub all_allowed : AreNextLevels (IsAllowedLevel name) m v.states v.levels (tabulate (state_count m) (level_after m rule v))
+  pub all_allowed : AreNextLevels (IsAllowedLevel (Some rule)) m v.states v.levels (tabulate (state_count m) (level_after m rule v))
   all_allowed = record {
     one_each = length-map-range_with_len (level_after m rule v) 0 (state_count m);
-    each = λ j h. subst (IsNextLevel (IsAllowedLevel name) m j (int_at v.states j) (int_at v.levels j)) (sym (int_at-tabulate (state_count m) (level_after m rule v) j h)) (after_allowed j);
+    each = λ j h. subst (IsNextLevel (IsAllowedLevel (Some rule)) m j (int_at v.states j) (int_at v.levels j)) (sym (int_at-tabulate (state_count m) (level_after m rule v) j h)) (after_allowed j);
   }
 
 -- ---- the levels of the first n states
@@ -102,7 +102,9 @@ module _ (m : Machine) (rule : Rule) (v : Values) where
 
 -- ---- the loop
 
-pub taken_none : {X : Type 0} {g : _} (m : Machine) (rule : Rule) (tick : ℕ) (v : Values) (parts : Components X g) (rows : List Row) → Agrees m tick v parts → AreTakenUpTo m rule tick v 0 parts rows rows
+pub taken_none : {X : Type 0} {g : _} (m : Machine) (rule : Rule) (tick : ℕ) (v : Values)
+    (parts : Components X g) (rows : List Row) → Agrees m tick v parts →
+    AreTakenUpTo m rule tick v 0 parts rows rows
 taken_none {X} {g} m rule tick v parts rows a = record { agree = a; small = λ i h. absurd (omega (arith, h)); rows = sym (append-nil rows) }
 
 rows_more : (f : ℕ → List Row) (n : ℕ) → flat_map f (range_with_len 0 (suc n)) ≡ flat_map f (range_with_len 0 n) ++ f n
@@ -110,9 +112,12 @@ rows_more f n =
     let e : 0 + n ≡ n = omega arith in
     ap (flat_map f) (range_more 0 n) ∙ flat_map-append f (range_with_len 0 n) ((0 + n) ∷ []) ∙ ap (λ more. flat_map f (range_with_len 0 n) ++ more) (append-nil (f (0 + n)) ∙ ap f e)
 
-pub taken_more : {X : Type 0} {g : _} (m : Machine) (rule : Rule) (tick : ℕ) (v : Values) (n : ℕ) (parts next : Components X g) (old mid new : List Row) →
-    AreTakenUpTo m rule tick v n parts old mid → IsLevelTaken m rule tick (leveled m rule v n) n next mid new None → AreTakenUpTo m rule tick v (n + 1) next old new
-taken_more {X} {g} m rule tick v n parts next old mid new before step =
+pub taken_more : {X : Type 0} {g : _} {m : Machine} {rule : Rule} {tick : ℕ} {v : Values} {n : ℕ}
+    {parts next : Components X g} {old mid new : List Row} →
+    AreTakenUpTo m rule tick v n parts old mid →
+    IsLevelTaken m rule tick (leveled m rule v n) n next mid new None →
+    AreTakenUpTo m rule tick v (n + 1) next old new
+taken_more {X} {g} {m} {rule} {tick} {v} {n} {parts} {next} {old} {mid} {new} before step =
     let past : exceeds 43 (level_after m rule v n) ≡ false = sym (ap (exceeds 43) (next_after m rule v n)) ∙ not_past (exceeds 43 (level_after m rule (leveled m rule v n) n)) n step.own_over in
     let e : suc n ≡ n + 1 = omega arith in
     subst (λ (k : ℕ). AreTakenUpTo m rule tick v k next old new) e (record {
@@ -137,11 +142,13 @@ rows_same f g (suc n) same =
     ∙ ap (λ rows. flat_map g (range_with_len 0 n) ++ rows) (same n (omega arith))
     ∙ sym (rows_more g n)
 
-module _ {X : Type 0} {g : _} (m : Machine) (name : Option Rule) (rule : Rule) (named : name ≡ Some rule) (tick : ℕ) (v : Values) (each : HasEach m v) (parts : Components X g) (old new : List Row) where
-  pub taken_all : AreTakenUpTo m rule tick v (state_count m) parts old new → AreTaken m name tick v parts old new None
+module _ {X : Type 0} {g : _} {m : Machine} {rule : Rule} {tick : ℕ} {v : Values}
+    {parts : Components X g} {old new : List Row} (each : HasEach m v) where
+  pub taken_all : AreTakenUpTo m rule tick v (state_count m) parts old new →
+      AreTaken m (Some rule) tick v parts old new None
   taken_all taken = record {
     levels = tabulate (state_count m) (level_after m rule v);
-    allowed = all_allowed m name rule named v;
+    allowed = all_allowed m rule v;
     own_over =
         sym (position-none (pos 0) (exceeds 43) (tabulate (state_count m) (level_after m rule v))
         (λ k inside.
@@ -164,26 +171,38 @@ module _ {X : Type 0} {g : _} (m : Machine) (name : Option Rule) (rule : Rule) (
         (sym each.states));
   }
 
-  -- one whose level passes its limit ends it
-  pub taken_over : (n : ℕ) (before : Components X g) (mid : List Row) → n < state_count m → AreTakenUpTo m rule tick v n before old mid →
-      IsLevelTaken m rule tick (leveled m rule v n) n parts mid new (Some n) → AreTaken m name tick v parts old new (Some n)
-  taken_over n before mid inside taken step =
-      let past : exceeds 43 (level_after m rule v n) ≡ true = sym (ap (exceeds 43) (next_after m rule v n)) ∙ is_past (exceeds 43 (level_after m rule (leveled m rule v n) n)) n n step.own_over in
+  -- a level that exceeds its limit ends the loop
+  pub taken_over : {n var : ℕ} {before : Components X g} {mid : List Row} → n < state_count m →
+      AreTakenUpTo m rule tick v n before old mid →
+      IsLevelTaken m rule tick (leveled m rule v n) n parts mid new (Some var) →
+      AreTaken m (Some rule) tick v parts old new (Some var)
+  taken_over {n} {var} {before} {mid} inside taken step =
+      let all : List ℤ = tabulate (state_count m) (level_after m rule v) in
+      let as_many : length all ≡ state_count m =
+      length-map-range_with_len (level_after m rule v) 0 (state_count m) in
+      let over = is_past _ n var step.own_over in
+      let past : exceeds 43 (level_after m rule v n) ≡ true =
+      sym (ap (exceeds 43) (next_after m rule v n)) ∙ over.0 in
       record {
-        levels = tabulate (state_count m) (level_after m rule v);
-        allowed = all_allowed m name rule named v;
+        levels = all;
+        allowed = all_allowed m rule v;
         own_over =
-            sym (first_is (pos 0) (exceeds 43) (tabulate (state_count m) (level_after m rule v)) n (omega (arith, inside, length-map-range_with_len (level_after m rule v) 0 (state_count m)))
-            (λ k less. ap (exceeds 43) (int_at-tabulate (state_count m) (level_after m rule v) k (omega (arith, less, inside))) ∙ within-passes 43 (level_after m rule v k) (taken.small k less))
-            (ap (exceeds 43) (int_at-tabulate (state_count m) (level_after m rule v) n inside) ∙ past));
+            ap (λ (k : ℕ). Some k) over.1
+            ∙ sym (first_is (pos 0) (exceeds 43) all n (omega (arith, inside, as_many))
+            (λ k less. ap (exceeds 43)
+            (int_at-tabulate (state_count m) (level_after m rule v) k (omega (arith, less, inside)))
+            ∙ within-passes 43 (level_after m rule v k) (taken.small k less))
+            (ap (exceeds 43) (int_at-tabulate (state_count m) (level_after m rule v) n inside)
+            ∙ past));
         agree = λ e. absurd (cc);
         rows = λ e. absurd (cc);
       }
 
 -- the values after some integrators made their transitions are within the limits
-pub leveled_values : {X : Type 0} {g : _} (m : Machine) (rule : Rule) (tick : ℕ) (v : Values) (n : ℕ) (parts : Components X g) (old new : List Row) → n ≤ state_count m → AreValues m v →
+pub leveled_values : {X : Type 0} {g : _} {m : Machine} {rule : Rule} {tick : ℕ} {v : Values}
+    {n : ℕ} {parts : Components X g} {old new : List Row} → n ≤ state_count m → AreValues m v →
     AreTakenUpTo m rule tick v n parts old new → AreValues m (leveled m rule v n)
-leveled_values {X} {g} m rule tick v n parts old new le values taken = record {
+leveled_values {X} {g} {m} {rule} {tick} {v} {n} le values taken = record {
   each = record { states = values.each.states; slopes = values.each.slopes; levels = upto_many m rule v n ∙ values.each.levels; discretes = values.each.discretes };
   small = λ i h. elim (cases_lt i n) [
     | inl less ↦ subst (IsWithin 43) (sym (upto_taken m rule v n i (omega (arith, le, values.each.levels)) less)) (taken.small i less)

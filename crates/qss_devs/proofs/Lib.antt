@@ -2,8 +2,8 @@ mod Common
 mod Begun
 mod StartInputs
 mod ToldAgain
-mod Telling
-mod ToldParts
+mod MessageDelivery
+mod MessagesReceived
 mod DueFlags
 mod ToldRows
 mod Coasting
@@ -13,11 +13,11 @@ mod NextVisits
 mod AgreeTold
 mod Overs
 mod OwnLevels
-mod OwnTurns
+mod OneTransition
 mod OwnSlopes
-mod LevelTurns
+mod IntegratorTransition
 mod LevelsTaken
-mod SlopeTurns
+mod FunctionTransition
 mod SlopesSent
 mod Readings
 mod ReadParts

@@ -1,17 +1,19 @@
--- Whether a variable passes its limit.
+-- The variable that exceeds its limit, or none.
 use Rattle.qss_devs.proofs.Common
-use Common.{ℕ, ◌≡◌, Bool, clash, false, if◌then◌else◌, is_some, None, Option, refl, Some, true}
+use Common.{ℕ, ◌≡◌, Bool, Err, false, if◌then◌else◌, None, refl, Some, true}
+use Rattle.std.specs.Prelude.{Result}
+use Rattle.qss_hand.specs.Works.{overflow_of}
+use Rattle.qss_hand.specs.declared.handler_statements.Over.{Over}
 
--- what is one variable or none is that one where it is some
-pub over_is : (b : Bool) (j : ℕ) (o : Option ℕ) → is_some o ≡ true → o ≡ (if b then Some j else None) → o ≡ Some j
-over_is true j o some e = e
-over_is false j o some e = clash o some e
+-- an error has an overflow
+pub no_overflow : {T A : Type 0} (r : Result T Over) (e : Over) → r ≡ Err e → overflow_of r ≡ None → A
+no_overflow r e is none = let some : Some e.var ≡ None = rw is at none in absurd (cc)
 
--- where it is none the test fails, and else it holds
+-- the test of a limit, from the variable that exceeds it
 pub not_past : {X : Type 0} (b : Bool) (x : X) → None ≡ (if b then Some x else None) → b ≡ false
 not_past false x e = refl
 not_past true x e = absurd (cc)
 
-pub is_past : {X : Type 0} (b : Bool) (x y : X) → Some y ≡ (if b then Some x else None) → b ≡ true
-is_past true x y e = refl
+pub is_past : (b : Bool) (x y : ℕ) → Some y ≡ (if b then Some x else None) → (b ≡ true) × (y ≡ x)
+is_past true x y e = (refl, cc)
 is_past false x y e = absurd (cc)

@@ -44,9 +44,12 @@ module _ (m : Machine) (v : Values) where
 pub sent_none : {X : Type 0} {g : _} (m : Machine) (tick : ℕ) (v : Values) (parts : Components X g) → Agrees m tick v parts → AreSentUpTo m tick v 0 parts
 sent_none {X} {g} m tick v parts a = record { agree = a; light = λ i h. absurd (omega (arith, h)); sent = λ i h. absurd (omega (arith, h)) }
 
-pub sent_more : {X : Type 0} {g : _} (m : Machine) (tick : ℕ) (v : Values) (n : ℕ) (parts next : Components X g) → n < state_count m → AreSentUpTo m tick v n parts →
-    IsSlopeSent m tick (sloped m v n) n next None → ((i : ℕ) → i < state_count m → i ≢ n → function_state_at next i ≡ function_state_at parts i) → AreSentUpTo m tick v (n + 1) next
-sent_more {X} {g} m tick v n parts next inside before step others =
+pub sent_more : {X : Type 0} {g : _} {m : Machine} {tick : ℕ} {v : Values} {n : ℕ}
+    {parts next : Components X g} → n < state_count m → AreSentUpTo m tick v n parts →
+    IsSlopeSent m tick (sloped m v n) n next None →
+    ((i : ℕ) → i < state_count m → i ≢ n → function_state_at next i ≡ function_state_at parts i) →
+    AreSentUpTo m tick v (n + 1) next
+sent_more {X} {g} {m} {tick} {v} {n} {parts} {next} inside before step others =
     let light : exceeds_row_limits m v.levels v.discretes (row_at m n) ≡ false = not_past (exceeds_row_limits m v.levels v.discretes (row_at m n)) n step.own_over in
     let e : suc n ≡ n + 1 = omega arith in
     subst (λ (k : ℕ). AreSentUpTo m tick v k next) e (record {
@@ -61,7 +64,8 @@ sent_more {X} {g} m tick v n parts next inside before step others =
       ];
     })
 
-module _ {X : Type 0} {g : _} (m : Machine) (tick : ℕ) (v : Values) (each : HasEach m v) (parts : Components X g) where
+module _ {X : Type 0} {g : _} {m : Machine} {tick : ℕ} {v : Values} {parts : Components X g}
+    (each : HasEach m v) where
   pub sent_all : AreSentUpTo m tick v (state_count m) parts → AreSent m tick v parts None
   sent_all done = record {
     own_over = sym (position-none no_row (exceeds_row_limits m v.levels v.discretes) m.rows (λ j inside. done.light j (omega (arith, inside, m.has_rows.one_each))));
@@ -69,18 +73,26 @@ module _ {X : Type 0} {g : _} (m : Machine) (tick : ℕ) (v : Values) (each : Ha
     sent = λ e. done.sent;
   }
 
-  pub sent_over : (n : ℕ) (before : Components X g) → n < state_count m → AreSentUpTo m tick v n before → IsSlopeSent m tick (sloped m v n) n parts (Some n) → AreSent m tick v parts (Some n)
-  sent_over n before inside done step =
-      let heavy : exceeds_row_limits m v.levels v.discretes (row_at m n) ≡ true = is_past (exceeds_row_limits m v.levels v.discretes (row_at m n)) n n step.own_over in
+  -- a row that exceeds its limits ends the loop
+  pub sent_over : {n var : ℕ} {before : Components X g} → n < state_count m →
+      AreSentUpTo m tick v n before → IsSlopeSent m tick (sloped m v n) n parts (Some var) →
+      AreSent m tick v parts (Some var)
+  sent_over {n} {var} {before} inside done step =
+      let over = is_past (exceeds_row_limits m v.levels v.discretes (row_at m n)) n var step.own_over in
       record {
-        own_over = sym (first_is no_row (exceeds_row_limits m v.levels v.discretes) m.rows n (omega (arith, inside, m.has_rows.one_each)) (λ k less. done.light k less) heavy);
+        own_over =
+            ap (λ (k : ℕ). Some k) over.1
+            ∙ sym (first_is no_row (exceeds_row_limits m v.levels v.discretes) m.rows n
+            (omega (arith, inside, m.has_rows.one_each)) (λ k less. done.light k less) over.0);
         agree = λ e. absurd (cc);
         sent = λ e. absurd (cc);
       }
 
 -- the values after some functions made their transitions are within the limits
-pub sloped_values : {X : Type 0} {g : _} (m : Machine) (tick : ℕ) (v : Values) (n : ℕ) (parts : Components X g) → n ≤ state_count m → AreValues m v → AreSentUpTo m tick v n parts → AreValues m (sloped m v n)
-sloped_values {X} {g} m tick v n parts le values done = record {
+pub sloped_values : {X : Type 0} {g : _} {m : Machine} {tick : ℕ} {v : Values} {n : ℕ}
+    {parts : Components X g} → n ≤ state_count m → AreValues m v → AreSentUpTo m tick v n parts →
+    AreValues m (sloped m v n)
+sloped_values {X} {g} {m} {tick} {v} {n} le values done = record {
   each = record { states = values.each.states; slopes = upto_many m v n ∙ values.each.slopes; levels = values.each.levels; discretes = values.each.discretes };
   small = values.small;
   slow = λ i h. elim (cases_lt i n) [

@@ -17,6 +17,7 @@ use Rattle.qss_devs.specs.declared.coupled_start.Store.{Store}
 use Rattle.qss_devs.specs.Coupling.{line_at, function_state_at, crossing_at, AreComponents}
 use Rattle.qss_devs.specs.Coupling.{AreRuled, AreReady, AllLinesLater}
 use Rattle.qss_devs.specs.CoupledSteps.{IsToldMessage, Agrees}
+use Rattle.qss_devs.specs.Flags.{HaveFlags}
 
 -- the states of the integrators' lines at a tick, and their levels
 abbrev pub states_at : {X : Type 0} {g : _} → ℕ → Components X g → List ℤ
@@ -42,9 +43,7 @@ pub record FitsMachine {X : Type 0} {g : _} (m : Machine) (name : Option Rule) (
   pub ruled : AreRuled name s.parts
   pub values : AreValuesOf m s.work
   pub work_room : row_room m.clauses ≤ s.work.room
-  pub now : length s.truths.now.items ≡ length (conditions m)
-  pub at_arrival : length s.truths.at_arrival.items ≡ length (conditions m)
-  pub after_handlers : length s.truths.after_handlers.items ≡ length (conditions m)
+  pub flags : HaveFlags (length (conditions m)) s.truths
   pub row_room : row_room m.clauses + state_count m + discrete_count m + 1 ≤ vec_capacity s.rows
 
 -- no crossing is due at or before this tick
@@ -79,4 +78,4 @@ pub record IsAfterHandlers {X : Type 0} {g : _} (m : Machine) (name : Option Rul
   pub log : s.work.log ≡ (handlers_at m tick w).rows
   pub told : All (IsToldMessage m) s.work.log
   pub count : length s.work.log ≤ row_room m.clauses
-  pub now : s.truths.now.items ≡ truths m (moved_states m w) w.discretes tick
+  pub current : s.truths.current.items ≡ truths m (moved_states m w) w.discretes tick

@@ -2,32 +2,38 @@
 //! the handlers of the tick.
 
 ghost use Rattle.std.specs.Prelude.{◌≡◌, ◌<◌, ◌≤◌, ℕ, Bool, length, map, All, Some, slice_index_or};
-ghost use Rattle.qss_devs.specs.Prelude.{compares, int_at, first_exceeding, conditions, flag_at, variable_limit, tick_limit, bits_of_state, state_at, holds_at, IsTimely, CrossingModel, Truth, IsCrossingNext, IsRead, crossing_of, Values};
+ghost use Rattle.qss_devs.specs.Prelude.{compares, int_at, first_exceeding, conditions, flag_at, variable_limit, tick_limit, bits_of_state, state_at, holds_at, IsTimely, CrossingModel, Truth, IsCrossingNext, IsRead, crossing_of, Values, overflow_of};
 ghost use Rattle.qss_devs.specs.CoupledEvents.{CrossingsLater};
 ghost use Rattle.qss_devs.specs.CoupledSteps.{Agrees};
 ghost use Rattle.qss_devs.specs.Coupling.{crossing_at, AreComponents};
+ghost use Rattle.qss_devs.specs.Flags.{HaveFlags};
 
 use crate::coupled_messages::Components;
 use crate::coupled_start::Truths;
 use mu_num::{STATE_BITS, exceeds_power_of_two};
 use qss_components::{Atomic, CrossingModel, IntegratorModel, Message, is_due};
+use qss_hand::{Over, Work};
 use qss_machine::Machine;
 
-/// Computes the states of all lines at a tick. Returns the first that exceeds its limit.
+/// Computes the states of all lines at a tick, on which the handlers work. The error is the first
+/// state that exceeds its limit.
 pub(crate) fn compute_arrival_states(
     integrators: &[IntegratorModel],
     tick: u64,
-    x: &mut [i128],
-) -> Option<u32>
+    work: &mut Work,
+) -> Result<(), Over>
     requires count_limit { length integrators.now ≤ variable_limit }
-    requires same_length { length x.old ≡ length integrators.now }
+    requires same_length { length work.old.x ≡ length integrators.now }
     requires not_later { All (λ i. i.line.tick ≤ tick) integrators.now }
     requires tick_limit { tick < tick_limit }
-    ensures states { x.new ≡ map (λ i. state_at i.line tick) integrators.now }
-    ensures overflow { result ≡ first_exceeding bits_of_state (map (λ i. state_at i.line tick) integrators.now) }
+    ensures work { work.new ≡ record work.old {
+      x = map (λ i. state_at i.line tick) integrators.now;
+    } }
+    ensures overflow { overflow_of result
+        ≡ first_exceeding bits_of_state (map (λ i. state_at i.line tick) integrators.now) }
 {
-    fill_arrival_states(integrators, tick, x);
-    first_number_exceeding(x, STATE_BITS)
+    fill_arrival_states(integrators, tick, &mut work.x);
+    check_arrival_states(&work.x)
 }
 
 #[tactic(none)]
@@ -57,24 +63,19 @@ pub(crate) fn read_crossings_on_arrival(
     ensures agree { (v : Values) → Agrees m.now tick v parts.old → Agrees m.now tick v parts.new }
     ensures later { CrossingsLater m.now tick (crossing_at parts.new) }
 {
-    read_all_on_arrival(parts.crossings.as_mut_slice(), tick, now);
+    read_all_on_arrival(&mut parts.crossings, tick, now);
 }
 
 /// Stores the truth values on arrival and after the handlers.
 pub(crate) fn settle_arrival_truths(crossings: &[CrossingModel], truths: &mut Truths)
-    requires now { length truths.old.now.items ≡ length crossings.now }
-    requires at_arrival { length truths.old.at_arrival.items ≡ length crossings.now }
-    requires after_handlers { length truths.old.after_handlers.items ≡ length crossings.now }
-    ensures now { truths.new.now.items ≡ truths.old.now.items }
-    ensures at_arrival { truths.new.at_arrival.items ≡ truths.old.now.items }
+    requires { HaveFlags (length crossings.now) truths.old }
+    ensures current { truths.new.current.items ≡ truths.old.current.items }
+    ensures at_arrival { truths.new.at_arrival.items ≡ truths.old.current.items }
     ensures after_handlers { truths.new.after_handlers.items
         ≡ map (λ c. compares c.detector.rel c.detector.value) crossings.now }
 {
-    truths
-        .at_arrival
-        .as_mut_slice()
-        .copy_from_slice(truths.now.as_slice());
-    settle_all_arrival_truths(crossings, truths.after_handlers.as_mut_slice());
+    truths.at_arrival.copy_from_slice(&truths.current);
+    settle_all_arrival_truths(crossings, &mut truths.after_handlers);
 }
 
 // Computes the states of all lines at a tick.
@@ -99,18 +100,17 @@ fn state_of_line_at(integrators: &[IntegratorModel], j: usize, tick: u64) -> i12
     integrators[j].line.value_at(tick)
 }
 
-/// The least index of a number greater than 2^bits in absolute value.
-pub(crate) fn first_number_exceeding(numbers: &[i128], bits: u8) -> Option<u32>
-    requires count_limit { length numbers.now ≤ variable_limit }
-    requires bits { bits < 100 }
-    ensures { result ≡ first_exceeding bits numbers.now }
+// The error is the first state that exceeds its limit.
+fn check_arrival_states(states: &[i128]) -> Result<(), Over>
+    requires { length states.now ≤ variable_limit }
+    ensures { overflow_of result ≡ first_exceeding bits_of_state states.now }
 {
-    for place in 0..numbers.len() {
-        if exceeds_power_of_two(numbers[place], bits) {
-            return Some(place as u32);
+    for j in 0..states.len() {
+        if exceeds_power_of_two(states[j], STATE_BITS) {
+            return Err(Over { var: j as u32 });
         }
     }
-    None
+    Ok(())
 }
 
 // Computes which conditions hold on arrival.

@@ -1,43 +1,39 @@
 //! Runs the handlers of a tick: in each clause the first due branch fires.
 
 ghost use Rattle.std.specs.Prelude.{◌≡◌, ◌+◌, ◌<◌, ◌≤◌, [], length, All, position};
-ghost use Rattle.qss_devs.specs.Prelude.{flag_at, condition_limit, conditions, firing_flags, run_first_due, run_clauses, clause_room, AreValuesOf, handling_of, values_after, overflow_of, clause_at, row_room, branch_at, IsForm, state_count, discrete_count};
+ghost use Rattle.qss_devs.specs.Prelude.{flag_at, condition_limit, conditions, run_first_due, run_clauses, clause_room, AreValuesOf, handling_of, values_after, overflow_of, clause_at, row_room, branch_at, IsForm, state_count, discrete_count};
 ghost use Rattle.qss_devs.specs.CoupledSteps.{IsToldMessage};
-ghost use Rattle.qss_devs.specs.Flags.{flags_from};
+ghost use Rattle.qss_devs.specs.Flags.{HaveFlags, due_flags, flags_from};
 
+use crate::coupled_start::Truths;
 use qss_hand::{Over, Work, fire};
 use qss_machine::{Condition, Machine};
 
-/// Runs all clauses in order. The first due branch of each fires. The flags are the truth values of
-/// the conditions on arrival now, on the last arrival, and after the last handlers.
+/// Runs all clauses in order. The first due branch of each fires.
 pub(crate) fn fire_clauses_on_arrival(
     m: &Machine,
-    now: &[bool],
-    at_arrival: &[bool],
-    after_handlers: &[bool],
+    truths: &Truths,
     work: &mut Work,
 ) -> Result<(), Over>
-    requires now { length now.now ≡ length (conditions m.now) }
-    requires at_arrival { length at_arrival.now ≡ length (conditions m.now) }
-    requires after_handlers { length after_handlers.now ≡ length (conditions m.now) }
+    requires flags { HaveFlags (length (conditions m.now)) truths.now }
     requires fits { AreValuesOf m.now work.old }
     requires fresh { work.old.log ≡ [] }
     requires room { row_room m.now.clauses ≤ work.old.room }
     ensures values { work.new ≡ values_after work.old
         (run_clauses m.now work.old.tick work.old.pre 0 (handling_of work.old) m.now.clauses
-        (firing_flags now.now at_arrival.now after_handlers.now)) }
-    ensures overflow { overflow_of result ≡
-        (run_clauses m.now work.old.tick work.old.pre 0 (handling_of work.old) m.now.clauses
-        (firing_flags now.now at_arrival.now after_handlers.now)).overflow }
+        (due_flags truths.now)) }
+    ensures overflow { overflow_of result
+        ≡ (run_clauses m.now work.old.tick work.old.pre 0 (handling_of work.old) m.now.clauses
+        (due_flags truths.now)).overflow }
     ensures fits { AreValuesOf m.now work.new }
     ensures told { All (IsToldMessage m.now) work.new.log }
     ensures count { length work.new.log ≤ row_room m.now.clauses }
 {
-    fire_all_clauses(m, now, at_arrival, after_handlers, work)
+    fire_all_clauses(m, truths, work)
 }
 
 /// The condition of a branch.
-pub(crate) fn coupled_branch_condition(m: &Machine, clause: usize, branch: usize) -> &Condition
+pub(crate) fn branch_condition(m: &Machine, clause: usize, branch: usize) -> &Condition
     requires clause { clause < length m.now.clauses }
     requires branch { branch < length (clause_at m.now clause).branches }
     ensures value { result.now ≡ (branch_at m.now clause branch).condition }
@@ -48,37 +44,29 @@ pub(crate) fn coupled_branch_condition(m: &Machine, clause: usize, branch: usize
 }
 
 // Runs all clauses in order. The first due branch of each fires.
-fn fire_all_clauses(
-    m: &Machine,
-    now: &[bool],
-    at_arrival: &[bool],
-    after_handlers: &[bool],
-    w: &mut Work,
-) -> Result<(), Over>
-    requires now { length now.now ≡ length (conditions m.now) }
-    requires at_arrival { length at_arrival.now ≡ length now.now }
-    requires after_handlers { length after_handlers.now ≡ length now.now }
+fn fire_all_clauses(m: &Machine, truths: &Truths, w: &mut Work) -> Result<(), Over>
+    requires flags { HaveFlags (length (conditions m.now)) truths.now }
     requires fits { AreValuesOf m.now w.old }
     requires room { length w.old.log + row_room m.now.clauses ≤ w.old.room }
     ensures values { w.new ≡ values_after w.old
         (run_clauses m.now w.old.tick w.old.pre 0 (handling_of w.old) m.now.clauses
-        (firing_flags now.now at_arrival.now after_handlers.now)) }
-    ensures overflow { overflow_of result ≡
-        (run_clauses m.now w.old.tick w.old.pre 0 (handling_of w.old) m.now.clauses
-        (firing_flags now.now at_arrival.now after_handlers.now)).overflow }
+        (due_flags truths.now)) }
+    ensures overflow { overflow_of result
+        ≡ (run_clauses m.now w.old.tick w.old.pre 0 (handling_of w.old) m.now.clauses
+        (due_flags truths.now)).overflow }
     ensures fits { AreValuesOf m.now w.new }
 {
     let mut first = 0;
     for clause in 0..m.clauses.as_slice().len() {
-        let count = coupled_branch_count(m, clause);
-        fire_coupled_branch(m, clause as u32, first, now, at_arrival, after_handlers, w)?;
+        let count = branch_count(m, clause);
+        fire_clause(m, clause as u32, first, truths, w)?;
         first += count;
     }
     Ok(())
 }
 
 /// The number of branches of a clause.
-pub(crate) fn coupled_branch_count(m: &Machine, clause: usize) -> usize
+pub(crate) fn branch_count(m: &Machine, clause: usize) -> usize
     requires { clause < length m.now.clauses }
     ensures { result ≡ length (clause_at m.now clause).branches }
 {
@@ -86,56 +74,44 @@ pub(crate) fn coupled_branch_count(m: &Machine, clause: usize) -> usize
 }
 
 // Runs a clause: its first due branch fires, if there is one. Its conditions begin at `first`.
-fn fire_coupled_branch(
+fn fire_clause(
     m: &Machine,
     clause: u32,
     first: usize,
-    now: &[bool],
-    at_arrival: &[bool],
-    after_handlers: &[bool],
+    truths: &Truths,
     w: &mut Work,
 ) -> Result<(), Over>
     requires clause { clause < length m.now.clauses }
-    requires inside { first + length (clause_at m.now clause).branches ≤ length now.now }
-    requires count_limit { length now.now ≤ condition_limit }
-    requires at_arrival { length at_arrival.now ≡ length now.now }
-    requires after_handlers { length after_handlers.now ≡ length now.now }
+    requires inside { first + length (clause_at m.now clause).branches
+        ≤ length (conditions m.now) }
+    requires flags { HaveFlags (length (conditions m.now)) truths.now }
     requires fits { AreValuesOf m.now w.old }
     requires room { length w.old.log + clause_room (clause_at m.now clause) ≤ w.old.room }
     ensures values { w.new ≡ values_after w.old (run_first_due m.now w.old.tick w.old.pre clause 0
         (handling_of w.old) (clause_at m.now clause).branches
-        (flags_from first (length (clause_at m.now clause).branches)
-        (firing_flags now.now at_arrival.now after_handlers.now))) }
+        (flags_from first (length (clause_at m.now clause).branches) (due_flags truths.now))) }
     ensures overflow { overflow_of result ≡ (run_first_due m.now w.old.tick w.old.pre clause 0
         (handling_of w.old) (clause_at m.now clause).branches
         (flags_from first (length (clause_at m.now clause).branches)
-        (firing_flags now.now at_arrival.now after_handlers.now))).overflow }
+        (due_flags truths.now))).overflow }
     ensures fits { AreValuesOf m.now w.new }
 {
-    let count = coupled_branch_count(m, clause as usize);
-    match first_due_coupled_branch(now, at_arrival, after_handlers, first, count) {
+    let count = branch_count(m, clause as usize);
+    match first_due_branch(truths, first, count) {
         Some(branch) => fire(m, clause, branch, w),
         None => Ok(()),
     }
 }
 
 // The first due branch of a clause. Its conditions are the `count` ones from `first` on.
-fn first_due_coupled_branch(
-    now: &[bool],
-    at_arrival: &[bool],
-    after_handlers: &[bool],
-    first: usize,
-    count: usize,
-) -> Option<u32>
-    requires inside { first + count ≤ length now.now }
-    requires count_limit { length now.now ≤ condition_limit }
-    requires at_arrival { length at_arrival.now ≡ length now.now }
-    requires after_handlers { length after_handlers.now ≡ length now.now }
-    ensures { result ≡ position (λ flag. flag)
-        (flags_from first count (firing_flags now.now at_arrival.now after_handlers.now)) }
+fn first_due_branch(truths: &Truths, first: usize, count: usize) -> Option<u32>
+    requires inside { first + count ≤ length truths.now.current.items }
+    requires count_limit { length truths.now.current.items ≤ condition_limit }
+    requires flags { HaveFlags (length truths.now.current.items) truths.now }
+    ensures { result ≡ position (λ flag. flag) (flags_from first count (due_flags truths.now)) }
 {
     for branch in 0..count {
-        if is_coupled_branch_due(now, at_arrival, after_handlers, first + branch) {
+        if is_branch_due(truths, first + branch) {
             return Some(branch as u32);
         }
     }
@@ -144,16 +120,10 @@ fn first_due_coupled_branch(
 
 // Whether a branch is due: its condition holds on arrival, and was false on the last arrival or
 // after the last handlers.
-fn is_coupled_branch_due(
-    now: &[bool],
-    at_arrival: &[bool],
-    after_handlers: &[bool],
-    place: usize,
-) -> bool
-    requires place { place < length now.now }
-    requires at_arrival { length at_arrival.now ≡ length now.now }
-    requires after_handlers { length after_handlers.now ≡ length now.now }
-    ensures { result ≡ flag_at (firing_flags now.now at_arrival.now after_handlers.now) place }
+fn is_branch_due(truths: &Truths, place: usize) -> bool
+    requires place { place < length truths.now.current.items }
+    requires flags { HaveFlags (length truths.now.current.items) truths.now }
+    ensures { result ≡ flag_at (due_flags truths.now) place }
 {
-    now[place] && !(at_arrival[place] && after_handlers[place])
+    truths.current[place] && !(truths.at_arrival[place] && truths.after_handlers[place])
 }

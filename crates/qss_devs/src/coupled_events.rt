@@ -2,7 +2,7 @@
 //! have an event. It also adds the rows at the start and at the end.
 
 ghost use Rattle.std.specs.Prelude.{◌≡◌, ◌+◌, ◌<◌, ◌≤◌, ◌++◌, if◌then◌else◌, All, None, length, map, vec_capacity, vec_len, ℕ, Option, Some, List};
-ghost use Rattle.qss_devs.specs.Prelude.{first_exceeding, variable_limit, tick_limit, bits_of_state, Snapshot, snapshot_unless, handlers_at, IsStep, tick_rows, state_rows, discrete_rows, snapshot_rows, last_snapshot, state_at, IsAllowedLevel, IsNext, tick_of, end_of, state_count, conditions, HasNoEventBefore, IsLineNext, IsCrossingNext, AreNext, AreEventFree, IsVisit};
+ghost use Rattle.qss_devs.specs.Prelude.{overflow_of, first_exceeding, variable_limit, tick_limit, bits_of_state, Snapshot, snapshot_unless, handlers_at, IsStep, tick_rows, state_rows, discrete_rows, snapshot_rows, last_snapshot, state_at, IsAllowedLevel, IsNext, tick_of, end_of, state_count, conditions, HasNoEventBefore, IsLineNext, IsCrossingNext, AreNext, AreEventFree, IsVisit};
 ghost use Rattle.qss_devs.specs.CoupledEvents.{snapshot_of, StoreRepresents, IsAfterHandlers};
 ghost use Rattle.qss_devs.specs.CoupledSteps.{IsNamed};
 ghost use Rattle.qss_devs.specs.CoupledViews.{view_of};
@@ -19,11 +19,18 @@ use crate::coupled_messages::{
 use crate::coupled_start::Store;
 use qss_components::{IntegratorModel, least_advance, least_integrator_leaving};
 use qss_events::{
-    Outcome, Visited, add_event_discrete_rows, has_event_condition_risen, set_event_overflow_row,
+    Outcome, add_event_discrete_rows, has_event_condition_risen, set_event_overflow_row,
 };
-use qss_hand::Work;
+use qss_hand::{Over, Work};
 use qss_machine::{Machine, Row, RowKind};
 use qss_quant::Quantizer;
+
+/// An event step: its tick and its result. The error is the variable that overflows.
+#[derive(Clone, Copy)]
+pub(crate) struct EventStep {
+    pub tick: u64,
+    pub ran: Result<(), Over>,
+}
 
 /// Advances to the next tick with rows, to an overflow, or to the last tick. Allocates no memory.
 pub(crate) fn go_to_next_rows(m: &Machine, q: &Quantizer, from: u64, s: &mut Store) -> Outcome
@@ -38,11 +45,14 @@ pub(crate) fn go_to_next_rows(m: &Machine, q: &Quantizer, from: u64, s: &mut Sto
 {
     let mut tick = from;
     while tick < m.last {
-        let visited = visit_next_step(m, q, tick, s);
-        tick = visited.tick;
-        if let Some(var) = visited.over {
-            set_event_overflow_row(tick, var, &mut s.rows);
-            return Outcome::Over { tick, var };
+        let step = visit_next_step(m, q, tick, s);
+        tick = step.tick;
+        if let Err(over) = step.ran {
+            set_event_overflow_row(tick, over.var, &mut s.rows);
+            return Outcome::Over {
+                tick,
+                var: over.var,
+            };
         }
         if !s.rows.is_empty() {
             return Outcome::Events { tick };
@@ -53,7 +63,7 @@ pub(crate) fn go_to_next_rows(m: &Machine, q: &Quantizer, from: u64, s: &mut Sto
 }
 
 /// Advances over the event-free ticks and runs one more tick.
-pub(crate) fn visit_next_step(m: &Machine, q: &Quantizer, tick: u64, s: &mut Store) -> Visited
+fn visit_next_step(m: &Machine, q: &Quantizer, tick: u64, s: &mut Store) -> EventStep
     requires named { IsNamed q.now.name }
     requires represents_snapshot { StoreRepresents m.now q.now.name tick s.old }
     requires tick_limit { tick < m.now.last }
@@ -61,17 +71,17 @@ pub(crate) fn visit_next_step(m: &Machine, q: &Quantizer, tick: u64, s: &mut Sto
     ensures tick_limit { result.tick ≤ m.now.last }
     ensures visited { (silent : List Snapshot) × IsVisit (IsAllowedLevel q.now.name) m.now tick
         (snapshot_of tick s.old) silent result.tick
-        (snapshot_unless result.over (snapshot_of result.tick s.new))
-        × (result.over ≡ None → s.new.rows.items ≡ tick_rows m.now result.tick
+        (snapshot_unless (overflow_of result.ran) (snapshot_of result.tick s.new))
+        × (overflow_of result.ran ≡ None → s.new.rows.items ≡ tick_rows m.now result.tick
         (last_snapshot (snapshot_of tick s.old) silent) (snapshot_of result.tick s.new)) }
-    ensures represents_snapshot { result.over ≡ None → StoreRepresents m.now q.now.name result.tick s.new }
+    ensures represents_snapshot { overflow_of result.ran ≡ None
+        → StoreRepresents m.now q.now.name result.tick s.new }
     ensures room { vec_capacity s.new.rows ≡ vec_capacity s.old.rows }
 {
     let before = skip_event_free_ticks(m, q, tick, s);
-    let over = run_next_tick(m, q, before, s);
-    Visited {
+    EventStep {
         tick: before + 1,
-        over,
+        ran: run_next_tick(m, q, before, s),
     }
 }
 
@@ -89,8 +99,8 @@ fn skip_event_free_ticks(m: &Machine, q: &Quantizer, tick: u64, s: &mut Store) -
     let next = next_step_tick(m, q, tick, s);
     copy_truths_if_still(
         tick + 1 < next,
-        s.truths.after_handlers.as_slice(),
-        s.truths.at_arrival.as_mut_slice(),
+        &s.truths.after_handlers,
+        &mut s.truths.at_arrival,
     );
     next - 1
 }
@@ -111,17 +121,12 @@ pub(crate) fn next_step_tick(m: &Machine, q: &Quantizer, tick: u64, s: &Store) -
         (line_at s.now.parts) (crossing_at s.now.parts) due
         × HasNoEventBefore result due }
 {
-    let at_arrival = s.truths.at_arrival.as_slice();
-    let after_handlers = s.truths.after_handlers.as_slice();
-    if has_event_condition_risen(at_arrival, after_handlers) {
+    if has_event_condition_risen(&s.truths.at_arrival, &s.truths.after_handlers) {
         return tick + 1;
     }
-    let integrators = s.parts.integrators.as_slice();
-    let functions = s.parts.functions.as_slice();
-    let crossings = s.parts.crossings.as_slice();
-    let first = least_integrator_leaving(integrators, m.last);
-    let second = least_advance(functions, first);
-    least_advance(crossings, second)
+    let first = least_integrator_leaving(&s.parts.integrators, m.last);
+    let second = least_advance(&s.parts.functions, first);
+    least_advance(&s.parts.crossings, second)
 }
 
 // After an event-free tick, the truth values on arrival are those after the last handlers.
@@ -135,102 +140,68 @@ fn copy_truths_if_still(still: bool, after_handlers: &[bool], at_arrival: &mut [
 }
 
 /// Runs the tick after the current one: crossings are read, handlers fire, integrators make their
-/// transitions, then functions. Returns the variable that overflows, if any. After an overflow the
-/// store is unspecified, except for its memory for rows.
+/// transitions, then functions. The error is the variable that overflows. After an error, the store
+/// is unspecified, except for its memory for rows.
 #[tactic(none)]
-pub(crate) fn run_next_tick(m: &Machine, q: &Quantizer, tick: u64, s: &mut Store) -> Option<u32>
+fn run_next_tick(m: &Machine, q: &Quantizer, tick: u64, s: &mut Store) -> Result<(), Over>
     requires named { IsNamed q.now.name }
     requires represents_snapshot { StoreRepresents m.now q.now.name tick s.old }
     requires tick_limit { tick < m.now.last }
     ensures stepped { IsStep (IsAllowedLevel q.now.name) m.now (tick + 1) (snapshot_of tick s.old)
-        (snapshot_unless result (snapshot_of (tick + 1) s.new)) }
-    ensures rows { result ≡ None → s.new.rows.items
+        (snapshot_unless (overflow_of result) (snapshot_of (tick + 1) s.new)) }
+    ensures rows { overflow_of result ≡ None → s.new.rows.items
         ≡ tick_rows m.now (tick + 1) (snapshot_of tick s.old) (snapshot_of (tick + 1) s.new) }
-    ensures represents_snapshot { result ≡ None → StoreRepresents m.now q.now.name (tick + 1) s.new }
+    ensures represents_snapshot { overflow_of result ≡ None
+        → StoreRepresents m.now q.now.name (tick + 1) s.new }
     ensures room { vec_capacity s.new.rows ≡ vec_capacity s.old.rows }
 {
-    let over = run_handlers_of_tick(m, q, tick, s);
-    if over.is_some() {
-        return over;
-    }
+    run_handlers_of_tick(m, q, tick, s)?;
     update_components(m, q, tick + 1, s)
 }
 
-// Runs the handlers of the next tick: crossings are read on arrival, then branches fire. Returns
-// the variable that overflows on arrival or by an assignment, if any.
+// Runs the handlers of the next tick: crossings are read on arrival, then branches fire. The error
+// is the variable that overflows on arrival or by an assignment.
 #[tactic(none)]
-fn run_handlers_of_tick(m: &Machine, q: &Quantizer, tick: u64, s: &mut Store) -> Option<u32>
+fn run_handlers_of_tick(m: &Machine, q: &Quantizer, tick: u64, s: &mut Store) -> Result<(), Over>
     requires represents_snapshot { StoreRepresents m.now q.now.name tick s.old }
     requires tick_limit { tick < m.now.last }
-    ensures overflow { result ≡ (handlers_at m.now (tick + 1) (snapshot_of tick s.old)).overflow }
-    ensures handled { result ≡ None
+    ensures overflow { overflow_of result
+        ≡ (handlers_at m.now (tick + 1) (snapshot_of tick s.old)).overflow }
+    ensures handled { overflow_of result ≡ None
         → IsAfterHandlers m.now q.now.name (tick + 1) (snapshot_of tick s.old) s.new }
     ensures room { vec_capacity s.new.rows ≡ vec_capacity s.old.rows }
 {
     let next = tick + 1;
     s.work.begin(next);
-    let over = arrive_at_tick(s.parts.integrators.as_slice(), next, &mut s.work);
-    if over.is_some() {
-        return over;
-    }
-    s.truths
-        .now
-        .as_mut_slice()
-        .copy_from_slice(s.truths.after_handlers.as_slice());
-    read_crossings_on_arrival(m, &mut s.parts, next, s.truths.now.as_mut_slice());
-    let fired = fire_clauses_on_arrival(
-        m,
-        s.truths.now.as_slice(),
-        s.truths.at_arrival.as_slice(),
-        s.truths.after_handlers.as_slice(),
-        &mut s.work,
-    );
-    match fired {
-        Ok(()) => None,
-        Err(over) => Some(over.var),
-    }
-}
-
-// Computes the states on which the handlers work. Returns the first that exceeds its limit.
-fn arrive_at_tick(integrators: &[IntegratorModel], tick: u64, work: &mut Work) -> Option<u32>
-    requires count_limit { length integrators.now ≤ variable_limit }
-    requires same_length { length work.old.x ≡ length integrators.now }
-    requires not_later { All (λ i. i.line.tick ≤ tick) integrators.now }
-    requires tick_limit { tick < tick_limit }
-    ensures work { work.new ≡ record work.old {
-      x = map (λ i. state_at i.line tick) integrators.now;
-    } }
-    ensures overflow { result ≡ first_exceeding bits_of_state (map (λ i. state_at i.line tick) integrators.now) }
-{
-    compute_arrival_states(integrators, tick, work.x.as_mut_slice())
+    compute_arrival_states(&s.parts.integrators, next, &mut s.work)?;
+    s.truths.current.copy_from_slice(&s.truths.after_handlers);
+    read_crossings_on_arrival(m, &mut s.parts, next, &mut s.truths.current);
+    fire_clauses_on_arrival(m, &s.truths, &mut s.work)
 }
 
 // Sends the assignments of the handlers, then makes the transitions of integrators, then those of
-// functions, and computes the truth values of the conditions. Returns the variable that overflows,
-// if any.
+// functions, and computes the truth values of the conditions. The error is the variable that
+// overflows.
 #[tactic(none)]
-fn update_components(m: &Machine, q: &Quantizer, tick: u64, s: &mut Store) -> Option<u32>
+fn update_components(m: &Machine, q: &Quantizer, tick: u64, s: &mut Store) -> Result<(), Over>
     requires named { IsNamed q.now.name }
     requires handled { (w : Snapshot) × IsAfterHandlers m.now q.now.name tick w s.old }
     ensures stepped { (w : Snapshot) → IsAfterHandlers m.now q.now.name tick w s.old
-        → IsStep (IsAllowedLevel q.now.name) m.now tick w (snapshot_unless result (snapshot_of tick s.new)) }
-    ensures rows { (w : Snapshot) → IsAfterHandlers m.now q.now.name tick w s.old → result ≡ None
+        → IsStep (IsAllowedLevel q.now.name) m.now tick w
+        (snapshot_unless (overflow_of result) (snapshot_of tick s.new)) }
+    ensures rows { (w : Snapshot) → IsAfterHandlers m.now q.now.name tick w s.old
+        → overflow_of result ≡ None
         → s.new.rows.items ≡ tick_rows m.now tick w (snapshot_of tick s.new) }
-    ensures represents_snapshot { result ≡ None → StoreRepresents m.now q.now.name tick s.new }
+    ensures represents_snapshot { overflow_of result ≡ None
+        → StoreRepresents m.now q.now.name tick s.new }
     ensures room { vec_capacity s.new.rows ≡ vec_capacity s.old.rows }
 {
     send_assigned_messages(m, &mut s.parts, tick, &s.work);
     list_handler_rows(&s.work, &mut s.rows);
-    let over = send_integrator_level_messages(m, q, &mut s.parts, tick, &mut s.rows);
-    if over.is_some() {
-        return over;
-    }
-    let over = send_slope_messages(m, &mut s.parts, tick);
-    if over.is_some() {
-        return over;
-    }
-    settle_arrival_truths(s.parts.crossings.as_slice(), &mut s.truths);
-    None
+    send_integrator_level_messages(m, &mut s.parts, tick, &mut s.rows)?;
+    send_slope_messages(m, &mut s.parts, tick)?;
+    settle_arrival_truths(&s.parts.crossings, &mut s.truths);
+    Ok(())
 }
 
 // Lists the rows of the handlers as the first rows of the tick.
@@ -254,7 +225,7 @@ fn set_rows_at_end(m: &Machine, q: &Quantizer, s: &mut Store)
     set_snapshot_rows(
         RowKind::End,
         m.last,
-        s.parts.integrators.as_slice(),
+        &s.parts.integrators,
         handler_discretes(&s.work),
         &mut s.rows,
     );
@@ -331,5 +302,5 @@ fn component_state_row(kind: RowKind, tick: u64, var: u32, integrator: &Integrat
 fn handler_discretes(work: &Work) -> &[i64]
     ensures { result.now ≡ work.now.d }
 {
-    work.d.as_slice()
+    &work.d
 }

@@ -2,8 +2,8 @@
 //! and assignments of handlers send messages.
 
 ghost use Rattle.std.specs.Prelude.{◌≡◌, ◌<◌, ◌+◌, ◌≢◌, ◌≤◌, length, map, All, slice_index_or, Option, ℕ, None, Some, vec_len, vec_capacity};
-ghost use Rattle.qss_devs.specs.Prelude.{state_count, discrete_count, AreRisingBelow, IsWritten, tick_limit, IsMessage, function_after_message, crossing_after_message, function_state_of, crossing_of, Rule, Values, HasEach, values_after_row, values_after_rows, no_line, IsLineNext};
-ghost use Rattle.qss_devs.specs.CoupledSteps.{IsToldMessage, Agrees, AreValues, IsLevelTaken, AreTaken, IsNamed, AreWithinQuanta, IsSlopeSent, AreSent};
+ghost use Rattle.qss_devs.specs.Prelude.{overflow_of, state_count, discrete_count, AreRisingBelow, IsWritten, tick_limit, IsMessage, function_after_message, crossing_after_message, function_state_of, crossing_of, Rule, Values, HasEach, values_after_row, values_after_rows, no_line, IsLineNext};
+ghost use Rattle.qss_devs.specs.CoupledSteps.{IsToldMessage, Agrees, AreValues, IsLevelTaken, AreTaken, AreWithinQuanta, IsSlopeSent, AreSent};
 ghost use Rattle.qss_devs.specs.Coupling.{line_at, function_state_at, crossing_at, no_summing, no_crossing, AreComponents, AreReady, IsSummingReady, IsCrossingReady, IsOfLine, IsOfLevel, IsOfDiscrete, HaveReceived, AreRuled, AllLinesLater};
 ghost use Rattle.qss_machine.specs.declared.machine_parts.RowKind.TheVariants as kind;
 
@@ -11,9 +11,8 @@ use qss_components::{
     Atomic, CrossingModel, FunctionModel, IntegratorModel, Message, Transition,
     make_integrator_transition, make_transition, send_to_integrator_model,
 };
-use qss_hand::Work;
+use qss_hand::{Over, Work};
 use qss_machine::{Machine, Row, RowKind, Uses};
-use qss_quant::Quantizer;
 
 /// An integrator and a function for each state, a crossing for each condition in source order, and
 /// the readers of each variable.
@@ -44,41 +43,43 @@ pub(crate) fn send_assigned_messages(m: &Machine, parts: &mut Components, tick: 
 }
 
 /// Makes the transitions of all due integrators, in order of states, sends their levels and appends
-/// their rows. Stops at the first level that exceeds its limit, and returns its state.
+/// their rows. Stops at the first level that exceeds its limit. The error is the state of this
+/// level.
 pub(crate) fn send_integrator_level_messages(
     m: &Machine,
-    q: &Quantizer,
     parts: &mut Components,
     tick: u64,
     rows: &mut Vec<Row>,
-) -> Option<u32>
+) -> Result<(), Over>
     requires parts { AreComponents m.now parts.old }
-    requires ruled { AreRuled q.now.name parts.old }
-    requires named { IsNamed q.now.name }
+    requires ruled { (rule : Rule) × AreRuled (Some rule) parts.old }
     requires ready { AreReady m.now tick
         (line_at parts.old) (function_state_at parts.old) (crossing_at parts.old) }
     requires room { vec_len rows.old + state_count m.now ≤ vec_capacity rows.old }
     ensures parts { AreComponents m.now parts.new }
-    ensures ruled { AreRuled q.now.name parts.new }
+    ensures ruled { (name : Option Rule) → AreRuled name parts.old → AreRuled name parts.new }
     ensures ready { AreReady m.now tick
         (line_at parts.new) (function_state_at parts.new) (crossing_at parts.new) }
-    ensures taken { (v : Values) → AreValues m.now v → Agrees m.now tick v parts.old
-        → AreTaken m.now q.now.name tick v parts.new rows.old.items rows.new.items result }
-    ensures later { result ≡ None → AllLinesLater m.now tick (line_at parts.new) }
+    ensures taken { (rule : Rule) (v : Values) → AreRuled (Some rule) parts.old
+        → AreValues m.now v → Agrees m.now tick v parts.old
+        → AreTaken m.now (Some rule) tick v parts.new rows.old.items rows.new.items
+        (overflow_of result) }
+    ensures later { overflow_of result ≡ None → AllLinesLater m.now tick (line_at parts.new) }
     ensures room { vec_capacity rows.new ≡ vec_capacity rows.old }
 {
     for j in 0..m.states.as_slice().len() {
-        let over = send_integrator_level_message(m, q, parts, tick, j as u32, rows);
-        if over.is_some() {
-            return over;
-        }
+        send_integrator_level_message(m, parts, tick, j as u32, rows)?;
     }
-    None
+    Ok(())
 }
 
-/// Sends the sums of all due functions, in order of states. Stops at the first sum that exceeds the
-/// limit of slopes, and returns its state.
-pub(crate) fn send_slope_messages(m: &Machine, parts: &mut Components, tick: u64) -> Option<u32>
+/// Sends the sums of all due functions, in order of states. Stops at the first row that exceeds its
+/// limits. The error is the state of this row.
+pub(crate) fn send_slope_messages(
+    m: &Machine,
+    parts: &mut Components,
+    tick: u64,
+) -> Result<(), Over>
     requires parts { AreComponents m.now parts.old }
     requires ready { AreReady m.now tick
         (line_at parts.old) (function_state_at parts.old) (crossing_at parts.old) }
@@ -87,18 +88,15 @@ pub(crate) fn send_slope_messages(m: &Machine, parts: &mut Components, tick: u64
     ensures ready { AreReady m.now tick
         (line_at parts.new) (function_state_at parts.new) (crossing_at parts.new) }
     ensures sent { (v : Values) → AreValues m.now v → Agrees m.now tick v parts.old
-        → AreSent m.now tick v parts.new result }
+        → AreSent m.now tick v parts.new (overflow_of result) }
     ensures later { (v : Values) → AreValues m.now v → Agrees m.now tick v parts.old
-        → AreWithinQuanta m.now v → AllLinesLater m.now tick (line_at parts.old) → result ≡ None
-        → AllLinesLater m.now tick (line_at parts.new) }
+        → AreWithinQuanta m.now v → AllLinesLater m.now tick (line_at parts.old)
+        → overflow_of result ≡ None → AllLinesLater m.now tick (line_at parts.new) }
 {
     for j in 0..m.states.as_slice().len() {
-        let over = send_slope_message(m, parts, tick, j as u32);
-        if over.is_some() {
-            return over;
-        }
+        send_slope_message(m, parts, tick, j as u32)?;
     }
-    None
+    Ok(())
 }
 
 // Sends the message for a row of a handler.
@@ -164,9 +162,9 @@ fn send_line_message(m: &Machine, parts: &mut Components, tick: u64, var: u32, m
     requires known { var < state_count m.now }
     ensures { HaveReceived m.now tick msg parts.old parts.new }
 {
-    send_to_integrator_model(m, parts.integrators.as_mut_slice(), var, tick, msg);
+    send_to_integrator_model(m, &mut parts.integrators, var, tick, msg);
     let places = parts.uses.conditions_of(var);
-    send_message_to_crossings(m, parts.crossings.as_mut_slice(), places, tick, msg);
+    send_message_to_crossings(m, &mut parts.crossings, places, tick, msg);
 }
 
 // Sends a message to crossings.
@@ -183,7 +181,8 @@ fn send_message_to_crossings(
     requires ready { All (λ c. IsCrossingReady m.now tick (crossing_of c)) crossings.old }
     requires tick_limit { tick < tick_limit }
     ensures machines { All (λ c. c.machine.value ≡ m.now) crossings.new }
-    ensures told { IsWritten no_crossing (λ j c. c ≡ crossing_after_message m.now
+    ensures ready { All (λ c. IsCrossingReady m.now tick (crossing_of c)) crossings.new }
+    ensures received { IsWritten no_crossing (λ j c. c ≡ crossing_after_message m.now
         (slice_index_or (map crossing_of crossings.old) j no_crossing) tick msg)
         places.now (map crossing_of crossings.old) (map crossing_of crossings.new) }
 {
@@ -203,7 +202,7 @@ fn send_level_message(m: &Machine, parts: &mut Components, tick: u64, var: u32, 
     ensures { HaveReceived m.now tick msg parts.old parts.new }
 {
     let places = parts.uses.rows_of(var);
-    send_message_to_functions(m, parts.functions.as_mut_slice(), places, tick, msg);
+    send_message_to_functions(m, &mut parts.functions, places, tick, msg);
 }
 
 // Sends a message to functions.
@@ -220,7 +219,7 @@ fn send_message_to_functions(
     requires ready { All (λ s. IsSummingReady tick (function_state_of s)) functions.old }
     requires tick_limit { tick < tick_limit }
     ensures machines { All (λ s. s.machine.value ≡ m.now) functions.new }
-    ensures told { IsWritten no_summing (λ j s. s ≡ function_after_message m.now
+    ensures received { IsWritten no_summing (λ j s. s ≡ function_after_message m.now
         (slice_index_or (map function_state_of functions.old) j no_summing) tick msg)
         places.now (map function_state_of functions.old) (map function_state_of functions.new) }
 {
@@ -242,51 +241,50 @@ fn send_discrete_message(m: &Machine, parts: &mut Components, tick: u64, var: u3
 {
     let before = m.discretes.as_slice().len() as u32;
     let rows = parts.uses.rows_of(var);
-    send_message_to_functions(m, parts.functions.as_mut_slice(), rows, tick, msg);
+    send_message_to_functions(m, &mut parts.functions, rows, tick, msg);
     let places = parts.uses.conditions_of(var);
-    send_message_to_crossings(m, parts.crossings.as_mut_slice(), places, tick, msg);
+    send_message_to_crossings(m, &mut parts.crossings, places, tick, msg);
     let others = parts.uses.conditions_of(var + before);
-    send_message_to_crossings(m, parts.crossings.as_mut_slice(), others, tick, msg);
+    send_message_to_crossings(m, &mut parts.crossings, others, tick, msg);
 }
 
-// Makes the transition of an integrator, if it is due, sends its level and appends its row. Returns
-// the state if its level exceeds its limit.
+// Makes the transition of an integrator, if it is due, sends its level and appends its row. The
+// error is the state if its level exceeds its limit.
 fn send_integrator_level_message(
     m: &Machine,
-    q: &Quantizer,
     parts: &mut Components,
     tick: u64,
     j: u32,
     rows: &mut Vec<Row>,
-) -> Option<u32>
+) -> Result<(), Over>
     requires parts { AreComponents m.now parts.old }
-    requires ruled { AreRuled q.now.name parts.old }
-    requires named { IsNamed q.now.name }
+    requires ruled { (rule : Rule) × AreRuled (Some rule) parts.old }
     requires known { j < state_count m.now }
     requires ready { AreReady m.now tick
         (line_at parts.old) (function_state_at parts.old) (crossing_at parts.old) }
     requires room { vec_len rows.old < vec_capacity rows.old }
     ensures parts { AreComponents m.now parts.new }
-    ensures ruled { AreRuled q.now.name parts.new }
+    ensures ruled { (name : Option Rule) → AreRuled name parts.old → AreRuled name parts.new }
     ensures ready { AreReady m.now tick
         (line_at parts.new) (function_state_at parts.new) (crossing_at parts.new) }
-    ensures taken { (rule : Rule) (v : Values) → q.now.name ≡ Some rule → AreValues m.now v
-        → Agrees m.now tick v parts.old
-        → IsLevelTaken m.now rule tick v j parts.new rows.old.items rows.new.items result }
-    ensures later { (next : ℕ) → result ≡ None
+    ensures taken { (rule : Rule) (v : Values) → AreRuled (Some rule) parts.old
+        → AreValues m.now v → Agrees m.now tick v parts.old
+        → IsLevelTaken m.now rule tick v j parts.new rows.old.items rows.new.items
+        (overflow_of result) }
+    ensures later { (next : ℕ) → overflow_of result ≡ None
         → IsLineNext m.now j (line_at parts.new j) (Some next) → tick < next }
     ensures others { (i : ℕ) → i < state_count m.now → i ≢ j
         → line_at parts.new i ≡ line_at parts.old i }
     ensures room { vec_capacity rows.new ≡ vec_capacity rows.old }
     ensures count { vec_len rows.new ≤ vec_len rows.old + 1 }
 {
-    match make_integrator_transition(parts.integrators.as_mut_slice(), j, tick) {
-        Transition::Rests => None,
-        Transition::ExceedsLimit => Some(j),
+    match make_integrator_transition(&mut parts.integrators, j, tick) {
+        Transition::Rests => Ok(()),
+        Transition::ExceedsLimit => Err(Over { var: j }),
         Transition::Sends(msg) => {
-            rows.push_reserved(level_message_row(tick, j, parts.integrators.as_slice()));
+            rows.push_reserved(level_message_row(tick, j, &parts.integrators));
             send_message(m, parts, tick, msg);
-            None
+            Ok(())
         }
     }
 }
@@ -314,8 +312,13 @@ fn level_message_row(tick: u64, var: u32, integrators: &[IntegratorModel]) -> Ro
     }
 }
 
-// Sends the sum of a function, if it changed. Returns the state if its row exceeds its limits.
-fn send_slope_message(m: &Machine, parts: &mut Components, tick: u64, j: u32) -> Option<u32>
+// Sends the sum of a function, if it changed. The error is the state if its row exceeds its limits.
+fn send_slope_message(
+    m: &Machine,
+    parts: &mut Components,
+    tick: u64,
+    j: u32,
+) -> Result<(), Over>
     requires parts { AreComponents m.now parts.old }
     requires known { j < state_count m.now }
     requires ready { AreReady m.now tick
@@ -325,20 +328,19 @@ fn send_slope_message(m: &Machine, parts: &mut Components, tick: u64, j: u32) ->
     ensures ready { AreReady m.now tick
         (line_at parts.new) (function_state_at parts.new) (crossing_at parts.new) }
     ensures sent { (v : Values) → AreValues m.now v → Agrees m.now tick v parts.old
-        → IsSlopeSent m.now tick v j parts.new result }
+        → IsSlopeSent m.now tick v j parts.new (overflow_of result) }
     ensures others { (i : ℕ) → i < state_count m.now → i ≢ j
         → function_state_at parts.new i ≡ function_state_at parts.old i }
     ensures later { (v : Values) → AreValues m.now v → Agrees m.now tick v parts.old
-        → AreWithinQuanta m.now v → AllLinesLater m.now tick (line_at parts.old) → result ≡ None
-        → AllLinesLater m.now tick (line_at parts.new) }
+        → AreWithinQuanta m.now v → AllLinesLater m.now tick (line_at parts.old)
+        → overflow_of result ≡ None → AllLinesLater m.now tick (line_at parts.new) }
 {
-    let functions = parts.functions.as_mut_slice();
-    match make_transition(&mut functions[j as usize], tick) {
-        Transition::Rests => None,
-        Transition::ExceedsLimit => Some(j),
+    match make_transition(&mut parts.functions[j as usize], tick) {
+        Transition::Rests => Ok(()),
+        Transition::ExceedsLimit => Err(Over { var: j }),
         Transition::Sends(msg) => {
             send_message(m, parts, tick, msg);
-            None
+            Ok(())
         }
     }
 }

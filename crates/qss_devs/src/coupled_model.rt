@@ -87,7 +87,7 @@ impl Coupled {
     pub fn rows(&self) -> &[Row]
         ensures { result.now ≡ self.now.store.rows.items }
     {
-        self.store.rows.as_slice()
+        &self.store.rows
     }
 
     /// Borrows the machine.

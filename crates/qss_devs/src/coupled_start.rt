@@ -9,7 +9,7 @@ ghost use Rattle.qss_devs.specs.Starts.{values_in, start_values, first_line, fir
 ghost use Rattle.qss_machine.specs.declared.machine_parts.RowKind.TheVariants as kind;
 
 use crate::coupled_arrivals::settle_all_arrival_truths;
-use crate::coupled_branches::{coupled_branch_condition, coupled_branch_count};
+use crate::coupled_branches::{branch_condition, branch_count};
 use crate::coupled_events::set_snapshot_rows;
 use crate::coupled_inputs::start_function_inputs;
 use crate::coupled_messages::Components;
@@ -44,7 +44,7 @@ impl StartValues {
         requires { j < length self.now.states.items }
         ensures { result ≡ int_at self.now.states.items j }
     {
-        self.states.as_slice()[j]
+        self.states[j]
     }
 
     /// The slope of the state with index j.
@@ -52,7 +52,7 @@ impl StartValues {
         requires { j < length self.now.slopes.items }
         ensures { result ≡ int_at self.now.slopes.items j }
     {
-        self.slopes.as_slice()[j]
+        self.slopes[j]
     }
 
     /// The level of the state with index j.
@@ -60,7 +60,7 @@ impl StartValues {
         requires { j < length self.now.levels.items }
         ensures { result ≡ int_at self.now.levels.items j }
     {
-        self.levels.as_slice()[j]
+        self.levels[j]
     }
 
     /// The value of the discrete variable with index g.
@@ -68,7 +68,7 @@ impl StartValues {
         requires { g < length self.now.discretes.items }
         ensures { result ≡ int_at self.now.discretes.items g }
     {
-        self.discretes.as_slice()[g]
+        self.discretes[g]
     }
 }
 
@@ -76,7 +76,7 @@ impl StartValues {
 /// the last handlers.
 #[derive(Drop)]
 pub struct Truths {
-    pub now: Vec<bool>,
+    pub current: Vec<bool>,
     pub at_arrival: Vec<bool>,
     pub after_handlers: Vec<bool>,
 }
@@ -105,24 +105,24 @@ pub(crate) fn start_coupled_store(
     ensures rows { IfOk result (λ s. s.rows.items ≡ snapshot_rows kind.Start 0 (start_snapshot m.now)) }
 {
     let work = Work::new(alloc, m)?;
-    let parts = start_coupled_parts(alloc, m, shared, q, work.x.as_slice(), work.d.as_slice())?;
-    let now = start_flags(alloc, parts.crossings.as_slice())?;
-    let at_arrival = start_flags(alloc, parts.crossings.as_slice())?;
-    let after_handlers = start_flags(alloc, parts.crossings.as_slice())?;
+    let parts = start_coupled_parts(alloc, m, shared, q, &work)?;
+    let current = start_flags(alloc, &parts.crossings)?;
+    let at_arrival = start_flags(alloc, &parts.crossings)?;
+    let after_handlers = start_flags(alloc, &parts.crossings)?;
     let count = work.log.capacity() + work.x.len() + work.d.len() + 1;
     let mut rows = Vec::with_capacity(alloc, count)?;
     set_snapshot_rows(
         RowKind::Start,
         0,
-        parts.integrators.as_slice(),
-        work.d.as_slice(),
+        &parts.integrators,
+        &work.d,
         &mut rows,
     );
     Ok(Store {
         parts,
         work,
         truths: Truths {
-            now,
+            current,
             at_arrival,
             after_handlers,
         },
@@ -130,18 +130,17 @@ pub(crate) fn start_coupled_store(
     })
 }
 
-// The components at the start, with these states and discrete values.
+// The components at the start, with the states and discrete values on which the handlers work.
 fn start_coupled_parts(
     alloc: Global,
     m: &Machine,
     shared: &Rc<Machine>,
     q: &Rc<Quantizer>,
-    x: &[i128],
-    d: &[i64],
+    work: &Work,
 ) -> Result<Components, AllocError>
     requires same { shared.now.value ≡ m.now }
-    requires states { x.now ≡ start_states m.now }
-    requires discretes { d.now ≡ start_discretes m.now }
+    requires states { work.now.x ≡ start_states m.now }
+    requires discretes { work.now.d ≡ start_discretes m.now }
     ensures parts { IfOk result (AreComponents m.now) }
     ensures integrators { IfOk result (λ parts.
         EachAt (IsFirstIntegrator m.now q.now.value) parts.integrators.items) }
@@ -149,11 +148,11 @@ fn start_coupled_parts(
         (λ parts. EachAt (IsFirstFunction m.now) parts.functions.items) }
     ensures crossings { IfOk result (λ parts. EachAt (IsFirstAt m.now) parts.crossings.items) }
 {
-    let v = start_values(alloc, m, x, d)?;
+    let v = start_values(alloc, m, &work.x, &work.d)?;
     let integrators = start_integrators(alloc, m, shared, q, &v)?;
     let uses = Uses::new(alloc, m)?;
     let functions = start_functions(alloc, m, shared, &v, &uses)?;
-    let crossings = start_crossings(alloc, m, shared, &v)?;
+    let crossings = start_crossings(alloc, shared, &v)?;
     Ok(Components {
         integrators,
         functions,
@@ -174,7 +173,7 @@ pub(crate) fn start_values(
     ensures { IfOk result (λ v. values_in v ≡ start_values m.now) }
 {
     let levels = event_start_levels(alloc, m)?;
-    let slopes = start_coupled_slopes(alloc, m, levels.as_slice(), d)?;
+    let slopes = start_coupled_slopes(alloc, m, &levels, d)?;
     let states = Vec::from_slice(alloc, x)?;
     let discretes = Vec::from_slice(alloc, d)?;
     Ok(StartValues {
@@ -324,18 +323,17 @@ fn start_coupled_function(
 /// Creates a crossing for each condition, at the start.
 pub(crate) fn start_crossings(
     alloc: Global,
-    m: &Machine,
     shared: &Rc<Machine>,
     v: &StartValues,
 ) -> Result<Vec<CrossingModel>, AllocError>
-    requires same { shared.now.value ≡ m.now }
-    requires values { values_in v.now ≡ start_values m.now }
-    ensures count { IfOk result (λ list. length list.items ≡ length (conditions m.now)) }
-    ensures each { IfOk result (λ list. EachAt (IsFirstAt m.now) list.items) }
+    requires { values_in v.now ≡ start_values shared.now.value }
+    ensures count { IfOk result
+        (λ list. length list.items ≡ length (conditions shared.now.value)) }
+    ensures each { IfOk result (λ list. EachAt (IsFirstAt shared.now.value) list.items) }
 {
     let mut crossings: Vec<CrossingModel> = Vec::new(alloc);
-    for clause in 0..m.clauses.as_slice().len() {
-        add_start_crossings(alloc, m, shared, v, clause, &mut crossings)?;
+    for clause in 0..shared.clauses.as_slice().len() {
+        add_start_crossings(alloc, shared, v, clause, &mut crossings)?;
     }
     Ok(crossings)
 }
@@ -343,27 +341,27 @@ pub(crate) fn start_crossings(
 // Appends the crossings of a clause.
 fn add_start_crossings(
     alloc: Global,
-    m: &Machine,
     shared: &Rc<Machine>,
     v: &StartValues,
     clause: usize,
     crossings: &mut Vec<CrossingModel>,
 ) -> Result<(), AllocError>
-    requires same { shared.now.value ≡ m.now }
-    requires values { values_in v.now ≡ start_values m.now }
-    requires known { clause < length m.now.clauses }
-    requires count { length crossings.old.items ≡ first_place m.now.clauses clause }
-    requires each { EachAt (IsFirstAt m.now) crossings.old.items }
+    requires values { values_in v.now ≡ start_values shared.now.value }
+    requires known { clause < length shared.now.value.clauses }
+    requires count { length crossings.old.items ≡ first_place shared.now.value.clauses clause }
+    requires each { EachAt (IsFirstAt shared.now.value) crossings.old.items }
     ensures count { IfOk result (λ done.
-        length crossings.new.items ≡ first_place m.now.clauses (clause + 1)) }
-    ensures each { IfOk result (λ done. EachAt (IsFirstAt m.now) crossings.new.items) }
+        length crossings.new.items ≡ first_place shared.now.value.clauses (clause + 1)) }
+    ensures each { IfOk result (λ done.
+        EachAt (IsFirstAt shared.now.value) crossings.new.items) }
 {
-    let count = coupled_branch_count(m, clause);
+    let m: &Machine = shared;
+    let count = branch_count(m, clause);
     for branch in 0..count {
         let machine = shared.clone()?;
-        let condition = coupled_branch_condition(m, clause, branch);
+        let condition = branch_condition(m, clause, branch);
         let inputs = start_inputs(alloc, m, v, condition)?;
-        let detector = start_coupled_detector(m, condition, inputs.as_slice());
+        let detector = start_coupled_detector(m, condition, &inputs);
         let next = crossings.len();
         let place = next as u32;
         let crossing = start_coupled_crossing(machine, place, condition, inputs, detector);
@@ -525,7 +523,7 @@ fn start_flags(alloc: Global, crossings: &[CrossingModel]) -> Result<Vec<bool>, 
         ≡ map (λ c. compares c.detector.rel c.detector.value) crossings.now) }
 {
     let mut flags = blank_start_flags(alloc, crossings.len())?;
-    settle_all_arrival_truths(crossings, flags.as_mut_slice());
+    settle_all_arrival_truths(crossings, &mut flags);
     Ok(flags)
 }
 

@@ -14,22 +14,19 @@ loop-place-init c = record {
   rest = λ k past. refl;
 }
 
-pub read_crossing_on_arrival-requires-clause-timely : goal.read_crossing_on_arrival-requires-clause-timely
-read_crossing_on_arrival-requires-clause-timely c =
+pub read_crossing_on_arrival-requires : goal.read_crossing_on_arrival-requires
+read_crossing_on_arrival-requires c =
     let place = c.loop-place.place in
     let d = c.index-crossings-place.result in
     let h : place < length c.args.crossings.now = omega (arith, c.loop-place-test.true) in
-    subst (λ (k : CrossingModel). IsTimely k.detector.tick (IsCrossingNext k.detector) c.args.tick) (sym (c.loop-place.invariant.crossings.rest place d (omega arith))) (c.requires.timely place d h)
-
-pub read_crossing_on_arrival-requires-clause-held : goal.read_crossing_on_arrival-requires-clause-held
-read_crossing_on_arrival-requires-clause-held c =
-    let place = c.loop-place.place in
-    let d = c.index-crossings-place.result in
-    let h : place < length c.args.crossings.now = omega (arith, c.loop-place-test.true) in
-    c.loop-place.invariant.rest place (omega arith)
-    ∙ ap (λ flags. flag_at flags place) c.requires.held
-    ∙ get_or-map (λ (k : CrossingModel). compares k.detector.rel k.detector.value) c.args.crossings.now place d false h
-    ∙ ap (λ (k : CrossingModel). compares k.detector.rel k.detector.value) (sym (c.loop-place.invariant.crossings.rest place d (omega arith)))
+    record {
+      timely = subst (λ (k : CrossingModel). IsTimely k.detector.tick (IsCrossingNext k.detector) c.args.tick) (sym (c.loop-place.invariant.crossings.rest place d (omega arith))) (c.requires.timely place d h);
+      held =
+          c.loop-place.invariant.rest place (omega arith)
+          ∙ ap (λ flags. flag_at flags place) c.requires.held
+          ∙ get_or-map (λ (k : CrossingModel). compares k.detector.rel k.detector.value) c.args.crossings.now place d false h
+          ∙ ap (λ (k : CrossingModel). compares k.detector.rel k.detector.value) (sym (c.loop-place.invariant.crossings.rest place d (omega arith)));
+    }
 
 pub loop-place-preserved : goal.loop-place-preserved
 loop-place-preserved c =

@@ -8,18 +8,16 @@ use Rattle.qss_devs.proofs.ReadParts.{crossings_timely, crossings_hold, read_com
 use Rattle.qss_devs.proofs.ReadParts.{read_later}
 use Rattle.qss_devs.proofs.coupled_arrivals.read_crossings_on_arrival.Goals as goal
 
-pub read_all_on_arrival-requires-clause-same_length : goal.read_all_on_arrival-requires-clause-same_length
-read_all_on_arrival-requires-clause-same_length g c = c.requires.flags ∙ sym (ap length c.as_mut_slice.ensures.value ∙ c.requires.parts.crossings)
-
-pub read_all_on_arrival-requires-clause-timely : goal.read_all_on_arrival-requires-clause-timely
-read_all_on_arrival-requires-clause-timely g c =
-    subst (All (λ (k : CrossingModel). IsTimely k.detector.tick (IsCrossingNext k.detector) c.args.tick)) (sym c.as_mut_slice.ensures.value)
-    (crossings_timely c.args.m.now c.args.tick c.args.parts.now c.requires.parts c.requires.timely)
-
-pub read_all_on_arrival-requires-clause-held : goal.read_all_on_arrival-requires-clause-held
-read_all_on_arrival-requires-clause-held g c =
-    crossings_hold c.args.m.now c.args.parts.now c.requires.parts c.args.now.now c.requires.flags c.requires.held
-    ∙ ap (map (λ (k : CrossingModel). compares k.detector.rel k.detector.value)) (sym c.as_mut_slice.ensures.value)
+pub read_all_on_arrival-requires : goal.read_all_on_arrival-requires
+read_all_on_arrival-requires g c = record {
+  same_length = c.requires.flags ∙ sym (ap length c.deref_mut.ensures.value ∙ c.requires.parts.crossings);
+  timely =
+      subst (All (λ (k : CrossingModel). IsTimely k.detector.tick (IsCrossingNext k.detector) c.args.tick)) (sym c.deref_mut.ensures.value)
+      (crossings_timely c.args.m.now c.args.tick c.args.parts.now c.requires.parts c.requires.timely);
+  held =
+      crossings_hold c.args.m.now c.args.parts.now c.requires.parts c.args.now.now c.requires.flags c.requires.held
+      ∙ ap (map (λ (k : CrossingModel). compares k.detector.rel k.detector.value)) (sym c.deref_mut.ensures.value);
+}
 
 pub returns : goal.returns
 returns g c =
@@ -27,10 +25,10 @@ returns g c =
     let tick = c.args.tick in
     let old = c.args.parts.now in
     let ys = c.read_all_on_arrival.new.crossings in
-    let xs : List CrossingModel = c.as_mut_slice.result.now in
-    let was = c.as_mut_slice.ensures.value in
+    let xs : List CrossingModel = c.deref_mut.result.now in
+    let was = c.deref_mut.ensures.value in
     let new = record old { crossings = with_items old.crossings ys } in
-    let items = with_items_is old.crossings ys (c.read_all_on_arrival.auto.crossings ∙ c.as_mut_slice.ensures.len) in
+    let items = with_items_is old.crossings ys (c.read_all_on_arrival.auto.crossings ∙ c.deref_mut.ensures.len) in
     let as_many = ap length items ∙ c.read_all_on_arrival.auto.crossings ∙ ap length was in
     let machines = subst (λ (zs : List CrossingModel). (k : ℕ) (d : CrossingModel) → k < length old.crossings.items → (get_or zs k d).machine.value ≡ (get_or old.crossings.items k d).machine.value) (sym items)
     (subst (λ (zs : List CrossingModel). (k : ℕ) (d : CrossingModel) → k < length zs → (get_or ys k d).machine.value ≡ (get_or zs k d).machine.value) was c.read_all_on_arrival.ensures.machines) in

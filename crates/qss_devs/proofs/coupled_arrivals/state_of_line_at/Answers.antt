@@ -4,11 +4,11 @@ use Common.{◌∙◌, arith, FitsSigned, get_or-map, IntegratorModel, pos, stat
 use Common.{w128}
 use Rattle.qss_devs.proofs.coupled_arrivals.state_of_line_at.Goals as goal
 
-pub value_at-requires-clause-later : goal.value_at-requires-clause-later
-value_at-requires-clause-later g c = c.requires.not_later c.args.j c.index-integrators-j.result c.requires.known
-
-pub value_at-requires-clause-tick_limit : goal.value_at-requires-clause-tick_limit
-value_at-requires-clause-tick_limit g c = omega (arith, c.requires.tick_limit)
+pub value_at-requires : goal.value_at-requires
+value_at-requires g c = record {
+  later = c.requires.not_later c.args.j c.index-integrators-j.result c.requires.known;
+  tick_limit = omega (arith, c.requires.tick_limit);
+}
 
 pub returns : goal.returns
 returns g c =

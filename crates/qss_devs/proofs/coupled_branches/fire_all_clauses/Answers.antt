@@ -1,7 +1,7 @@
 -- Each clause runs; an overflow ends the loop.
 use Rattle.qss_devs.proofs.Common
 use Common.{[], ◌+◌, ◌<◌, ◌∙◌, ◌≡◌, ◌≤◌, ap, arith, Bool, clause_at, conditions_few, drop, Err}
-use Common.{firing_flags, flags_from, HandlerState, handling_of, length, List, run_clauses}
+use Common.{flags_from, HandlerState, handling_of, length, List, run_clauses}
 use Common.{sum_by_more, sym, values_after}
 use Rattle.std.proofs.Common.{rules}
 use Rattle.std.proofs.lemmas.List.{drop_all}
@@ -11,34 +11,34 @@ use Rattle.qss_hand.specs.Works.{overflow_of}
 use Rattle.qss_hand.proofs.AfterStatements.{from_start, all_done}
 use Rattle.qss_hand.proofs.Turns.{clauses_few, room-drop, rows_turn}
 use Rattle.qss_devs.proofs.DueFlags.{turn_within, turn, turn_done, turn_over}
+use Rattle.qss_devs.specs.Flags.{due_flags}
 use Rattle.qss_devs.proofs.coupled_branches.fire_all_clauses.Goals as goal
 
-pub coupled_branch_count-count-requires : goal.coupled_branch_count-count-requires
-coupled_branch_count-count-requires c = omega (arith, c.loop-clause-test.true, ap length c.as_slice-clause-end.ensures)
+pub branch_count-count-requires : goal.branch_count-count-requires
+branch_count-count-requires c = omega (arith, c.loop-clause-test.true, ap length c.as_slice-clause-end.ensures)
 
 pub overflow_cast-clause : goal.overflow_cast-clause
 overflow_cast-clause c = omega (arith, c.loop-clause-test.true, ap length c.as_slice-clause-end.ensures, clauses_few c.args.m.now)
 
-pub fire_coupled_branch-requires-clause-clause : goal.fire_coupled_branch-requires-clause-clause
-fire_coupled_branch-requires-clause-clause c = omega (arith, c.loop-clause-test.true, ap length c.as_slice-clause-end.ensures)
-
-pub fire_coupled_branch-requires-clause-inside : goal.fire_coupled_branch-requires-clause-inside
-fire_coupled_branch-requires-clause-inside c =
-    let inside : c.loop-clause.clause < length c.args.m.now.clauses = omega (arith, c.loop-clause-test.true, ap length c.as_slice-clause-end.ensures) in
-    omega (arith, turn_within c.args.m.now c.loop-clause.clause c.loop-clause.first inside c.loop-clause.invariant.branches, c.requires.now)
-
-pub fire_coupled_branch-requires-clause-count_limit : goal.fire_coupled_branch-requires-clause-count_limit
-fire_coupled_branch-requires-clause-count_limit c = omega (arith, c.requires.now, conditions_few c.args.m.now)
-
-pub fire_coupled_branch-requires-clause-room : goal.fire_coupled_branch-requires-clause-room
-fire_coupled_branch-requires-clause-room c =
-    let inside : c.loop-clause.clause < length c.args.m.now.clauses = omega (arith, c.loop-clause-test.true, ap length c.as_slice-clause-end.ensures) in
-    omega (arith, c.loop-clause.invariant.room, room-drop c.args.m.now.clauses c.loop-clause.clause (record { branches = [] }) inside)
+pub fire_clause-requires : goal.fire_clause-requires
+fire_clause-requires c =
+    let m = c.args.m.now in
+    let i = c.loop-clause.clause in
+    let inv = c.loop-clause.invariant in
+    let inside : i < length m.clauses =
+    omega (arith, c.loop-clause-test.true, ap length c.as_slice-clause-end.ensures) in
+    record {
+      clause = inside;
+      inside = turn_within m i c.loop-clause.first inside inv.branches;
+      flags = c.requires.flags;
+      fits = inv.fits;
+      room = omega (arith, inv.room, room-drop m.clauses i (record { branches = [] }) inside);
+    }
 
 pub overflow_add-first : goal.overflow_add-first
 overflow_add-first c =
     let inside : c.loop-clause.clause < length c.args.m.now.clauses = omega (arith, c.loop-clause-test.true, ap length c.as_slice-clause-end.ensures) in
-    omega (arith, turn_within c.args.m.now c.loop-clause.clause c.loop-clause.first inside c.loop-clause.invariant.branches, c.coupled_branch_count-count.ensures, conditions_few c.args.m.now)
+    omega (arith, turn_within c.args.m.now c.loop-clause.clause c.loop-clause.first inside c.loop-clause.invariant.branches, c.branch_count-count.ensures, conditions_few c.args.m.now)
 
 pub loop-clause-preserved : goal.loop-clause-preserved
 loop-clause-preserved c =
@@ -47,15 +47,15 @@ loop-clause-preserved c =
     let w0 : Values = c.args.w.now in
     let i = c.loop-clause.clause in
     let first = c.loop-clause.first in
-    let due : List Bool = firing_flags c.args.now.now c.args.at_arrival.now c.args.after_handlers.now in
+    let due : List Bool = due_flags c.args.truths.now in
     let inv = c.loop-clause.invariant in
     let inside : i < length m.clauses = omega (arith, c.loop-clause-test.true, ap length c.as_slice-clause-end.ensures) in
-    let values = c.fire_coupled_branch.ensures.values in
-    let calm = ap overflow_of (sym c.in_ok-fire_coupled_branch.was) ∙ c.fire_coupled_branch.ensures.overflow in
-    let width : first + c.coupled_branch_count-count.result ≡ first + length (clause_at m i).branches = ap (λ n. first + n) c.coupled_branch_count-count.ensures in
+    let values = c.fire_clause.ensures.values in
+    let calm = ap overflow_of (sym c.in_ok-fire_clause.was) ∙ c.fire_clause.ensures.overflow in
+    let width : first + c.branch_count-count.result ≡ first + length (clause_at m i).branches = ap (λ n. first + n) c.branch_count-count.ensures in
     record {
-      so_far = inv.so_far ∙ turn_done m w0 w due i first inside inv.same_tick inv.same_before c.fire_coupled_branch.new.w values calm
-          ∙ ap (λ n. run_clauses m w0.tick w0.pre (i + 1) (handling_of c.fire_coupled_branch.new.w) (drop (i + 1) m.clauses) (drop n due)) (sym width);
+      so_far = inv.so_far ∙ turn_done m w0 w due i first inside inv.same_tick inv.same_before c.fire_clause.new.w values calm
+          ∙ ap (λ n. run_clauses m w0.tick w0.pre (i + 1) (handling_of c.fire_clause.new.w) (drop (i + 1) m.clauses) (drop n due)) (sym width);
       same_tick = ap (λ (v : Values). v.tick) values ∙ inv.same_tick;
       same_before = ap (λ (v : Values). v.pre) values ∙ inv.same_before;
       same_room = ap (λ (v : Values). v.room) values ∙ inv.same_room;
@@ -68,35 +68,35 @@ loop-clause-preserved c =
         room-drop m.clauses i (record { branches = [] }) inside,
       );
       branches = omega (arith, inv.branches, width, sum_by_more (λ (k : ClauseInfo). length k.branches) m.clauses i (record { branches = [] }) inside);
-      fits = c.fire_coupled_branch.ensures.fits;
+      fits = c.fire_clause.ensures.fits;
     }
 
-pub returns-in_err-fire_coupled_branch : goal.returns-in_err-fire_coupled_branch
-returns-in_err-fire_coupled_branch c =
+pub returns-in_err-fire_clause : goal.returns-in_err-fire_clause
+returns-in_err-fire_clause c =
     let m = c.args.m.now in
     let w : Values = c.loop-clause.w in
     let w0 : Values = c.args.w.now in
     let i = c.loop-clause.clause in
     let first = c.loop-clause.first in
-    let due : List Bool = firing_flags c.args.now.now c.args.at_arrival.now c.args.after_handlers.now in
+    let due : List Bool = due_flags c.args.truths.now in
     let inv = c.loop-clause.invariant in
     let inside : i < length m.clauses = omega (arith, c.loop-clause-test.true, ap length c.as_slice-clause-end.ensures) in
-    let given : c.from_residual.result ≡ Err c.in_err-fire_coupled_branch.field-0.0 = search rules in
-    let over = ap overflow_of (sym c.in_err-fire_coupled_branch.was) ∙ c.fire_coupled_branch.ensures.overflow in
-    let end = turn_over m w0 w due i first inside inv.same_tick inv.same_before c.in_err-fire_coupled_branch.field-0.0.var over ∙ sym inv.so_far in
+    let given : c.from_residual.result ≡ Err c.in_err-fire_clause.field-0.0 = search rules in
+    let over = ap overflow_of (sym c.in_err-fire_clause.was) ∙ c.fire_clause.ensures.overflow in
+    let end = turn_over m w0 w due i first inside inv.same_tick inv.same_before c.in_err-fire_clause.field-0.0.var over ∙ sym inv.so_far in
     record {
-      values = c.fire_coupled_branch.ensures.values
+      values = c.fire_clause.ensures.values
           ∙ from_start w0 w (turn m w0 w due i first inside inv.same_tick inv.same_before) inv.same_tick inv.same_before inv.same_room
           ∙ ap (values_after w0) end;
       overflow = ap overflow_of given ∙ over ∙ ap (λ (h : HandlerState). h.overflow) end;
-      fits = c.fire_coupled_branch.ensures.fits;
+      fits = c.fire_clause.ensures.fits;
     }
 
 pub returns : goal.returns
 returns c =
     let m = c.args.m.now in
     let w0 : Values = c.args.w.now in
-    let due : List Bool = firing_flags c.args.now.now c.args.at_arrival.now c.args.after_handlers.now in
+    let due : List Bool = due_flags c.args.truths.now in
     let inv = c.loop-clause.invariant in
     let done : length m.clauses ≤ c.loop-clause.clause = omega (arith, c.loop-clause-test.false, ap length c.as_slice-clause-end.ensures) in
     let none = ap (λ rest. run_clauses m w0.tick w0.pre c.loop-clause.clause (handling_of c.loop-clause.w) rest (drop c.loop-clause.first due)) (drop_all c.loop-clause.clause m.clauses done) in

@@ -1,13 +1,14 @@
 use Rattle.qss_devs.proofs.Common
-use Common.{◌+◌, ◌≡◌, ◌≤◌, AreValuesOf, drop, firing_flags, first_place, handling_of, length}
+use Common.{◌+◌, ◌≡◌, ◌≤◌, AreValuesOf, drop, first_place, handling_of, length}
 use Common.{row_room, run_clauses}
+use Rattle.qss_devs.specs.Flags.{due_flags}
 use Rattle.qss_devs.proofs.coupled_branches.fire_all_clauses.Given as goal
 
 -- the clauses so far ran, and none overflowed
 abbrev pub invariant-loop-clause : goal.invariant-loop-clause
 invariant-loop-clause l = record {
-  so_far : run_clauses l.m l.fn.w.tick l.fn.w.pre 0 (handling_of l.fn.w) l.m.clauses (firing_flags l.now l.at_arrival l.after_handlers)
-      ≡ run_clauses l.m l.fn.w.tick l.fn.w.pre l.clause (handling_of l.w) (drop l.clause l.m.clauses) (drop l.first (firing_flags l.now l.at_arrival l.after_handlers));
+  so_far : run_clauses l.m l.fn.w.tick l.fn.w.pre 0 (handling_of l.fn.w) l.m.clauses (due_flags l.truths)
+      ≡ run_clauses l.m l.fn.w.tick l.fn.w.pre l.clause (handling_of l.w) (drop l.clause l.m.clauses) (drop l.first (due_flags l.truths));
   same_tick : l.w.tick ≡ l.fn.w.tick;
   same_before : l.w.pre ≡ l.fn.w.pre;
   same_room : l.w.room ≡ l.fn.w.room;

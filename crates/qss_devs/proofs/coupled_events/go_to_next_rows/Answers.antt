@@ -5,6 +5,7 @@ use Common.{snapshot_of, snapshot_rows, snapshot_unless, StoreRepresents, subst,
 use Rattle.qss_machine.specs.Runs.{last_snapshot}
 use Rattle.qss_events.specs.EventFreeRuns.{IsVisit}
 use Rattle.qss_events.proofs.Goings.{visit_on, rows_on, silent_visit}
+use Rattle.qss_hand.specs.Works.{overflow_of}
 use Rattle.qss_events.proofs.SomeRows.{some_rows, no_rows}
 use Rattle.qss_machine.specs.declared.machine_parts.RowKind.TheVariants as kind
 use Rattle.qss_devs.proofs.coupled_events.go_to_next_rows.Goals as goal
@@ -17,21 +18,21 @@ loop-tick-init g c = record {
   are_silent = ([], record { leads = tt; as_many = omega arith; reached = refl });
 }
 
-pub returns-in-Some-clause-next : goal.returns-in-Some-clause-next
-returns-in-Some-clause-next g c =
+pub returns-in-Err-clause-next : goal.returns-in-Err-clause-next
+returns-in-Err-clause-next g c =
     let Rule = IsAllowedLevel c.args.q.now.name in
     let m = c.args.m.now in
     let before = c.loop-tick.invariant.are_silent in
-    let visited = c.visit_next_step-visited.ensures.visited in
-    let t = c.visit_next_step-visited.result.tick in
+    let visited = c.visit_next_step-step.ensures.visited in
+    let t = c.visit_next_step-step.result.tick in
     let all = visit_on Rule m c.args.from (snapshot_of c.args.from c.args.s.now) before.0 c.loop-tick.tick (snapshot_of c.loop-tick.tick c.loop-tick.s) before.1 visited.0 t
-    (snapshot_unless c.visit_next_step-visited.result.over (snapshot_of t c.visit_next_step-visited.new.s)) visited.1 in (
+    (snapshot_unless (overflow_of c.visit_next_step-step.result.ran) (snapshot_of t c.visit_next_step-step.new.s)) visited.1 in (
       before.0 ++ visited.0,
       record {
         leads = all.leads;
         is_next = all.is_next;
-        in_time = c.visit_next_step-visited.ensures.tick_limit;
-        is_step = subst (λ o. IsStep Rule m t (last_snapshot (snapshot_of c.args.from c.args.s.now) (before.0 ++ visited.0)) (snapshot_unless o (snapshot_of t c.visit_next_step-visited.new.s))) c.in-Some.is all.is_step;
+        in_time = c.visit_next_step-step.ensures.tick_limit;
+        is_step = subst (λ o. IsStep Rule m t (last_snapshot (snapshot_of c.args.from c.args.s.now) (before.0 ++ visited.0)) (snapshot_unless o (snapshot_of t c.visit_next_step-step.new.s))) (ap overflow_of c.in-Err.is) all.is_step;
         own_rows = c.set_event_overflow_row.ensures.rows;
         here = refl;
       },
@@ -43,20 +44,20 @@ returns-then-not-is_empty-clause-next g c =
     let Rule = IsAllowedLevel c.args.q.now.name in
     let m = c.args.m.now in
     let before = c.loop-tick.invariant.are_silent in
-    let visited = c.visit_next_step-visited.ensures.visited in
-    let t = c.visit_next_step-visited.result.tick in
+    let visited = c.visit_next_step-step.ensures.visited in
+    let t = c.visit_next_step-step.result.tick in
     let w0 = snapshot_of c.args.from c.args.s.now in
     let w = snapshot_of c.loop-tick.tick c.loop-tick.s in
-    let next = snapshot_of t c.visit_next_step-visited.new.s in
-    let all = visit_on Rule m c.args.from w0 before.0 c.loop-tick.tick w before.1 visited.0 t (snapshot_unless c.visit_next_step-visited.result.over next) visited.1 in (
+    let next = snapshot_of t c.visit_next_step-step.new.s in
+    let all = visit_on Rule m c.args.from w0 before.0 c.loop-tick.tick w before.1 visited.0 t (snapshot_unless (overflow_of c.visit_next_step-step.result.ran) next) visited.1 in (
       before.0 ++ visited.0,
       record {
         leads = all.leads;
         is_next = all.is_next;
-        in_time = c.visit_next_step-visited.ensures.tick_limit;
-        is_step = subst (λ o. IsStep Rule m t (last_snapshot w0 (before.0 ++ visited.0)) (snapshot_unless o next)) c.in_default.is all.is_step;
-        own_rows = visited.2 c.in_default.is ∙ rows_on Rule m c.args.from w0 before.0 c.loop-tick.tick w before.1 visited.0 t next;
-        some_rows = some_rows c.visit_next_step-visited.new.s.rows (sym c.is_empty.ensures ∙ c.if-not-is_empty.true);
+        in_time = c.visit_next_step-step.ensures.tick_limit;
+        is_step = subst (λ o. IsStep Rule m t (last_snapshot w0 (before.0 ++ visited.0)) (snapshot_unless o next)) (ap overflow_of c.in_default.is) all.is_step;
+        own_rows = visited.2 (ap overflow_of c.in_default.is) ∙ rows_on Rule m c.args.from w0 before.0 c.loop-tick.tick w before.1 visited.0 t next;
+        some_rows = some_rows c.visit_next_step-step.new.s.rows (sym c.is_empty.ensures ∙ c.if-not-is_empty.true);
         here = refl;
       },
       refl,
@@ -67,19 +68,19 @@ loop-tick-preserved g c =
     let Rule = IsAllowedLevel c.args.q.now.name in
     let m = c.args.m.now in
     let before = c.loop-tick.invariant.are_silent in
-    let visited = c.visit_next_step-visited.ensures.visited in
-    let t = c.visit_next_step-visited.result.tick in
+    let visited = c.visit_next_step-step.ensures.visited in
+    let t = c.visit_next_step-step.result.tick in
     let w0 = snapshot_of c.args.from c.args.s.now in
     let w = snapshot_of c.loop-tick.tick c.loop-tick.s in
-    let next = snapshot_of t c.visit_next_step-visited.new.s in
-    let all = visit_on Rule m c.args.from w0 before.0 c.loop-tick.tick w before.1 visited.0 t (snapshot_unless c.visit_next_step-visited.result.over next) visited.1 in
-    let stepped = subst (λ o. IsVisit Rule m c.args.from w0 (before.0 ++ visited.0) t (snapshot_unless o next)) c.in_default.is all in
-    let none = sym (visited.2 c.in_default.is ∙ rows_on Rule m c.args.from w0 before.0 c.loop-tick.tick w before.1 visited.0 t next)
-    ∙ no_rows c.visit_next_step-visited.new.s.rows (sym c.is_empty.ensures ∙ c.if-not-is_empty.false) in
+    let next = snapshot_of t c.visit_next_step-step.new.s in
+    let all = visit_on Rule m c.args.from w0 before.0 c.loop-tick.tick w before.1 visited.0 t (snapshot_unless (overflow_of c.visit_next_step-step.result.ran) next) visited.1 in
+    let stepped = subst (λ o. IsVisit Rule m c.args.from w0 (before.0 ++ visited.0) t (snapshot_unless o next)) (ap overflow_of c.in_default.is) all in
+    let none = sym (visited.2 (ap overflow_of c.in_default.is) ∙ rows_on Rule m c.args.from w0 before.0 c.loop-tick.tick w before.1 visited.0 t next)
+    ∙ no_rows c.visit_next_step-step.new.s.rows (sym c.is_empty.ensures ∙ c.if-not-is_empty.false) in
     record {
-      stands = c.visit_next_step-visited.ensures.represents_snapshot c.in_default.is;
-      later = omega (arith, c.loop-tick.invariant.later, c.visit_next_step-visited.ensures.later);
-      in_time = c.visit_next_step-visited.ensures.tick_limit;
+      stands = c.visit_next_step-step.ensures.represents_snapshot (ap overflow_of c.in_default.is);
+      later = omega (arith, c.loop-tick.invariant.later, c.visit_next_step-step.ensures.later);
+      in_time = c.visit_next_step-step.ensures.tick_limit;
       are_silent = ((before.0 ++ visited.0) ++ next ∷ [], silent_visit Rule m c.args.from w0 (before.0 ++ visited.0) t next stepped none);
     }
 

@@ -27,10 +27,10 @@ returns g c =
     subst (Dues m name tick s c.requires.represents_snapshot) (sym there) (record { due = found.0; are = found.1; none = found.2 }) in
     let at_arrival : Vec Bool Global = with_items s.truths.at_arrival c.copy_truths_if_still.new.at_arrival in
     let is : at_arrival.items ≡ arrived_then k s.truths.at_arrival.items s.truths.after_handlers.items =
-    with_items_is s.truths.at_arrival c.copy_truths_if_still.new.at_arrival (c.copy_truths_if_still.auto.at_arrival ∙ c.as_mut_slice.ensures.len)
+    with_items_is s.truths.at_arrival c.copy_truths_if_still.new.at_arrival (c.copy_truths_if_still.auto.at_arrival ∙ c.deref_mut.ensures.len)
     ∙ c.copy_truths_if_still.ensures
-    ∙ ap (λ b. if nat_lt (tick + 1) next then b else c.as_mut_slice.result.now) c.as_slice.ensures.value
-    ∙ ap (λ a. if nat_lt (tick + 1) next then s.truths.after_handlers.items else a) c.as_mut_slice.ensures.value
+    ∙ ap (λ b. if nat_lt (tick + 1) next then b else c.deref_mut.result.now) c.deref.ensures.value
+    ∙ ap (λ a. if nat_lt (tick + 1) next then s.truths.after_handlers.items else a) c.deref_mut.ensures.value
     ∙ arrived_if tick next k s.truths.at_arrival.items s.truths.after_handlers.items e later in
     let snapshot = world_then m name tick s c.requires.represents_snapshot k at_arrival is in
     record {

@@ -1,259 +1,151 @@
 -- A tick, after its handlers.
 use Rattle.qss_devs.proofs.Common
-use Common.{ℕ, ℤ, ◌++◌, ◌∙◌, ◌≡◌, ap, arith, Bool, clash, compares, Components, ComponentsRepresent}
-use Common.{crossing_at, CrossingModel, function_state_at, length, length-map, levels_of, line_at}
-use Common.{List, map, MayFollowTick, None, not_some, Option, Row, Snapshot, snapshot_of, states_at}
-use Common.{Store, subst, sym, tick_rows, truths}
-use Rattle.qss_machine.specs.Runs.{level_rows}
+use Common.{Snapshot, Err, FitsMachine, ℕ, ◌∙◌, ◌≡◌, All, ap, AreRuled, AreTaken, arith, compares, CrossingModel, length, length-map, List, map, None, Option, refl, Row, Rule, Some, Store, subst, sym}
+use Rattle.std.proofs.Common.{rules}
+use Rattle.qss_hand.specs.declared.handler_statements.Over.{Over}
+use Rattle.qss_hand.specs.Works.{overflow_of}
+use Rattle.qss_devs.specs.CoupledEvents.{IsAfterHandlers}
+use Rattle.qss_devs.proofs.Overs.{no_overflow}
 use Rattle.qss_devs.proofs.TickEnds.{handled, handled_fits, handled_agree, levels_step}
-use Rattle.qss_devs.proofs.TickEnds.{taken_values, taken_agree, taken_fits, taken_near, slopes_step}
-use Rattle.qss_devs.proofs.TickEnds.{ended, ended_stand, ended_left, ended_crossings, ended_states}
-use Rattle.qss_devs.proofs.TickEnds.{ended_levels, ended_settled, ended_step}
+use Rattle.qss_devs.proofs.TickEnds.{taken_values, taken_agree, taken_fits, slopes_step}
+use Rattle.qss_devs.proofs.TickEnds.{ends_tick}
 use Rattle.qss_devs.proofs.coupled_events.update_components.Goals as goal
 
-pub send_assigned_messages-requires-clause-parts : goal.send_assigned_messages-requires-clause-parts
-send_assigned_messages-requires-clause-parts g c =
-    c.requires.handled.1.fits.parts
-
-pub send_assigned_messages-requires-clause-ready : goal.send_assigned_messages-requires-clause-ready
-send_assigned_messages-requires-clause-ready g c =
-    c.requires.handled.1.ready
-
-pub send_assigned_messages-requires-clause-told : goal.send_assigned_messages-requires-clause-told
-send_assigned_messages-requires-clause-told g c =
-    c.requires.handled.1.told
+pub send_assigned_messages-requires : goal.send_assigned_messages-requires
+send_assigned_messages-requires g c =
+    let h = c.requires.handled.1 in
+    record { parts = h.fits.parts; ready = h.ready; told = h.told }
 
 pub list_handler_rows-requires : goal.list_handler_rows-requires
 list_handler_rows-requires g c =
     let h = c.requires.handled.1 in
     omega (arith, h.count, h.fits.row_room)
 
-pub send_integrator_level_messages-over-requires-clause-parts : goal.send_integrator_level_messages-over-requires-clause-parts
-send_integrator_level_messages-over-requires-clause-parts g c =
-    c.send_assigned_messages.ensures.parts
-
-pub send_integrator_level_messages-over-requires-clause-ruled : goal.send_integrator_level_messages-over-requires-clause-ruled
-send_integrator_level_messages-over-requires-clause-ruled g c =
-    c.send_assigned_messages.ensures.ruled c.args.q.now.name c.requires.handled.1.fits.ruled
-
-pub send_integrator_level_messages-over-requires-clause-named : goal.send_integrator_level_messages-over-requires-clause-named
-send_integrator_level_messages-over-requires-clause-named g c =
-    c.requires.named
-
-pub send_integrator_level_messages-over-requires-clause-ready : goal.send_integrator_level_messages-over-requires-clause-ready
-send_integrator_level_messages-over-requires-clause-ready g c =
-    c.send_assigned_messages.ensures.ready
-
-pub send_integrator_level_messages-over-requires-clause-room : goal.send_integrator_level_messages-over-requires-clause-room
-send_integrator_level_messages-over-requires-clause-room g c =
+pub send_integrator_level_messages-requires : goal.send_integrator_level_messages-requires
+send_integrator_level_messages-requires g c =
     let h = c.requires.handled.1 in
-    omega (arith, c.list_handler_rows.new.rows.ok.0, ap length c.list_handler_rows.ensures.rows, c.list_handler_rows.ensures.room, h.count, h.fits.row_room)
-
-pub returns-then-is_some-clause-stepped : goal.returns-then-is_some-clause-stepped
-returns-then-is_some-clause-stepped g c w h =
-    let m = c.args.m.now in
-    let name = c.args.q.now.name in
-    let tick = c.args.tick in
-    let s : Store _ _ = c.args.s.now in
-    let rows : List Row = c.list_handler_rows.new.rows.items in
-    let after : List Row = c.send_integrator_level_messages-over.new.rows.items in
-    let leveled : Components _ _ = c.send_integrator_level_messages-over.new.parts in
-    let over : Option ℕ = c.send_integrator_level_messages-over.result in
-    let taken = c.send_integrator_level_messages-over.ensures.taken (handled m name tick w s h) (handled_fits m name tick w s h) (handled_agree m name tick w s h c.send_assigned_messages.new.parts c.send_assigned_messages.ensures.agree) in
-    levels_step m name tick w s h leveled rows after over taken (sym c.is_some.ensures ∙ c.if-is_some.true) (snapshot_of tick (record s { parts = leveled; rows = c.send_integrator_level_messages-over.new.rows }))
-
-pub returns-then-is_some-clause-rows : goal.returns-then-is_some-clause-rows
-returns-then-is_some-clause-rows g c w h none =
-    clash c.send_integrator_level_messages-over.result (sym c.is_some.ensures ∙ c.if-is_some.true) none
-
-pub returns-then-is_some-clause-represents_snapshot : goal.returns-then-is_some-clause-represents_snapshot
-returns-then-is_some-clause-represents_snapshot g c none =
-    clash c.send_integrator_level_messages-over.result (sym c.is_some.ensures ∙ c.if-is_some.true) none
-
-pub returns-then-is_some-clause-room : goal.returns-then-is_some-clause-room
-returns-then-is_some-clause-room g c =
-    c.send_integrator_level_messages-over.ensures.room ∙ c.list_handler_rows.ensures.room
-
-pub send_slope_messages-over-requires-clause-parts : goal.send_slope_messages-over-requires-clause-parts
-send_slope_messages-over-requires-clause-parts g c =
-    c.send_integrator_level_messages-over.ensures.parts
-
-pub send_slope_messages-over-requires-clause-ready : goal.send_slope_messages-over-requires-clause-ready
-send_slope_messages-over-requires-clause-ready g c =
-    c.send_integrator_level_messages-over.ensures.ready
-
-pub returns-then-is_some-2-clause-stepped : goal.returns-then-is_some-2-clause-stepped
-returns-then-is_some-2-clause-stepped g c w h =
-    let m = c.args.m.now in
-    let name = c.args.q.now.name in
-    let tick = c.args.tick in
-    let s : Store _ _ = c.args.s.now in
-    let rows : List Row = c.list_handler_rows.new.rows.items in
-    let after : List Row = c.send_integrator_level_messages-over.new.rows.items in
-    let leveled : Components _ _ = c.send_integrator_level_messages-over.new.parts in
-    let over : Option ℕ = c.send_integrator_level_messages-over.result in
-    let taken = c.send_integrator_level_messages-over.ensures.taken (handled m name tick w s h) (handled_fits m name tick w s h) (handled_agree m name tick w s h c.send_assigned_messages.new.parts c.send_assigned_messages.ensures.agree) in
-    let none : over ≡ None = not_some over (sym c.is_some.ensures ∙ c.if-is_some.false) in
-    let parts : Components _ _ = c.send_slope_messages-over.new.parts in
-    let heavy : Option ℕ = c.send_slope_messages-over.result in
-    let sent = c.send_slope_messages-over.ensures.sent (taken_values m name tick w s h leveled rows after over taken none) (taken_fits m name tick w s h leveled rows after over taken none) (taken_agree m name tick w s h leveled rows after over taken none) in
-    slopes_step m name tick w s h leveled rows after over taken none parts heavy sent (sym c.is_some-2.ensures ∙ c.if-is_some-2.true) (snapshot_of tick (record s { parts = parts; rows = c.send_integrator_level_messages-over.new.rows }))
-
-pub returns-then-is_some-2-clause-rows : goal.returns-then-is_some-2-clause-rows
-returns-then-is_some-2-clause-rows g c w h none =
-    clash c.send_slope_messages-over.result (sym c.is_some-2.ensures ∙ c.if-is_some-2.true) none
-
-pub returns-then-is_some-2-clause-represents_snapshot : goal.returns-then-is_some-2-clause-represents_snapshot
-returns-then-is_some-2-clause-represents_snapshot g c none =
-    clash c.send_slope_messages-over.result (sym c.is_some-2.ensures ∙ c.if-is_some-2.true) none
-
-pub returns-then-is_some-2-clause-room : goal.returns-then-is_some-2-clause-room
-returns-then-is_some-2-clause-room g c =
-    c.send_integrator_level_messages-over.ensures.room ∙ c.list_handler_rows.ensures.room
-
-pub settle_arrival_truths-requires-clause-now : goal.settle_arrival_truths-requires-clause-now
-settle_arrival_truths-requires-clause-now g c =
-    c.requires.handled.1.fits.now ∙ sym (ap length c.as_slice.ensures.value ∙ c.send_slope_messages-over.ensures.parts.crossings)
-
-pub settle_arrival_truths-requires-clause-at_arrival : goal.settle_arrival_truths-requires-clause-at_arrival
-settle_arrival_truths-requires-clause-at_arrival g c =
-    c.requires.handled.1.fits.at_arrival ∙ sym (ap length c.as_slice.ensures.value ∙ c.send_slope_messages-over.ensures.parts.crossings)
-
-pub settle_arrival_truths-requires-clause-after_handlers : goal.settle_arrival_truths-requires-clause-after_handlers
-settle_arrival_truths-requires-clause-after_handlers g c =
-    c.requires.handled.1.fits.after_handlers ∙ sym (ap length c.as_slice.ensures.value ∙ c.send_slope_messages-over.ensures.parts.crossings)
-
-pub returns-clause-stepped : goal.returns-clause-stepped
-returns-clause-stepped g c w h =
-    let m = c.args.m.now in
-    let name = c.args.q.now.name in
-    let tick = c.args.tick in
-    let s : Store _ _ = c.args.s.now in
-    let rows : List Row = c.list_handler_rows.new.rows.items in
-    let after : List Row = c.send_integrator_level_messages-over.new.rows.items in
-    let leveled : Components _ _ = c.send_integrator_level_messages-over.new.parts in
-    let over : Option ℕ = c.send_integrator_level_messages-over.result in
-    let taken = c.send_integrator_level_messages-over.ensures.taken (handled m name tick w s h) (handled_fits m name tick w s h) (handled_agree m name tick w s h c.send_assigned_messages.new.parts c.send_assigned_messages.ensures.agree) in
-    let none : over ≡ None = not_some over (sym c.is_some.ensures ∙ c.if-is_some.false) in
-    let parts : Components _ _ = c.send_slope_messages-over.new.parts in
-    let heavy : Option ℕ = c.send_slope_messages-over.result in
-    let sent = c.send_slope_messages-over.ensures.sent (taken_values m name tick w s h leveled rows after over taken none) (taken_fits m name tick w s h leveled rows after over taken none) (taken_agree m name tick w s h leveled rows after over taken none) in
-    let light : heavy ≡ None = not_some heavy (sym c.is_some-2.ensures ∙ c.if-is_some-2.false) in
-    let are = c.send_slope_messages-over.ensures.parts in
-    let ready = c.send_slope_messages-over.ensures.ready in
-    let truths_now = c.settle_arrival_truths.new.truths in
-    let next : Store _ _ = record s { parts = parts; truths = truths_now; rows = c.send_integrator_level_messages-over.new.rows } in
-    let last : Snapshot = ended m name tick w s h leveled rows after over taken none parts heavy sent light are ready in
-    let snapshot : List ℤ → List ℤ → List ℤ → List Bool → List Bool → Snapshot = λ a b d e f. record { states = a; levels = b; discretes = d; at_arrival = e; after_handlers = f } in
-    let states_is = ended_states m name tick w s h leveled rows after over taken none parts heavy sent light are ready in
-    let arrived_is : truths_now.at_arrival.items ≡ last.at_arrival = c.settle_arrival_truths.ensures.at_arrival ∙ h.now in
-    let settled_is : truths_now.after_handlers.items ≡ last.after_handlers =
-    c.settle_arrival_truths.ensures.after_handlers
-    ∙ ap (map (λ (k : CrossingModel). compares k.detector.rel k.detector.value)) c.as_slice.ensures.value
-    ∙ ended_settled m name tick w s h leveled rows after over taken none parts heavy sent light are ready in
-    let world_is : snapshot_of tick next ≡ last =
-    ap (λ (a : List ℤ). snapshot a (levels_of parts) s.work.d truths_now.at_arrival.items truths_now.after_handlers.items) states_is
-    ∙ ap (λ (b : List ℤ). snapshot last.states b s.work.d truths_now.at_arrival.items truths_now.after_handlers.items) (ended_levels m name tick w s h leveled rows after over taken none parts heavy sent light are ready)
-    ∙ ap (λ (d : List ℤ). snapshot last.states last.levels d truths_now.at_arrival.items truths_now.after_handlers.items) h.discretes
-    ∙ ap (λ (e : List Bool). snapshot last.states last.levels last.discretes e truths_now.after_handlers.items) arrived_is
-    ∙ ap (λ (f : List Bool). snapshot last.states last.levels last.discretes last.at_arrival f) settled_is in
-    ended_step m name tick w s h leveled rows after over taken none parts heavy sent light are ready (snapshot_of tick next) world_is
-
-pub returns-clause-rows : goal.returns-clause-rows
-returns-clause-rows g c w h calm =
-    let m = c.args.m.now in
-    let name = c.args.q.now.name in
-    let tick = c.args.tick in
-    let s : Store _ _ = c.args.s.now in
-    let rows : List Row = c.list_handler_rows.new.rows.items in
-    let after : List Row = c.send_integrator_level_messages-over.new.rows.items in
-    let leveled : Components _ _ = c.send_integrator_level_messages-over.new.parts in
-    let over : Option ℕ = c.send_integrator_level_messages-over.result in
-    let taken = c.send_integrator_level_messages-over.ensures.taken (handled m name tick w s h) (handled_fits m name tick w s h) (handled_agree m name tick w s h c.send_assigned_messages.new.parts c.send_assigned_messages.ensures.agree) in
-    let none : over ≡ None = not_some over (sym c.is_some.ensures ∙ c.if-is_some.false) in
-    let parts : Components _ _ = c.send_slope_messages-over.new.parts in
-    let heavy : Option ℕ = c.send_slope_messages-over.result in
-    let sent = c.send_slope_messages-over.ensures.sent (taken_values m name tick w s h leveled rows after over taken none) (taken_fits m name tick w s h leveled rows after over taken none) (taken_agree m name tick w s h leveled rows after over taken none) in
-    let light : heavy ≡ None = not_some heavy (sym c.is_some-2.ensures ∙ c.if-is_some-2.false) in
-    let are = c.send_slope_messages-over.ensures.parts in
-    let ready = c.send_slope_messages-over.ensures.ready in
-    let truths_now = c.settle_arrival_truths.new.truths in
-    let next : Store _ _ = record s { parts = parts; truths = truths_now; rows = c.send_integrator_level_messages-over.new.rows } in
-    let last : Snapshot = ended m name tick w s h leveled rows after over taken none parts heavy sent light are ready in
-    let snapshot : List ℤ → List ℤ → List ℤ → List Bool → List Bool → Snapshot = λ a b d e f. record { states = a; levels = b; discretes = d; at_arrival = e; after_handlers = f } in
-    let states_is = ended_states m name tick w s h leveled rows after over taken none parts heavy sent light are ready in
-    let arrived_is : truths_now.at_arrival.items ≡ last.at_arrival = c.settle_arrival_truths.ensures.at_arrival ∙ h.now in
-    let settled_is : truths_now.after_handlers.items ≡ last.after_handlers =
-    c.settle_arrival_truths.ensures.after_handlers
-    ∙ ap (map (λ (k : CrossingModel). compares k.detector.rel k.detector.value)) c.as_slice.ensures.value
-    ∙ ended_settled m name tick w s h leveled rows after over taken none parts heavy sent light are ready in
-    let world_is : snapshot_of tick next ≡ last =
-    ap (λ (a : List ℤ). snapshot a (levels_of parts) s.work.d truths_now.at_arrival.items truths_now.after_handlers.items) states_is
-    ∙ ap (λ (b : List ℤ). snapshot last.states b s.work.d truths_now.at_arrival.items truths_now.after_handlers.items) (ended_levels m name tick w s h leveled rows after over taken none parts heavy sent light are ready)
-    ∙ ap (λ (d : List ℤ). snapshot last.states last.levels d truths_now.at_arrival.items truths_now.after_handlers.items) h.discretes
-    ∙ ap (λ (e : List Bool). snapshot last.states last.levels last.discretes e truths_now.after_handlers.items) arrived_is
-    ∙ ap (λ (f : List Bool). snapshot last.states last.levels last.discretes last.at_arrival f) settled_is in
-    taken.rows none
-    ∙ ap (λ (l : List Row). l ++ level_rows tick w.levels last.levels last.states) (c.list_handler_rows.ensures.rows ∙ h.log)
-    ∙ sym (ap (tick_rows m tick w) world_is)
-
-pub returns-clause-represents_snapshot : goal.returns-clause-represents_snapshot
-returns-clause-represents_snapshot g c calm =
-    let m = c.args.m.now in
-    let name = c.args.q.now.name in
-    let tick = c.args.tick in
-    let s : Store _ _ = c.args.s.now in
-    let rows : List Row = c.list_handler_rows.new.rows.items in
-    let after : List Row = c.send_integrator_level_messages-over.new.rows.items in
-    let leveled : Components _ _ = c.send_integrator_level_messages-over.new.parts in
-    let over : Option ℕ = c.send_integrator_level_messages-over.result in
-    let w : Snapshot = c.requires.handled.0 in
-    let h = c.requires.handled.1 in
-    let taken = c.send_integrator_level_messages-over.ensures.taken (handled m name tick w s h) (handled_fits m name tick w s h) (handled_agree m name tick w s h c.send_assigned_messages.new.parts c.send_assigned_messages.ensures.agree) in
-    let none : over ≡ None = not_some over (sym c.is_some.ensures ∙ c.if-is_some.false) in
-    let parts : Components _ _ = c.send_slope_messages-over.new.parts in
-    let heavy : Option ℕ = c.send_slope_messages-over.result in
-    let sent = c.send_slope_messages-over.ensures.sent (taken_values m name tick w s h leveled rows after over taken none) (taken_fits m name tick w s h leveled rows after over taken none) (taken_agree m name tick w s h leveled rows after over taken none) in
-    let light : heavy ≡ None = not_some heavy (sym c.is_some-2.ensures ∙ c.if-is_some-2.false) in
-    let are = c.send_slope_messages-over.ensures.parts in
-    let ready = c.send_slope_messages-over.ensures.ready in
-    let truths_now = c.settle_arrival_truths.new.truths in
-    let next : Store _ _ = record s { parts = parts; truths = truths_now; rows = c.send_integrator_level_messages-over.new.rows } in
-    let last : Snapshot = ended m name tick w s h leveled rows after over taken none parts heavy sent light are ready in
-    let snapshot : List ℤ → List ℤ → List ℤ → List Bool → List Bool → Snapshot = λ a b d e f. record { states = a; levels = b; discretes = d; at_arrival = e; after_handlers = f } in
-    let states_is = ended_states m name tick w s h leveled rows after over taken none parts heavy sent light are ready in
-    let arrived_is : truths_now.at_arrival.items ≡ last.at_arrival = c.settle_arrival_truths.ensures.at_arrival ∙ h.now in
-    let settled_is : truths_now.after_handlers.items ≡ last.after_handlers =
-    c.settle_arrival_truths.ensures.after_handlers
-    ∙ ap (map (λ (k : CrossingModel). compares k.detector.rel k.detector.value)) c.as_slice.ensures.value
-    ∙ ended_settled m name tick w s h leveled rows after over taken none parts heavy sent light are ready in
-    let world_is : snapshot_of tick next ≡ last =
-    ap (λ (a : List ℤ). snapshot a (levels_of parts) s.work.d truths_now.at_arrival.items truths_now.after_handlers.items) states_is
-    ∙ ap (λ (b : List ℤ). snapshot last.states b s.work.d truths_now.at_arrival.items truths_now.after_handlers.items) (ended_levels m name tick w s h leveled rows after over taken none parts heavy sent light are ready)
-    ∙ ap (λ (d : List ℤ). snapshot last.states last.levels d truths_now.at_arrival.items truths_now.after_handlers.items) h.discretes
-    ∙ ap (λ (e : List Bool). snapshot last.states last.levels last.discretes e truths_now.after_handlers.items) arrived_is
-    ∙ ap (λ (f : List Bool). snapshot last.states last.levels last.discretes last.at_arrival f) settled_is in
+    let sent = c.send_assigned_messages.ensures in
     record {
-      fits = record {
-        parts = are;
-        ruled = c.send_slope_messages-over.ensures.ruled name c.send_integrator_level_messages-over.ensures.ruled;
-        values = h.fits.values;
-        work_room = h.fits.work_room;
-        now = ap length c.settle_arrival_truths.ensures.now ∙ h.fits.now;
-        at_arrival = ap length c.settle_arrival_truths.ensures.at_arrival ∙ h.fits.now;
-        after_handlers = ap length c.settle_arrival_truths.ensures.after_handlers ∙ length-map c.as_slice.result.now (λ (k : CrossingModel). compares k.detector.rel k.detector.value) ∙ ap length c.as_slice.ensures.value ∙ are.crossings;
-        row_room = omega (arith, h.fits.row_room, c.send_integrator_level_messages-over.ensures.room, c.list_handler_rows.ensures.room);
-      };
-      stand = subst (λ (u : Snapshot). ComponentsRepresent m tick u (line_at parts) (function_state_at parts) (crossing_at parts)) (sym world_is) (ended_stand m name tick w s h leveled rows after over taken none parts heavy sent light are ready);
-      left = subst (MayFollowTick m) (sym world_is) (ended_left m name tick w s h leveled rows after over taken none parts heavy sent light are ready);
-      after_handlers = settled_is
-          ∙ ap (λ (xs : List ℤ). truths m xs last.discretes tick) (sym states_is)
-          ∙ ap (λ (ds : List ℤ). truths m (states_at tick parts) ds tick) (sym h.discretes);
-      lines = c.send_slope_messages-over.ensures.later (taken_values m name tick w s h leveled rows after over taken none) (taken_fits m name tick w s h leveled rows after over taken none)
-          (taken_agree m name tick w s h leveled rows after over taken none) (taken_near m name tick w s h leveled rows after over taken none) (c.send_integrator_level_messages-over.ensures.later none) light;
-      crossings = ended_crossings m name tick w s h leveled rows after over taken none parts heavy sent light are ready;
+      parts = sent.parts;
+      ruled = (c.requires.named.0, rw c.requires.named.1 at (sent.ruled c.args.q.now.name h.fits.ruled));
+      ready = sent.ready;
+      room = omega (
+        arith,
+        c.list_handler_rows.new.rows.ok.0,
+        ap length c.list_handler_rows.ensures.rows,
+        c.list_handler_rows.ensures.room,
+        h.count,
+        h.fits.row_room,
+      );
     }
 
-pub returns-clause-room : goal.returns-clause-room
-returns-clause-room g c =
-    c.send_integrator_level_messages-over.ensures.room ∙ c.list_handler_rows.ensures.room
+pub returns-in_err-send_integrator_level_messages : goal.returns-in_err-send_integrator_level_messages
+returns-in_err-send_integrator_level_messages g c =
+    let name = c.args.q.now.name in
+    let named = c.requires.named in
+    let sent = c.send_assigned_messages in
+    let leveled = c.send_integrator_level_messages in
+    let over = c.in_err-send_integrator_level_messages.field-0.0 in
+    let given : c.from_residual.result ≡ Err over = search rules in
+    record {
+      stepped = λ w h.
+          let ruled : AreRuled (Some named.0) sent.new.parts = rw named.1 at (sent.ensures.ruled name h.fits.ruled) in
+          let received = handled_agree h sent.new.parts sent.ensures.agree in
+          let taken : AreTaken c.args.m.now name c.args.tick (handled h) leveled.new.parts c.list_handler_rows.new.rows.items leveled.new.rows.items (overflow_of leveled.result) =
+          rw (← named.1) at (leveled.ensures.taken named.0 (handled h) ruled (handled_fits h) received) in
+          rw given (levels_step h taken over.var (ap overflow_of c.in_err-send_integrator_level_messages.was));
+      rows = λ w h. no_overflow c.from_residual.result over given;
+      represents_snapshot = no_overflow c.from_residual.result over given;
+      room = leveled.ensures.room ∙ c.list_handler_rows.ensures.room;
+    }
+
+pub send_slope_messages-requires : goal.send_slope_messages-requires
+send_slope_messages-requires g c = record {
+  parts = c.send_integrator_level_messages.ensures.parts;
+  ready = c.send_integrator_level_messages.ensures.ready;
+}
+
+pub returns-in_err-send_slope_messages : goal.returns-in_err-send_slope_messages
+returns-in_err-send_slope_messages g c =
+    let name = c.args.q.now.name in
+    let named = c.requires.named in
+    let sent = c.send_assigned_messages in
+    let leveled = c.send_integrator_level_messages in
+    let none : overflow_of leveled.result ≡ None = ap overflow_of c.in_ok-send_integrator_level_messages.was in
+    let over = c.in_err-send_slope_messages.field-0.0 in
+    let given : c.from_residual-in_err-send_slope_messages.result ≡ Err over = search rules in
+    record {
+      stepped = λ w h.
+          let ruled : AreRuled (Some named.0) sent.new.parts = rw named.1 at (sent.ensures.ruled name h.fits.ruled) in
+          let received = handled_agree h sent.new.parts sent.ensures.agree in
+          let taken : AreTaken c.args.m.now name c.args.tick (handled h) leveled.new.parts c.list_handler_rows.new.rows.items leveled.new.rows.items (overflow_of leveled.result) =
+          rw (← named.1) at (leveled.ensures.taken named.0 (handled h) ruled (handled_fits h) received) in
+          let slopes = c.send_slope_messages.ensures.sent (taken_values h taken none) (taken_fits h taken none) (taken_agree h taken none) in
+          rw given (slopes_step h taken none slopes over.var (ap overflow_of c.in_err-send_slope_messages.was));
+      rows = λ w h. no_overflow c.from_residual-in_err-send_slope_messages.result over given;
+      represents_snapshot = no_overflow c.from_residual-in_err-send_slope_messages.result over given;
+      room = leveled.ensures.room ∙ c.list_handler_rows.ensures.room;
+    }
+
+pub settle_arrival_truths-requires : goal.settle_arrival_truths-requires
+settle_arrival_truths-requires g c =
+    let flags = c.requires.handled.1.fits.flags in
+    let many = sym (ap length c.deref.ensures.value ∙ c.send_slope_messages.ensures.parts.crossings) in
+    record {
+      current = flags.current ∙ many;
+      at_arrival = flags.at_arrival ∙ many;
+      after_handlers = flags.after_handlers ∙ many;
+    }
+
+pub returns : goal.returns
+returns g c =
+    let name = c.args.q.now.name in
+    let named = c.requires.named in
+    let sent = c.send_assigned_messages in
+    let leveled = c.send_integrator_level_messages in
+    let sloped = c.send_slope_messages in
+    let none : overflow_of leveled.result ≡ None = ap overflow_of c.in_ok-send_integrator_level_messages.was in
+    let light : overflow_of sloped.result ≡ None = ap overflow_of c.in_ok-send_slope_messages.was in
+    let are = sloped.ensures.parts in
+    let ready = sloped.ensures.ready in
+    let truths = c.settle_arrival_truths in
+    let settled =
+    truths.ensures.after_handlers
+    ∙ ap (map (λ (k : CrossingModel). compares k.detector.rel k.detector.value)) c.deref.ensures.value in
+    let fits = c.requires.handled.1.fits in
+    let next : Store _ _ = record c.args.s.now {
+      parts = sloped.new.parts;
+      truths = truths.new.truths;
+      rows = leveled.new.rows;
+    } in
+    let next_fits : FitsMachine c.args.m.now name next = record {
+      parts = are;
+      ruled = sloped.ensures.ruled name (leveled.ensures.ruled name (sent.ensures.ruled name fits.ruled));
+      values = fits.values;
+      work_room = fits.work_room;
+      flags = record {
+        current = ap length truths.ensures.current ∙ fits.flags.current;
+        at_arrival = ap length truths.ensures.at_arrival ∙ fits.flags.current;
+        after_handlers =
+            ap length settled
+            ∙ length-map sloped.new.parts.crossings.items (λ (k : CrossingModel). compares k.detector.rel k.detector.value)
+            ∙ are.crossings;
+      };
+      row_room = omega (arith, fits.row_room, leveled.ensures.room, c.list_handler_rows.ensures.room);
+    } in
+    let ends = λ (w : Snapshot) (h : IsAfterHandlers c.args.m.now name c.args.tick w c.args.s.now).
+    let ruled : AreRuled (Some named.0) sent.new.parts = rw named.1 at (sent.ensures.ruled name h.fits.ruled) in
+    let received = handled_agree h sent.new.parts sent.ensures.agree in
+    let taken : AreTaken c.args.m.now name c.args.tick (handled h) leveled.new.parts c.list_handler_rows.new.rows.items leveled.new.rows.items (overflow_of leveled.result) =
+    rw (← named.1) at (leveled.ensures.taken named.0 (handled h) ruled (handled_fits h) received) in
+    ends_tick c.args.m.now name c.args.tick w c.args.s.now next h leveled.new.parts sloped.new.parts
+    c.list_handler_rows.new.rows.items leveled.new.rows.items (overflow_of leveled.result)
+    (overflow_of sloped.result) taken none sloped.ensures.sent light are ready
+    (λ v values a near. sloped.ensures.later v values a near (leveled.ensures.later none) light)
+    refl refl truths.ensures.at_arrival settled c.list_handler_rows.ensures.rows next_fits in
+    record {
+      stepped = λ w h. (ends w h).step;
+      rows = λ w h calm. (ends w h).rows_are;
+      represents_snapshot = λ calm. (ends c.requires.handled.0 c.requires.handled.1).represents;
+      room = leveled.ensures.room ∙ c.list_handler_rows.ensures.room;
+    }

@@ -2,6 +2,7 @@
 use Rattle.qss_devs.proofs.Common
 use Common.{◌+◌, ◌∙◌, ap, IsAllowedLevel, IsStep, snapshot_of, snapshot_unless, subst, sym}
 use Common.{tick_rows}
+use Rattle.qss_hand.specs.Works.{overflow_of}
 use Rattle.qss_devs.proofs.coupled_events.visit_next_step.Goals as goal
 
 pub returns-clause-visited : goal.returns-clause-visited
@@ -13,7 +14,7 @@ returns-clause-visited g c =
       record {
         leads = are.leads;
         is_next = ap (λ n. n + 1) are.as_many;
-        is_step = subst (λ w. IsStep (IsAllowedLevel c.args.q.now.name) c.args.m.now t w (snapshot_unless c.run_next_tick-over.result (snapshot_of t c.run_next_tick-over.new.s))) (sym are.reached) c.run_next_tick-over.ensures.stepped;
+        is_step = subst (λ w. IsStep (IsAllowedLevel c.args.q.now.name) c.args.m.now t w (snapshot_unless (overflow_of c.run_next_tick.result) (snapshot_of t c.run_next_tick.new.s))) (sym are.reached) c.run_next_tick.ensures.stepped;
       },
-      (λ none. c.run_next_tick-over.ensures.rows none ∙ ap (λ w. tick_rows c.args.m.now t w (snapshot_of t c.run_next_tick-over.new.s)) (sym are.reached)),
+      (λ none. c.run_next_tick.ensures.rows none ∙ ap (λ w. tick_rows c.args.m.now t w (snapshot_of t c.run_next_tick.new.s)) (sym are.reached)),
     )

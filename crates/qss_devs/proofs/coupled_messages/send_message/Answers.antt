@@ -1,6 +1,6 @@
 -- A message goes where it is about.
 use Rattle.qss_devs.proofs.Common.{IsMessage, refl, subst}
-use Rattle.qss_devs.proofs.ToldParts.{truth_stays}
+use Rattle.qss_devs.proofs.MessagesReceived.{truth_stays}
 use Rattle.qss_devs.proofs.coupled_messages.send_message.Goals as goal
 
 pub send_line_message-requires-clause-own : goal.send_line_message-requires-clause-own

@@ -8,5 +8,5 @@ abbrev pub invariant-loop-place : goal.invariant-loop-place
 invariant-loop-place l = record {
   machines : All (λ c. c.machine.value ≡ l.m) l.crossings;
   ready : All (λ c. IsCrossingReady l.m l.tick (crossing_of c)) l.crossings;
-  told : IsWritten no_crossing (λ j c. c ≡ crossing_after_message l.m (get_or (map crossing_of l.fn.crossings) j no_crossing) l.tick l.msg) (take l.place-index l.places) (map crossing_of l.fn.crossings) (map crossing_of l.crossings);
+  received : IsWritten no_crossing (λ j c. c ≡ crossing_after_message l.m (get_or (map crossing_of l.fn.crossings) j no_crossing) l.tick l.msg) (take l.place-index l.places) (map crossing_of l.fn.crossings) (map crossing_of l.crossings);
 }

@@ -1,9 +1,8 @@
 -- One more function makes its transition.
 use Rattle.qss_devs.proofs.Common
-use Common.{ℕ, ◌<◌, ◌∙◌, ◌≡◌, ap, AreSent, AreSentUpTo, arith, clash, exceeds_row_limits}
-use Common.{IsSlopeSent, length, None, not_some, Option, row_at, sloped, Some, state_count, subst}
-use Common.{sym}
-use Rattle.qss_devs.proofs.Overs.{over_is}
+use Common.{ℕ, ◌<◌, ◌≡◌, ap, arith, Err, length, refl, sloped, state_count}
+use Rattle.std.proofs.Common.{rules}
+use Rattle.qss_devs.proofs.Overs.{no_overflow}
 use Rattle.qss_devs.proofs.SlopesSent.{sent_none, sent_more, sent_all, sent_over, sloped_values}
 use Rattle.qss_devs.proofs.coupled_messages.send_slope_messages.Goals as goal
 
@@ -17,81 +16,70 @@ loop-j-init g c = record {
 }
 
 pub overflow_cast-j : goal.overflow_cast-j
-overflow_cast-j g c = omega (arith, c.loop-j-test.true, ap length c.as_slice-j-end.ensures, c.args.m.now.has_variables.few)
+overflow_cast-j g c =
+    omega (arith, ap length c.as_slice-j-end.ensures, c.args.m.now.has_variables.few)
 
-pub send_slope_message-over-requires-clause-parts : goal.send_slope_message-over-requires-clause-parts
-send_slope_message-over-requires-clause-parts g c = c.loop-j.invariant.parts
+pub send_slope_message-requires : goal.send_slope_message-requires
+send_slope_message-requires g c = record {
+  parts = c.loop-j.invariant.parts;
+  known = omega (arith, ap length c.as_slice-j-end.ensures);
+  ready = c.loop-j.invariant.ready;
+}
 
-pub send_slope_message-over-requires-clause-known : goal.send_slope_message-over-requires-clause-known
-send_slope_message-over-requires-clause-known g c = omega (arith, c.loop-j-test.true, ap length c.as_slice-j-end.ensures)
-
-pub send_slope_message-over-requires-clause-ready : goal.send_slope_message-over-requires-clause-ready
-send_slope_message-over-requires-clause-ready g c = c.loop-j.invariant.ready
-
-pub returns-then-is_some-clause-parts : goal.returns-then-is_some-clause-parts
-returns-then-is_some-clause-parts g c = c.send_slope_message-over.ensures.parts
-
-pub returns-then-is_some-clause-ruled : goal.returns-then-is_some-clause-ruled
-returns-then-is_some-clause-ruled g c = λ name ruled. c.send_slope_message-over.ensures.ruled name (c.loop-j.invariant.ruled name ruled)
-
-pub returns-then-is_some-clause-ready : goal.returns-then-is_some-clause-ready
-returns-then-is_some-clause-ready g c = c.send_slope_message-over.ensures.ready
-
-pub returns-then-is_some-clause-sent : goal.returns-then-is_some-clause-sent
-returns-then-is_some-clause-sent g c = λ v values a.
-    let m = c.args.m.now in
-    let tick = c.args.tick in
+pub returns-in_err-send_slope_message : goal.returns-in_err-send_slope_message
+returns-in_err-send_slope_message g c =
     let j = c.loop-j.j in
-    let parts = c.loop-j.parts in
-    let over = c.send_slope_message-over.result in
-    let inside : j < state_count m = omega (arith, c.loop-j-test.true, ap length c.as_slice-j-end.ensures) in
-    let before : AreSentUpTo m tick v j parts = c.loop-j.invariant.sent v values a in
-    let step : IsSlopeSent m tick (sloped m v j) j c.send_slope_message-over.new.parts over =
-    c.send_slope_message-over.ensures.sent (sloped m v j) (sloped_values m tick v j parts (omega (arith, inside)) values before) before.agree in
-    let own : over ≡ Some j = over_is (exceeds_row_limits m v.levels v.discretes (row_at m j)) j over (sym c.is_some.ensures ∙ c.if-is_some.true) step.own_over in
-    subst (λ (o : Option ℕ). AreSent m tick v c.send_slope_message-over.new.parts o) (sym own)
-    (sent_over m tick v values.each c.send_slope_message-over.new.parts j parts inside before (subst (λ (o : Option ℕ). IsSlopeSent m tick (sloped m v j) j c.send_slope_message-over.new.parts o) own step))
-
-pub returns-then-is_some-clause-later : goal.returns-then-is_some-clause-later
-returns-then-is_some-clause-later g c = λ v values a near later none. clash c.send_slope_message-over.result (sym c.is_some.ensures ∙ c.if-is_some.true) none
+    let inv = c.loop-j.invariant in
+    let step = c.send_slope_message.ensures in
+    let over = c.in_err-send_slope_message.field-0.0 in
+    let given : c.from_residual.result ≡ Err over = search rules in
+    let inside : j < state_count c.args.m.now = omega (arith, ap length c.as_slice-j-end.ensures) in
+    record {
+      parts = step.parts;
+      ruled = λ name ruled. step.ruled name (inv.ruled name ruled);
+      ready = step.ready;
+      sent = λ v values a.
+          let before = inv.sent v values a in
+          let fits = sloped_values (omega (arith, inside)) values before in
+          let sent = step.sent (sloped c.args.m.now v j) fits before.agree in
+          rw given
+          (sent_over values.each inside before (rw c.in_err-send_slope_message.was at sent));
+      later = λ v values a near later none. no_overflow c.from_residual.result over given none;
+    }
 
 pub loop-j-preserved : goal.loop-j-preserved
 loop-j-preserved g c =
     let m = c.args.m.now in
-    let tick = c.args.tick in
     let j = c.loop-j.j in
-    let parts = c.loop-j.parts in
-    let over = c.send_slope_message-over.result in
-    let inside : j < state_count m = omega (arith, c.loop-j-test.true, ap length c.as_slice-j-end.ensures) in
-    let none : over ≡ None = not_some over (sym c.is_some.ensures ∙ c.if-is_some.false) in
+    let inv = c.loop-j.invariant in
+    let step = c.send_slope_message.ensures in
+    let was = c.in_ok-send_slope_message.was in
+    let inside : j < state_count m = omega (arith, ap length c.as_slice-j-end.ensures) in
     record {
-      parts = c.send_slope_message-over.ensures.parts;
-      ruled = λ name ruled. c.send_slope_message-over.ensures.ruled name (c.loop-j.invariant.ruled name ruled);
-      ready = c.send_slope_message-over.ensures.ready;
+      parts = step.parts;
+      ruled = λ name ruled. step.ruled name (inv.ruled name ruled);
+      ready = step.ready;
       sent = λ v values a.
-          let before : AreSentUpTo m tick v j parts = c.loop-j.invariant.sent v values a in
-          let step : IsSlopeSent m tick (sloped m v j) j c.send_slope_message-over.new.parts over =
-          c.send_slope_message-over.ensures.sent (sloped m v j) (sloped_values m tick v j parts (omega (arith, inside)) values before) before.agree in
-          sent_more m tick v j parts c.send_slope_message-over.new.parts inside before (subst (λ (o : Option ℕ). IsSlopeSent m tick (sloped m v j) j c.send_slope_message-over.new.parts o) none step) c.send_slope_message-over.ensures.others;
+          let before = inv.sent v values a in
+          let fits = sloped_values (omega (arith, inside)) values before in
+          let sent = step.sent (sloped m v j) fits before.agree in
+          sent_more inside before (rw was at sent) step.others;
       later = λ v values a near later.
-          let before : AreSentUpTo m tick v j parts = c.loop-j.invariant.sent v values a in
-          c.send_slope_message-over.ensures.later (sloped m v j) (sloped_values m tick v j parts (omega (arith, inside)) values before) before.agree near (c.loop-j.invariant.later v values a near later) none;
+          let before = inv.sent v values a in
+          let fits = sloped_values (omega (arith, inside)) values before in
+          step.later (sloped m v j) fits before.agree near (inv.later v values a near later)
+          (rw was refl);
     }
 
-pub returns-clause-parts : goal.returns-clause-parts
-returns-clause-parts g c = c.loop-j.invariant.parts
-
-pub returns-clause-ruled : goal.returns-clause-ruled
-returns-clause-ruled g c = c.loop-j.invariant.ruled
-
-pub returns-clause-ready : goal.returns-clause-ready
-returns-clause-ready g c = c.loop-j.invariant.ready
-
-pub returns-clause-sent : goal.returns-clause-sent
-returns-clause-sent g c = λ v values a.
-    let m = c.args.m.now in
-    let all : c.loop-j.j ≡ state_count m = omega (arith, c.loop-j-test.false, c.loop-j.auto.j-end, ap length c.as_slice-j-end.ensures) in
-    sent_all m c.args.tick v values.each c.loop-j.parts (subst (λ (n : ℕ). AreSentUpTo m c.args.tick v n c.loop-j.parts) all (c.loop-j.invariant.sent v values a))
-
-pub returns-clause-later : goal.returns-clause-later
-returns-clause-later g c = λ v values a near later none. c.loop-j.invariant.later v values a near later
+pub returns : goal.returns
+returns g c =
+    let inv = c.loop-j.invariant in
+    let all : c.loop-j.j ≡ state_count c.args.m.now =
+    omega (arith, c.loop-j-test.false, c.loop-j.auto.j-end, ap length c.as_slice-j-end.ensures) in
+    record {
+      parts = inv.parts;
+      ruled = inv.ruled;
+      ready = inv.ready;
+      sent = λ v values a. sent_all values.each (rw all at (inv.sent v values a));
+      later = λ v values a near later none. inv.later v values a near later;
+    }

@@ -1,22 +1,23 @@
 -- The components are those of the machine.
+use Rattle.qss_devs.proofs.Common.{◌∙◌, ap, conditions, EachAt, IsFirstAt, length, Machine, subst}
 use Rattle.qss_devs.proofs.coupled_start.start_coupled_parts.Goals as goal
 
-pub returns-clause-parts : goal.returns-clause-parts
-returns-clause-parts g c = record {
-  integrators = c.in_ok-integrators.ensures.count;
-  functions = c.in_ok-functions.ensures.count;
-  crossings = c.in_ok-crossings.ensures.count;
-  own_integrators = λ j d h. let i = c.in_ok-integrators.ensures.each j d h in record { machine = i.machine; own = i.own };
-  own_functions = λ j d h. (c.in_ok-functions.ensures.each j d h).machine;
-  own_crossings = λ place d h. (c.in_ok-crossings.ensures.each place d h).machine;
-  uses = c.in_ok-uses.ensures;
-}
-
-pub returns-clause-integrators : goal.returns-clause-integrators
-returns-clause-integrators g c = c.in_ok-integrators.ensures.each
-
-pub returns-clause-functions : goal.returns-clause-functions
-returns-clause-functions g c = c.in_ok-functions.ensures.each
-
-pub returns-clause-crossings : goal.returns-clause-crossings
-returns-clause-crossings g c = c.in_ok-crossings.ensures.each
+pub returns : goal.returns
+returns g c =
+    let same = c.requires.same in
+    let integrators = c.in_ok-integrators.ensures in
+    let crossings = c.in_ok-crossings.ensures in
+    record {
+      parts = record {
+        integrators = integrators.count;
+        functions = c.in_ok-functions.ensures.count;
+        crossings = crossings.count ∙ ap (λ (m : Machine). length (conditions m)) same;
+        own_integrators = λ j d h. let i = integrators.each j d h in record { machine = i.machine; own = i.own };
+        own_functions = λ j d h. (c.in_ok-functions.ensures.each j d h).machine;
+        own_crossings = λ place d h. (crossings.each place d h).machine ∙ same;
+        uses = c.in_ok-uses.ensures;
+      };
+      integrators = integrators.each;
+      functions = c.in_ok-functions.ensures.each;
+      crossings = subst (λ (m : Machine). EachAt (IsFirstAt m) c.in_ok-crossings.crossings.items) same crossings.each;
+    }

@@ -9,49 +9,49 @@ use Rattle.qss_devs.proofs.FirstStands.{held, AreFirst, first_snapshot, first_st
 use Rattle.qss_machine.specs.declared.machine_parts.RowKind.TheVariants as kind
 use Rattle.qss_devs.proofs.coupled_start.start_coupled_store.Goals as goal
 
-pub start_coupled_parts-requires-clause-states : goal.start_coupled_parts-requires-clause-states
-start_coupled_parts-requires-clause-states g c = c.as_slice.ensures.value ∙ ap (λ (v : Values). v.x) c.work.view_is ∙ ap (λ (v : Values). v.x) c.in_ok-work.ensures
+pub start_coupled_parts-requires : goal.start_coupled_parts-requires
+start_coupled_parts-requires g c = record {
+  same = c.requires;
+  states = ap (λ (v : Values). v.x) c.in_ok-work.ensures;
+  discretes = ap (λ (v : Values). v.d) c.in_ok-work.ensures;
+}
 
-pub start_coupled_parts-requires-clause-discretes : goal.start_coupled_parts-requires-clause-discretes
-start_coupled_parts-requires-clause-discretes g c = c.as_slice-2.ensures.value ∙ ap (λ (v : Values). v.d) c.work.view_is ∙ ap (λ (v : Values). v.d) c.in_ok-work.ensures
-
-pub set_snapshot_rows-requires-clause-not_later : goal.set_snapshot_rows-requires-clause-not_later
-set_snapshot_rows-requires-clause-not_later g c =
-    subst (All (λ (i : IntegratorModel _ _). i.line.tick ≤ 0)) (sym c.as_slice-6.ensures.value)
-    (λ j d h. let own = ap (λ (l : Line). l.tick) (c.in_ok-parts.ensures.integrators j d h).line in omega (arith, own))
-
-pub set_snapshot_rows-requires-clause-count_limit : goal.set_snapshot_rows-requires-clause-count_limit
-set_snapshot_rows-requires-clause-count_limit g c =
+pub set_snapshot_rows-requires : goal.set_snapshot_rows-requires
+set_snapshot_rows-requires g c =
     let m : Machine = c.args.m.now in
-    omega (
-      arith,
-      ap length c.as_slice-6.ensures.value,
-      c.in_ok-parts.ensures.parts.integrators,
-      ap length c.as_slice-7.ensures.value,
-      ap (λ (v : Values). length v.d) c.work.view_is,
-      ap (λ (v : Values). length v.d) c.in_ok-work.ensures,
-      length-map m.discretes (λ (d : DiscreteInfo). d.d0),
-      m.has_variables.few,
-    )
-
-pub set_snapshot_rows-requires-clause-room : goal.set_snapshot_rows-requires-clause-room
-set_snapshot_rows-requires-clause-room g c =
-    let m : Machine = c.args.m.now in
-    omega (
-      arith,
-      ap length c.as_slice-6.ensures.value,
-      c.in_ok-parts.ensures.parts.integrators,
-      ap length c.as_slice-7.ensures.value,
-      c.in_ok-rows.ensures.capacity,
-      c.len.ensures,
-      c.len-2.ensures,
-      c.work.inside.x.ok.0,
-      c.work.inside.d.ok.0,
-      ap (λ (v : Values). length v.x) c.work.view_is,
-      ap (λ (v : Values). length v.d) c.work.view_is,
-      ap (λ (v : Values). length v.x) c.in_ok-work.ensures,
-      length-map m.states (λ (s : StateInfo). s.x0),
-    )
+    record {
+      not_later =
+          subst (All (λ (i : IntegratorModel _ _). i.line.tick ≤ 0)) (sym c.deref-4.ensures.value)
+          (λ j d h. let own = ap (λ (l : Line). l.tick) (c.in_ok-parts.ensures.integrators j d h).line in omega (arith, own));
+      count_limit =
+          omega (
+            arith,
+            ap length c.deref-4.ensures.value,
+            c.in_ok-parts.ensures.parts.integrators,
+            ap length c.deref-5.ensures.value,
+            ap (λ (v : Values). length v.d) c.work.view_is,
+            ap (λ (v : Values). length v.d) c.in_ok-work.ensures,
+            length-map m.discretes (λ (d : DiscreteInfo). d.d0),
+            m.has_variables.few,
+          );
+      tick_limit = omega arith;
+      room =
+          omega (
+            arith,
+            ap length c.deref-4.ensures.value,
+            c.in_ok-parts.ensures.parts.integrators,
+            ap length c.deref-5.ensures.value,
+            c.in_ok-rows.ensures.capacity,
+            c.len.ensures,
+            c.len-2.ensures,
+            c.work.inside.x.ok.0,
+            c.work.inside.d.ok.0,
+            ap (λ (v : Values). length v.x) c.work.view_is,
+            ap (λ (v : Values). length v.d) c.work.view_is,
+            ap (λ (v : Values). length v.x) c.in_ok-work.ensures,
+            length-map m.states (λ (s : StateInfo). s.x0),
+          );
+    }
 
 pub returns : goal.returns
 returns g c =
@@ -60,7 +60,7 @@ returns g c =
     let s : Store _ _ = record {
       parts = c.in_ok-parts.parts;
       work = c.in_ok-work.work;
-      truths = record { now = c.in_ok-now.now; at_arrival = c.in_ok-at_arrival.at_arrival; after_handlers = c.in_ok-after_handlers.after_handlers };
+      truths = record { current = c.in_ok-current.current; at_arrival = c.in_ok-at_arrival.at_arrival; after_handlers = c.in_ok-after_handlers.after_handlers };
       rows = c.set_snapshot_rows.new.rows;
     } in
     let first : AreFirst m q s = record {
@@ -69,9 +69,9 @@ returns g c =
       functions = c.in_ok-parts.ensures.functions;
       crossings = c.in_ok-parts.ensures.crossings;
       work = c.in_ok-work.ensures;
-      now = c.in_ok-now.ensures ∙ ap (λ (ks : List CrossingModel). map held ks) c.as_slice-3.ensures.value;
-      at_arrival = c.in_ok-at_arrival.ensures ∙ ap (λ (ks : List CrossingModel). map held ks) c.as_slice-4.ensures.value;
-      after_handlers = c.in_ok-after_handlers.ensures ∙ ap (λ (ks : List CrossingModel). map held ks) c.as_slice-5.ensures.value;
+      current = c.in_ok-current.ensures ∙ ap (λ (ks : List CrossingModel). map held ks) c.deref.ensures.value;
+      at_arrival = c.in_ok-at_arrival.ensures ∙ ap (λ (ks : List CrossingModel). map held ks) c.deref-2.ensures.value;
+      after_handlers = c.in_ok-after_handlers.ensures ∙ ap (λ (ks : List CrossingModel). map held ks) c.deref-3.ensures.value;
       room = omega (
         arith,
         c.set_snapshot_rows.ensures.room,
@@ -96,6 +96,6 @@ returns g c =
       represents_snapshot = first_stands m q s first;
       snapshot = snapshot;
       rows = c.set_snapshot_rows.ensures.rows
-          ∙ rows_at kind.Start 0 c.as_slice-6.result.now c.as_slice-7.result.now s c.as_slice-6.ensures.value (c.as_slice-7.ensures.value ∙ ap (λ (v : Values). v.d) c.work.view_is)
+          ∙ rows_at kind.Start 0 c.deref-4.result.now c.deref-5.result.now s c.deref-4.ensures.value (c.deref-5.ensures.value ∙ ap (λ (v : Values). v.d) c.work.view_is)
           ∙ ap (snapshot_rows kind.Start 0) snapshot;
     }

@@ -13,16 +13,16 @@ pub discrete-value-requires : goal.discrete-value-requires
 discrete-value-requires c =
     omega (arith, c.start_own_place-own.ensures.inside, ap length c.as_slice.ensures, ap (λ (v : Values). length v.discretes) c.requires.values, (start_each c.args.m.now).discretes)
 
-pub scale_discrete_value-requires-clause-value : goal.scale_discrete_value-requires-clause-value
-scale_discrete_value-requires-clause-value c =
-    let m = c.args.m.now in
-    let inside : c.start_own_place-own.result < discrete_count m = omega (arith, c.start_own_place-own.ensures.inside, ap length c.as_slice.ensures) in
-    let value : c.discrete-value.result ≡ int_at (start_values m).discretes c.start_own_place-own.result = c.discrete-value.ensures ∙ ap (λ (v : Values). int_at v.discretes c.start_own_place-own.result) c.requires.values in
-    let fits : FitsSigned w64 c.discrete-value.result = record { sfits = c.discrete-value.type_inv } in
-    rw (to_z-of_z w64 c.discrete-value.result fits) (subst (IsWithin 43) (sym value) (discrete_small m c.start_own_place-own.result inside))
-
-pub scale_discrete_value-requires-clause-unit : goal.scale_discrete_value-requires-clause-unit
-scale_discrete_value-requires-clause-unit c = omega (arith, c.args.m.now.has_units.unit_bits)
+pub scale_discrete_value-requires : goal.scale_discrete_value-requires
+scale_discrete_value-requires c = record {
+  value =
+      let m = c.args.m.now in
+      let inside : c.start_own_place-own.result < discrete_count m = omega (arith, c.start_own_place-own.ensures.inside, ap length c.as_slice.ensures) in
+      let value : c.discrete-value.result ≡ int_at (start_values m).discretes c.start_own_place-own.result = c.discrete-value.ensures ∙ ap (λ (v : Values). int_at v.discretes c.start_own_place-own.result) c.requires.values in
+      let fits : FitsSigned w64 c.discrete-value.result = record { sfits = c.discrete-value.type_inv } in
+      rw (to_z-of_z w64 c.discrete-value.result fits) (subst (IsWithin 43) (sym value) (discrete_small m c.start_own_place-own.result inside));
+  unit = omega (arith, c.args.m.now.has_units.unit_bits);
+}
 
 pub returns : goal.returns
 returns c =

@@ -139,19 +139,19 @@ loop-j-preserved c =
       );
     }
 
-pub returns-clause-count : goal.returns-clause-count
-returns-clause-count c =
-    omega (
-      arith,
-      c.loop-j-test.false,
-      c.len-j-end.ensures,
-      c.loop-j.invariant.within,
-      c.loop-j.invariant.as_many,
-      c.loop-j.functions.ok.0,
-      c.in_ok-lists.lists.ok.0,
-      c.in_ok-lists.ensures.count,
-      c.loop-j.invariant.count,
-    )
-
-pub returns-clause-each : goal.returns-clause-each
-returns-clause-each c = c.loop-j.invariant.each
+pub returns : goal.returns
+returns c = record {
+  count =
+      omega (
+        arith,
+        c.loop-j-test.false,
+        c.len-j-end.ensures,
+        c.loop-j.invariant.within,
+        c.loop-j.invariant.as_many,
+        c.loop-j.functions.ok.0,
+        c.in_ok-lists.lists.ok.0,
+        c.in_ok-lists.ensures.count,
+        c.loop-j.invariant.count,
+      );
+  each = c.loop-j.invariant.each;
+}

@@ -41,9 +41,8 @@ loop-j-preserved g c =
       room = omega (arith, c.push_reserved.ensures.capacity, inv.room);
     }
 
-pub returns-clause-count : goal.returns-clause-count
-returns-clause-count g c =
-    omega (arith, c.loop-j-test.false, c.loop-j.invariant.within, c.loop-j.invariant.as_many, c.loop-j.integrators.ok.0, c.args.v.now.levels.ok.0, ap (λ (v : Values). length v.levels) c.requires.values, (start_each c.args.m.now).levels)
-
-pub returns-clause-each : goal.returns-clause-each
-returns-clause-each g c = c.loop-j.invariant.each
+pub returns : goal.returns
+returns g c = record {
+  count = omega (arith, c.loop-j-test.false, c.loop-j.invariant.within, c.loop-j.invariant.as_many, c.loop-j.integrators.ok.0, c.args.v.now.levels.ok.0, ap (λ (v : Values). length v.levels) c.requires.values, (start_each c.args.m.now).levels);
+  each = c.loop-j.invariant.each;
+}

@@ -1,0 +1,105 @@
+-- The first due branch fires, and without one nothing changes.
+use Rattle.qss_devs.proofs.Common
+use Common.{◌+◌, ◌∙◌, ◌≡◌, ◌≤◌, Action, ap, arith, Bool, branch_at, clause_at, conditions_few, false}
+use Common.{flags_from, HandlerState, handling_of, length, List, None, refl, run_first_due, Some, sym}
+use Common.{values_after}
+use Rattle.std.proofs.lemmas.List.Quantifiers.{position-Some}
+use Rattle.std.proofs.lemmas.List.Sums.{get_or-le-sum_by}
+use Rattle.std.specs.List.{position}
+use Rattle.qss_machine.specs.declared.machine_parts.BranchInfo.{BranchInfo}
+use Rattle.qss_machine.specs.Handlers.{run_branch}
+use Rattle.qss_hand.specs.Values.{Values}
+use Rattle.qss_hand.proofs.Turns.{first_fires, none_due}
+use Rattle.qss_hand.proofs.Branches.{no_branch}
+use Rattle.qss_devs.specs.Flags.{due_flags}
+use Rattle.qss_devs.proofs.DueFlags.{length-due, length-flags, none_set}
+use Rattle.qss_devs.proofs.coupled_branches.fire_clause.Goals as goal
+
+pub first_due_branch-requires : goal.first_due_branch-requires
+first_due_branch-requires c =
+    let have = c.requires.flags in
+    let many = conditions_few c.args.m.now in
+    record {
+      inside = omega (arith, c.branch_count-count.ensures, c.requires.inside, have.current);
+      count_limit = omega (arith, have.current, many);
+      flags = record {
+        current = refl;
+        at_arrival = have.at_arrival ∙ sym have.current;
+        after_handlers = have.after_handlers ∙ sym have.current;
+      };
+    }
+
+pub fire-requires : goal.fire-requires
+fire-requires c =
+    let m = c.args.m.now in
+    let width = length (clause_at m c.args.clause).branches in
+    let due : List Bool = due_flags c.args.truths.now in
+    let flags : List Bool = flags_from c.args.first width due in
+    let many : length flags ≡ width =
+    length-flags due c.args.first width
+    (omega (arith, length-due c.requires.flags, c.requires.inside)) in
+    let found : position (λ flag. flag) flags ≡ Some c.in-Some.branch =
+    ap (λ n. position (λ flag. flag) (flags_from c.args.first n due)) (sym c.branch_count-count.ensures)
+    ∙ sym c.first_due_branch.ensures
+    ∙ c.in-Some.is in
+    let at = position-Some (λ flag. flag) flags c.in-Some.branch false found in
+    let own : length (branch_at m c.args.clause c.in-Some.branch).actions ≤ _ =
+    get_or-le-sum_by (λ (b : BranchInfo). length b.actions) (clause_at m c.args.clause).branches
+    c.in-Some.branch no_branch (omega (arith, at.0, many)) in
+    record {
+      clause = c.requires.clause;
+      branch = omega (arith, at.0, many);
+      fits = c.requires.fits;
+      room = omega (arith, own, c.requires.room);
+    }
+
+pub returns-in-Some : goal.returns-in-Some
+returns-in-Some c =
+    let m = c.args.m.now in
+    let w : Values = c.args.w.now in
+    let clause = c.args.clause in
+    let width = length (clause_at m clause).branches in
+    let due : List Bool = due_flags c.args.truths.now in
+    let flags : List Bool = flags_from c.args.first width due in
+    let many : length flags ≡ width =
+    length-flags due c.args.first width
+    (omega (arith, length-due c.requires.flags, c.requires.inside)) in
+    let found : position (λ flag. flag) flags ≡ Some c.in-Some.branch =
+    ap (λ n. position (λ flag. flag) (flags_from c.args.first n due)) (sym c.branch_count-count.ensures)
+    ∙ sym c.first_due_branch.ensures
+    ∙ c.in-Some.is in
+    let at = position-Some (λ flag. flag) flags c.in-Some.branch false found in
+    let actions : List Action = (branch_at m clause c.in-Some.branch).actions in
+    let zero : 0 + c.in-Some.branch ≡ c.in-Some.branch = omega arith in
+    let e : run_first_due m w.tick w.pre clause 0 (handling_of w) (clause_at m clause).branches flags
+    ≡ run_branch m w.tick w.pre clause c.in-Some.branch (handling_of w) actions =
+    rw zero at
+    (first_fires m w.tick w.pre clause 0 c.in-Some.branch (handling_of w)
+    (clause_at m clause).branches flags no_branch (omega (arith, at.0, many)) at.2 at.1) in
+    record {
+      values = c.fire.ensures.values ∙ ap (values_after w) (sym e);
+      overflow = c.fire.ensures.overflow ∙ ap (λ (h : HandlerState). h.overflow) (sym e);
+      fits = c.fire.ensures.fits;
+    }
+
+pub returns-in-None : goal.returns-in-None
+returns-in-None c =
+    let m = c.args.m.now in
+    let w : Values = c.args.w.now in
+    let clause = c.args.clause in
+    let width = length (clause_at m clause).branches in
+    let due : List Bool = due_flags c.args.truths.now in
+    let flags : List Bool = flags_from c.args.first width due in
+    let none : position (λ flag. flag) flags ≡ None =
+    ap (λ n. position (λ flag. flag) (flags_from c.args.first n due)) (sym c.branch_count-count.ensures)
+    ∙ sym c.first_due_branch.ensures
+    ∙ c.in-None.is in
+    let e : run_first_due m w.tick w.pre clause 0 (handling_of w) (clause_at m clause).branches flags
+    ≡ handling_of w =
+    none_due m w.tick w.pre clause 0 (handling_of w) (clause_at m clause).branches flags
+    (none_set flags none) in
+    record {
+      values = ap (values_after w) (sym e);
+      overflow = ap (λ (h : HandlerState). h.overflow) (sym e);
+      fits = c.requires.fits;
+    }
