@@ -3,15 +3,15 @@ use Rattle.qss_devs.proofs.Common
 use Common.{[], ℕ, ℤ, ◌+ℤ◌, ◌+◌, ◌<◌, ◌^◌, ◌∙◌, ◌≡◌, ◌≤◌, Agrees, all_within, ap, AreComponents}
 use Common.{AreReady, AreSmallAt, AreValuesOf, arith, arrived_values, Bool, clauses_stay, compares}
 use Common.{Components, components_move, ComponentsRepresent, Condition, condition_at, conditions}
-use Common.{crossing_at, crossings_tell, CrossingsLater, discrete_count, exceeds_row_limits, false}
-use Common.{firing_flags, first_exceeding, flag_at, function_state_at, get_or, get_or-map}
+use Common.{crossing_at, crossings_tell, CrossingsLater, discrete_count, Err, exceeds_row_limits}
+use Common.{false, firing_flags, first_exceeding, flag_at, function_state_at, get_or, get_or-map}
 use Common.{handlers_at, HandlerState, handling_of, HasEach, holds_at, Input, input_at, int_at}
-use Common.{Err, IsAllowedLevel, IsCrossingNext, IsLineNext, IsStep, IsSummingReady, IsTimely}
-use Common.{IsWithin, length, length-map, length-map-range_with_len, Less, Line, line_at, List}
-use Common.{Machine, moved_states, Moving, moving_state, None, Option, option_or, pos, position}
-use Common.{refl, Rule, run_clauses, same_lists, slope_at, slopes_of, Snapshot, snapshot_after}
-use Common.{snapshot_of, snapshot_unless, Some, state_at, state_count, states_at, Store}
-use Common.{StoreRepresents, subst, sym, true, truth, truths}
+use Common.{IsAllowedLevel, IsCrossingNext, IsLineNext, IsStep, IsSummingReady, IsTimely, IsWithin}
+use Common.{length, length-map, length-map-range_with_len, Less, Line, line_at, List, Machine}
+use Common.{moved_states, Moving, moving_state, None, Option, option_or, pos, position, refl, Rule}
+use Common.{run_clauses, same_lists, slope_at, slopes_of, Snapshot, snapshot_after, snapshot_of}
+use Common.{snapshot_unless, Some, state_at, state_count, states_at, Store, StoreRepresents, subst}
+use Common.{sym, truth, truths}
 use Rattle.qss_hand.specs.Values.{Values as Kept}
 use Rattle.qss_events.proofs.Quiet.{moved_is}
 use Rattle.qss_devs.proofs.Followed.{states_are}
@@ -109,7 +109,7 @@ module _ {X : Type 0} {g : _} {m : Machine} {name : Option Rule} {tick : ℕ} {s
   -- the truth values that they send are those of the conditions on arrival
   pub arrived_truths : (now : List Bool) → length now ≡ length (conditions m) →
       ((place : ℕ) → place < length (conditions m) → flag_at now place ≡ holds_at (crossing_at s.parts place).detector (tick + 1)) → now ≡ truths m (moved_states m w) w.discretes (tick + 1)
-  arrived_truths now many told =
+  arrived_truths now many received =
       same_lists false now (truths m (moved_states m w) w.discretes (tick + 1)) (many ∙ sym all) each
     where
       all : length (truths m (moved_states m w) w.discretes (tick + 1)) ≡ length (conditions m)
@@ -119,7 +119,7 @@ module _ {X : Type 0} {g : _} {m : Machine} {name : Option Rule} {tick : ℕ} {s
       each k h =
           let none : Condition = record { form = record { entries = []; time = pos 0; gamma = pos 0 }; rel = Less } in
           let here : k < length (conditions m) = omega (arith, h, all) in
-          told k here
+          received k here
           ∙ crossings_tell m (tick + 1) k (snapshot_after m w 1) (line_at s.parts) (function_state_at s.parts) (crossing_at s.parts) (ap length (sym (moved_is m w)) ∙ moved_many) discretes_many here moved_stand
           ∙ ap (λ (xs : List ℤ). truth m (condition_at m k) xs w.discretes (tick + 1)) (sym (moved_is m w))
           ∙ sym (get_or-map (λ (condition : Condition). truth m condition (moved_states m w) w.discretes (tick + 1)) (conditions m) k none false here)
@@ -181,13 +181,13 @@ over_step m name tick w var is = (
   [],
   (λ none. absurd (cc)),
   ap (λ o. snapshot_unless (option_or o
-  (option_or (first_exceeding 43 [])
-  (position (exceeds_row_limits m [] (handlers_at m tick w).discretes) m.rows)))
-  (record {
-    states = (handlers_at m tick w).states;
-    levels = [];
-    discretes = (handlers_at m tick w).discretes;
-    at_arrival = truths m (moved_states m w) w.discretes tick;
-    after_handlers = truths m (handlers_at m tick w).states (handlers_at m tick w).discretes tick;
-  })) is,
+      (option_or (first_exceeding 43 [])
+      (position (exceeds_row_limits m [] (handlers_at m tick w).discretes) m.rows)))
+      (record {
+        states = (handlers_at m tick w).states;
+        levels = [];
+        discretes = (handlers_at m tick w).discretes;
+        at_arrival = truths m (moved_states m w) w.discretes tick;
+        after_handlers = truths m (handlers_at m tick w).states (handlers_at m tick w).discretes tick;
+      })) is,
 )

@@ -61,13 +61,13 @@ module _ {X : Type 0} {g : _} (m : Machine) (name : Option Rule) (tick : ℕ) (s
           ∙ ap (λ (z : ℤ). int_at (states_at tick s.parts) j +ℤ pos k *ℤ z) slope
           ∙ sym (int_at-tabulate (state_count m) (λ i. int_at (states_at tick s.parts) i +ℤ pos k *ℤ slope_at m i (levels_of s.parts) s.work.d) j h)
 
-  pub world_then : (ticks : ℕ) (at_arrival : Vec Bool Global) → at_arrival.items ≡ arrived_then ticks s.truths.at_arrival.items s.truths.after_handlers.items →
+  pub snapshot_then : (ticks : ℕ) (at_arrival : Vec Bool Global) → at_arrival.items ≡ arrived_then ticks s.truths.at_arrival.items s.truths.after_handlers.items →
       snapshot_of (tick + ticks) (with_arrived s at_arrival) ≡ snapshot_after m (snapshot_of tick s) ticks
-  world_then zero at_arrival is =
+  snapshot_then zero at_arrival is =
       let e : tick + 0 ≡ tick = omega arith in
       ap (λ t. snapshot_of t (with_arrived s at_arrival)) e
       ∙ ap (λ (a : List Bool). record { states = states_at tick s.parts; levels = levels_of s.parts; discretes = s.work.d; at_arrival = a; after_handlers = s.truths.after_handlers.items }) is
-  world_then (suc ticks) at_arrival is =
+  snapshot_then (suc ticks) at_arrival is =
       ap (λ (x : List ℤ). record { states = x; levels = levels_of s.parts; discretes = s.work.d; at_arrival = at_arrival.items; after_handlers = s.truths.after_handlers.items }) (states_later (suc ticks))
       ∙ ap (λ (a : List Bool). record { states = states_after m (snapshot_of tick s) (suc ticks); levels = levels_of s.parts; discretes = s.work.d; at_arrival = a; after_handlers = s.truths.after_handlers.items }) is
 
@@ -100,7 +100,7 @@ module _ {X : Type 0} {g : _} (m : Machine) (name : Option Rule) (tick : ℕ) (s
       ((place next : ℕ) → place < length (conditions m) → IsCrossingNext (crossing_at s.parts place).detector (Some next) → tick + ticks < next) →
       StoreRepresents m name (tick + ticks) (with_arrived s at_arrival)
   stands_then ticks at_arrival before dues is lines crossings =
-      let same = world_then ticks at_arrival is in
+      let same = snapshot_then ticks at_arrival is in
       record {
         fits = fits_then at_arrival (ap length is ∙ many ticks);
         stand = subst (λ (v : Snapshot). ComponentsRepresent m (tick + ticks) v (line_at s.parts) (function_state_at s.parts) (crossing_at s.parts)) (sym same)

@@ -1,8 +1,8 @@
 -- Names from outside the lemmas of this crate that several of its proofs cite, passed on from one place.
-pub use Rattle.std.proofs.Common.{[], ℕ, ℤ, ◌&&◌, ◌*ℤ◌, ◌++◌, ◌+ℤ◌, ◌+◌, ◌-◌, ◌<◌, ◌^◌, ◌∙◌, ◌∷◌}
-pub use Rattle.std.proofs.Common.{◌≡◌, ◌≢◌, ◌≤◌, ◌⊎◌, All, ap, append-nil, arith, Bool, drop, false}
+pub use Rattle.std.proofs.Common.{[], ℕ, ℤ, ◌*ℤ◌, ◌++◌, ◌+ℤ◌, ◌+◌, ◌-◌, ◌<◌, ◌^◌, ◌∙◌, ◌∷◌, ◌≡◌}
+pub use Rattle.std.proofs.Common.{◌≢◌, ◌≤◌, ◌⊎◌, All, ap, append-nil, arith, Bool, drop, false}
 pub use Rattle.std.proofs.Common.{get_or, Global, inl, inr, length, List, map, pos, refl, replicate}
-pub use Rattle.std.proofs.Common.{set, subst, suc, sym, take, true, unsigned_abs, Vec, zero}
+pub use Rattle.std.proofs.Common.{rules, set, subst, suc, sym, take, true, unsigned_abs, Vec, zero}
 pub use Rattle.std.proofs.lemmas.Bool.{cases_eq, cases_lt}
 pub use Rattle.std.proofs.lemmas.Bool.Decides.{nat_tests}
 pub use Rattle.std.proofs.lemmas.Int.{ints, to_z-of_z}
@@ -17,8 +17,8 @@ pub use Rattle.std.specs.Int.RustNames.{FitsSigned}
 pub use Rattle.std.specs.List.{list_any, range_with_len}
 pub use Rattle.std.specs.Option.{option_or}
 pub use Rattle.std.specs.Ordering.{int_eq}
-pub use Rattle.std.specs.Prelude.{◌==◌, ◌||◌, Err, if◌then◌else◌, is_some, MatchBool, nat_lt, None}
-pub use Rattle.std.specs.Prelude.{not, Ok, Option, position, Some, sum_by, vec_capacity, vec_len}
+pub use Rattle.std.specs.Prelude.{◌==◌, ◌||◌, Err, if◌then◌else◌, MatchBool, nat_lt, None, Ok}
+pub use Rattle.std.specs.Prelude.{Option, position, Result, Some, sum_by, vec_capacity, vec_len}
 pub use Rattle.std.specs.Vec.{with_items}
 pub use mir.Syntax.{w128, w64}
 pub use Rattle.mu_num.proofs.RisingNumbers.{not_before}
@@ -66,13 +66,12 @@ pub use Rattle.qss_quant.specs.declared.quantizer.Rule.TheVariants.{Floor}
 pub use Rattle.qss_cross.specs.Crossing.{DetectorView, holds_at}
 pub use Rattle.qss_hand.proofs.Branches.{width_of}
 pub use Rattle.qss_hand.proofs.Turns.{clauses_stay, conditions_few, length-conditions}
-pub use Rattle.qss_hand.specs.Works.{AreValuesOf, branch_at, clause_at, handling_of, row_room}
-pub use Rattle.qss_hand.specs.Works.{values_after}
+pub use Rattle.qss_hand.specs.Works.{AreValuesOf, branch_at, clause_at, handling_of, overflow_of}
+pub use Rattle.qss_hand.specs.Works.{row_room, values_after}
 pub use Rattle.qss_events.proofs.EndRows.{state_row}
 pub use Rattle.qss_events.proofs.Firsts.{first_is, one_more, same_lists}
-pub use Rattle.qss_events.proofs.Flags.{length-due_flags}
 pub use Rattle.qss_events.proofs.LightRows.{light_row, row_is_light}
-pub use Rattle.qss_events.proofs.Overs.{all_within, clash, not_some}
+pub use Rattle.qss_events.proofs.Overs.{all_within}
 pub use Rattle.qss_events.proofs.Ranges.{none_passes, position-none}
 pub use Rattle.qss_events.proofs.Readers.{condition_numbers}
 pub use Rattle.qss_events.proofs.Silences.{arrived_then, quiet_worlds}
@@ -94,7 +93,6 @@ pub use Rattle.qss_components.specs.Agreement.{HasEach, LineAgrees, Moving, Summ
 pub use Rattle.qss_components.specs.ComponentModels.{crossing_of, function_state_of, IsGivenLine}
 pub use Rattle.qss_components.specs.ComponentPlaces.{EachAt}
 pub use Rattle.qss_components.specs.ComponentTheorems.{crossings_given, functions_given}
-pub use Rattle.qss_components.specs.ComponentTheorems.{goes_to_crossing, goes_to_function}
 pub use Rattle.qss_components.specs.ComponentTheorems.{lines_given, values_after_row}
 pub use Rattle.qss_components.specs.ComponentTheorems.{values_after_rows}
 pub use Rattle.qss_components.specs.Crossings.{AreParts, AreSmallAt, Crossing}
@@ -114,17 +112,18 @@ pub use Rattle.qss_components.specs.declared.crossing_model.Input.{Input}
 pub use Rattle.qss_components.specs.declared.function_inputs.FunctionInput.{FunctionInput}
 pub use Rattle.qss_components.specs.declared.function_model.FunctionModel.{FunctionModel}
 pub use Rattle.qss_components.specs.declared.integrator_model.IntegratorModel.{IntegratorModel}
-pub use Rattle.qss_devs.specs.CoupledEvents.{arrived_values, CrossingsLater, FitsMachine, levels_of}
-pub use Rattle.qss_devs.specs.CoupledEvents.{snapshot_of, states_at, StoreRepresents}
+pub use Rattle.qss_devs.specs.CoupledEvents.{arrived_values, CrossingsLater, FitsMachine}
+pub use Rattle.qss_devs.specs.CoupledEvents.{IsAfterHandlers, levels_of, snapshot_of, states_at}
+pub use Rattle.qss_devs.specs.CoupledEvents.{StoreRepresents}
 pub use Rattle.qss_devs.specs.CoupledSteps.{Agrees, AreSent, AreSentUpTo, AreTaken, AreTakenUpTo}
 pub use Rattle.qss_devs.specs.CoupledSteps.{AreValues, AreWithinQuanta, IsLevelTaken, IsSlopeSent}
-pub use Rattle.qss_devs.specs.CoupledSteps.{IsToldMessage, level_after, leveled, row_after, sloped}
+pub use Rattle.qss_devs.specs.CoupledSteps.{IsMessageOfRow, level_after, leveled, row_after, sloped}
 pub use Rattle.qss_devs.specs.CoupledViews.{view_of}
 pub use Rattle.qss_devs.specs.Coupling.{AllLinesLater, AreComponents, AreReady, AreRuled}
 pub use Rattle.qss_devs.specs.Coupling.{crossing_at, function_state_at, HaveReceived}
 pub use Rattle.qss_devs.specs.Coupling.{IsCrossingReady, IsIntegratorOf, IsSummingReady, line_at}
 pub use Rattle.qss_devs.specs.Coupling.{no_crossing, no_summing}
-pub use Rattle.qss_devs.specs.Flags.{flags_from}
+pub use Rattle.qss_devs.specs.Flags.{due_flags, flags_from}
 pub use Rattle.qss_devs.specs.Starts.{AreFirstInputs, first_crossing, first_input, first_line}
 pub use Rattle.qss_devs.specs.Starts.{first_summing, IsFirstAt, IsFirstFunction, IsFirstIntegrator}
 pub use Rattle.qss_devs.specs.Starts.{read_levels, start_values}

@@ -1,20 +1,20 @@
 -- The flags of due branches, and those of one clause among all.
 use Rattle.qss_devs.proofs.Common
-use Common.{[], ℕ, ◌&&◌, ◌+◌, ◌-◌, ◌<◌, ◌∙◌, ◌≡◌, ◌≤◌, ap, arith, Bool, cases_lt, clause_at}
-use Common.{clauses_stay, conditions, drop, false, firing_flags, flag_at, flags_from, get_or_past}
-use Common.{HandlerState, handling_of, inl, inr, length, length-conditions, List, Machine, None}
-use Common.{none_passes, not, refl, run_clauses, run_first_due, Some, sym, take, values_after}
-use Common.{width_of}
-use Common.{length-due_flags}
+use Common.{[], ℕ, ◌+◌, ◌-◌, ◌<◌, ◌∙◌, ◌≡◌, ◌≤◌, ap, arith, Bool, cases_lt, clause_at, clauses_stay}
+use Common.{conditions, drop, due_flags, false, flag_at, flags_from, get_or_past, HandlerState}
+use Common.{handling_of, inl, inr, length, length-conditions, List, Machine, None, none_passes}
+use Common.{refl, run_clauses, run_first_due, Some, sym, take, values_after, width_of}
+use Rattle.std.proofs.Common.{◌&&◌}
+use Rattle.std.specs.Prelude.{not}
+use Rattle.qss_events.proofs.Flags.{length-due_flags, flag_at-due_flags}
 use Rattle.std.proofs.lemmas.List.{get_or-take, get_or-drop, length-take, length-drop}
 use Rattle.std.proofs.lemmas.List.Sums.{sum_by_more_le}
 use Rattle.std.specs.List.{position, sum_by}
 use Rattle.qss_hand.specs.Values.{Values}
-use Rattle.qss_devs.specs.Flags.{HaveFlags, due_flags}
+use Rattle.qss_devs.specs.Flags.{HaveFlags}
 use Rattle.qss_devs.specs.declared.coupled_start.Truths.{Truths}
 use Rattle.qss_hand.proofs.AfterStatements.{whole}
 use Rattle.qss_hand.proofs.Turns.{next_turn}
-use Rattle.qss_events.proofs.Flags.{flag_at-due_flags}
 
 pub length-due : {count : ℕ} {t : Truths} → HaveFlags count t → length (due_flags t) ≡ count
 length-due {count} {t} have =

@@ -8,10 +8,9 @@ use Common.{first_exceeding, function_state_at, get_or, get_or-map, handlers_at,
 use Common.{int_at, int_at-tabulate, IntegratorModel, IsAllowedLevel, IsStep, IsWithin, length}
 use Common.{length-map, length-map-range_with_len, Less, levels_of, Line, line_at, List, Machine}
 use Common.{map, MayFollowTick, moved_states, no_crossing, no_line, None, Ok, Option, option_or}
-use Common.{pos, position, refl, row_is_light, Rule, same_lists, slope_at, slopes_of, Snapshot}
-use Common.{snapshot_unless, Some, state_at, state_count, states_at, subst, sym, tick_limit, truth}
-use Common.{truths, Values, values_after_rows}
-use Rattle.std.specs.Prelude.{Result}
+use Common.{pos, position, refl, Result, row_is_light, Rule, same_lists, slope_at, slopes_of}
+use Common.{Snapshot, snapshot_unless, Some, state_at, state_count, states_at, subst, sym}
+use Common.{tick_limit, truth, truths, Values, values_after_rows}
 use Rattle.qss_components.proofs.RowsTold.{rows_tell_handlers}
 use Rattle.qss_devs.proofs.Stays.{holds_still}
 
@@ -23,8 +22,8 @@ module _ (m : Machine) (tick : ℕ) (w : Snapshot) where
   abbrev pub handled_values : Values
   handled_values = record { states = h.states; slopes = slopes_of m w; levels = w.levels; discretes = h.discretes }
 
-  pub told_all : values_after_rows m (arrived_values m w) h.rows ≡ handled_values
-  told_all = rows_tell_handlers m tick (arrived_values m w) (first_exceeding 88 (moved_states m w)) (firing_flags (truths m (moved_states m w) w.discretes tick) w.at_arrival w.after_handlers)
+  pub values_after_handlers : values_after_rows m (arrived_values m w) h.rows ≡ handled_values
+  values_after_handlers = rows_tell_handlers m tick (arrived_values m w) (first_exceeding 88 (moved_states m w)) (firing_flags (truths m (moved_states m w) w.discretes tick) w.at_arrival w.after_handlers)
 
   pub handled_fit : MayFollowTick m w → length h.states ≡ state_count m → length h.discretes ≡ discrete_count m → AreValues m handled_values
   handled_fit left states discretes = record {

@@ -3,10 +3,10 @@ use Rattle.qss_devs.proofs.Common
 use Common.{ℕ, ◌<◌, ◌∙◌, ◌≡◌, ◌≢◌, Agrees, AllLinesLater, ap, AreComponents, AreReady, AreValues}
 use Common.{AreWithinQuanta, arith, cases_eq, Components, crossing_at, exceeds, false}
 use Common.{function_state_at, function_state_of, FunctionModel, functions_given, FunctionState}
-use Common.{get_or, HaveReceived, inl, inr, IsLineNext, IsMessage, IsSlopeSent, IsSummingReady}
-use Common.{IsWithin, line_at, Machine, Message, None, passes-within, passes_limit, set, Slope}
-use Common.{Some, state_count, subst, sum_of, summing_sent, sym, true, Values}
-use Rattle.qss_devs.proofs.AgreeTold.{agree_same}
+use Common.{HaveReceived, inl, inr, IsMessage, IsSlopeSent, IsSummingReady, IsWithin, line_at}
+use Common.{Machine, Message, None, passes-within, passes_limit, Slope, Some, state_count, subst}
+use Common.{sum_of, summing_sent, sym, true, Values}
+use Rattle.qss_devs.proofs.AgreementAfterMessage.{agree_same}
 use Rattle.qss_devs.proofs.OneTransition.{HasNewFunction, function_machine, own_summing}
 use Rattle.qss_devs.proofs.OneTransition.{new_summing, summings_other, function_lines_stay}
 use Rattle.qss_devs.proofs.OneTransition.{function_crossings_stay, function_parts, function_ready}
@@ -99,12 +99,12 @@ module _ {X : Type 0} {g : _} {m : Machine} {j : ℕ} {old mid : Components X g}
         subst (λ (n : Machine). s.row < state_count n) (function_machine e.at) s.known in
         subst (IsMessage m) (sym sends) (row, slope)
 
-    module _ (new : Components X g) (told : HaveReceived m tick sent mid new) where
+    module _ (new : Components X g) (received : HaveReceived m tick sent mid new) where
       pub slope_others : (i : ℕ) → i < state_count m → i ≢ j →
           function_state_at new i ≡ function_state_at old i
       slope_others i h ne =
           subst (λ (a : Message). function_state_at new i
-          ≡ functions_given m tick a (function_state_at mid) i) sends (told.functions i h)
+          ≡ functions_given m tick a (function_state_at mid) i) sends (received.functions i h)
           ∙ summings_other e i ne
 
       module _ (v : Values) (values : AreValues m v) (a : Agrees m tick v old) where
@@ -118,7 +118,7 @@ module _ {X : Type 0} {g : _} {m : Machine} {j : ℕ} {old mid : Components X g}
 
         pub slope_sent : IsSlopeSent m tick v j new None
         slope_sent =
-            sent_sends m tick v values.each j e.at.known old mid new sent a own_slope told small
+            sent_sends m tick v values.each j e.at.known old mid new sent a own_slope received small
             (function_lines_stay e) (summings_other e)
             (new_summing e ∙ turned ∙ ap (λ r. summing_sent r tick) (own_summing e.at))
             (function_crossings_stay e)
@@ -126,5 +126,5 @@ module _ {X : Type 0} {g : _} {m : Machine} {j : ℕ} {old mid : Components X g}
         pub slope_later : AreWithinQuanta m v → AllLinesLater m tick (line_at old) →
             AllLinesLater m tick (line_at new)
         slope_later near later =
-            lines_later m tick v values.each j e.at.known old mid new sent a own_slope told near
+            lines_later m tick v values.each j e.at.known old mid new sent a own_slope received near
             (function_lines_stay e) later

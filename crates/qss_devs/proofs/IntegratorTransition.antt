@@ -1,28 +1,28 @@
 -- An integrator that made its transition.
 use Rattle.qss_devs.proofs.Common
 use Common.{[], ℕ, ℤ, ◌++◌, ◌<◌, ◌∙◌, ◌∷◌, ◌≡◌, ◌≢◌, Agrees, ap, AreComponents, AreReady, AreRuled}
-use Common.{AreValues, arith, cases_eq, Components, crossing_at, false, function_state_at, get_or}
+use Common.{AreValues, arith, cases_eq, Components, crossing_at, false, function_state_at}
 use Common.{HasSmallLevel, HaveReceived, inl, inr, IntegratorModel, IsLevelTaken, IsLineNext}
 use Common.{IsMessage, IsTimely, IsWithin, Level, level_after, Line, line_at, lines_given, List}
-use Common.{Machine, Message, None, Option, passes_limit, Quantizer, refl, Row, Rule, SendsLevel, set}
+use Common.{Machine, Message, None, Option, passes_limit, Quantizer, refl, Row, Rule, SendsLevel}
 use Common.{Some, state_count, subst, sym, TakesLevel, true, Values}
 use Rattle.qss_components.proofs.Passing.{level_small}
-use Rattle.qss_devs.proofs.AgreeTold.{agree_same}
+use Rattle.qss_devs.proofs.AgreementAfterMessage.{agree_same}
 use Rattle.qss_devs.proofs.OneTransition.{HasNewIntegrator, own_machine, own_var, own_line}
 use Rattle.qss_devs.proofs.OneTransition.{own_rule, of_line, to_model, new_line, lines_other}
 use Rattle.qss_devs.proofs.OneTransition.{summings_stay, crossings_stay, integrator_parts}
 use Rattle.qss_devs.proofs.OneTransition.{integrator_ruled, integrator_ready}
 use Rattle.qss_devs.proofs.OwnLevels.{later_yet, rest_level, due_level, taken_rests, taken_passes}
 use Rattle.qss_devs.proofs.OwnLevels.{taken_sends}
-use Rattle.qss_devs.proofs.ToldAgain.{line_ready}
+use Rattle.qss_devs.proofs.ReadyAfterMessage.{line_ready}
 use Rattle.qss_machine.specs.declared.machine_parts.RowKind.TheVariants as kind
 
 -- a level message changes no line
 level_lines : {X : Type 0} {g : _} (m : Machine) (tick k : ℕ) (level : ℤ) (sent : Message)
     (mid new : Components X g) → sent ≡ Level k level → HaveReceived m tick sent mid new →
     (i : ℕ) → i < state_count m → line_at new i ≡ line_at mid i
-level_lines m tick k level sent mid new is told i h =
-    subst (λ (s : Message). line_at new i ≡ lines_given tick s (line_at mid) i) is (told.lines i h)
+level_lines m tick k level sent mid new is received i h =
+    subst (λ (s : Message). line_at new i ≡ lines_given tick s (line_at mid) i) is (received.lines i h)
 
 module _ {X : Type 0} {g : _} {m : Machine} {j : ℕ} {old mid : Components X g}
     {s t : IntegratorModel X g} (tick : ℕ) (e : HasNewIntegrator m j old mid s t)
@@ -126,13 +126,13 @@ module _ {X : Type 0} {g : _} {m : Machine} {j : ℕ} {old mid : Components X g}
           let inside : s.var < state_count m = omega (arith, e.at.known, own_var e.at) in
           subst (IsMessage m) (sym takes.told) (inside, level)
 
-      module _ (new : Components X g) (told : HaveReceived m tick sent mid new) where
+      module _ (new : Components X g) (received : HaveReceived m tick sent mid new) where
         pub sent_later :
             ((n : ℕ) → IsLineNext t.machine.value t.var t.line (Some n) → tick < n) →
             (n : ℕ) → IsLineNext m j (line_at new j) (Some n) → tick < n
         sent_later later n found =
             let line : line_at new j ≡ t.line =
-            level_lines m tick s.var takes.level sent mid new takes.told told j e.at.known
+            level_lines m tick s.var takes.level sent mid new takes.told received j e.at.known
             ∙ new_line e in
             let own : IsLineNext m j t.line (Some n) = rw line at found in
             later n
@@ -142,7 +142,7 @@ module _ {X : Type 0} {g : _} {m : Machine} {j : ℕ} {old mid : Components X g}
 
         pub sent_others : (i : ℕ) → i < state_count m → i ≢ j → line_at new i ≡ line_at old i
         sent_others i h ne =
-            level_lines m tick s.var takes.level sent mid new takes.told told i h
+            level_lines m tick s.var takes.level sent mid new takes.told received i h
             ∙ lines_other e i ne
 
         pub sent_taken : (rule : Rule) → AreRuled (Some rule) old → (v : Values)
@@ -155,7 +155,7 @@ module _ {X : Type 0} {g : _} {m : Machine} {j : ℕ} {old mid : Components X g}
             (of_line e.at (λ k var l. TakesLevel var l tick sent t.line) takes) in
             taken_sends m rule tick v j old mid new before after (Some rule) sent values.each
             e.at.known a refl (own_next rule ruled) (own_sends rule ruled) small own_takes
-            (lines_other e) (summings_stay e) (crossings_stay e) told
+            (lines_other e) (summings_stay e) (crossings_stay e) received
             (row_is
             ∙ ap (λ (l : Line). before ++ record { tick = tick; kind = kind.Level; var = j; level = l.level; state = l.x } ∷ [])
             (sym (new_line e)))

@@ -5,10 +5,10 @@ use Common.{AreTaken, AreTakenUpTo, AreValues, arith, Bool, cases_eq, cases_lt, 
 use Common.{false, first_is, Floor, HasEach, if-false, if-true, if◌then◌else◌, inl, inr, int_at}
 use Common.{int_at-tabulate, int_eq, ints, is_within_quantum, IsAllowedLevel, IsLevelTaken}
 use Common.{IsWithin, IsWithinOneLevel, length, length-map-range_with_len, length-set, level_after}
-use Common.{level_by, level_unit, leveled, List, Machine, MatchBool, None, Option, passes-within}
-use Common.{pos, position-none, range_with_len, refl, Row, row_after, Rule, same_lists, set}
-use Common.{set_other, set_same, Some, state_count, subst, suc, sym, tabulate, true, Values}
-use Common.{within-passes, zero}
+use Common.{level_by, level_unit, leveled, List, Machine, MatchBool, None, passes-within, pos}
+use Common.{position-none, range_with_len, refl, Row, row_after, Rule, same_lists, set, set_other}
+use Common.{set_same, Some, state_count, subst, suc, sym, tabulate, true, Values, within-passes}
+use Common.{zero}
 use Rattle.std.proofs.Common.{flat_map, ◌<ℤ◌, append_assoc}
 use Rattle.std.proofs.lemmas.Grind.{flat_map-append}
 use Rattle.mu_num.proofs.NearLevels.{floor-free, near-free, inward-free}

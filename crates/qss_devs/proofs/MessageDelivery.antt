@@ -3,7 +3,7 @@ use Rattle.qss_devs.proofs.Common
 use Common.{ℕ, ◌+◌, ◌<◌, ◌^◌, ◌||◌, ◌∙◌, ◌≡◌, All, All-set, ap, AreRisingBelow, arith, Bool}
 use Common.{crossing_of, CrossingModel, false, function_state_of, FunctionModel, get_or, get_or-map}
 use Common.{if◌then◌else◌, is_listed, IsCrossingNext, IsCrossingReady, IsSummingReady, IsTimely}
-use Common.{IsWritten, length, length-map, List, Machine, map, map-set, not_before, set, sym, take}
+use Common.{IsWritten, length, length-map, List, Machine, map, map-set, not_before, refl, set, sym, take}
 use Common.{true, written_more}
 
 -- ---- the elements of a list, each with a state and a machine
@@ -59,19 +59,18 @@ pub given_by : {S : Type 0} (none : S) (after : S → S) {places : List ℕ} {ol
 given_by none after j true e written = written.each j e
 given_by none after j false e written = written.others j e
 
--- at some places and then at others, if twice is as once
-pub given_by_two : {S : Type 0} (none : S) (after : S → S) →
-    ((s : S) → after (after s) ≡ after s) →
-    {first second : List ℕ} {old mid new : List S} (j : ℕ) (a b : Bool) →
-    is_listed first j ≡ a → is_listed second j ≡ b →
+-- at some places and then at others, if twice is as once where both lists have the place
+pub given_by_two : {S : Type 0} (none : S) (after : S → S) {first second : List ℕ}
+    {old mid new : List S} (j : ℕ) (a b : Bool) → is_listed first j ≡ a → is_listed second j ≡ b →
+    (a ≡ true → b ≡ true → after (after (get_or old j none)) ≡ after (get_or old j none)) →
     IsWritten none (λ k s. s ≡ after (get_or old k none)) first old mid →
     IsWritten none (λ k s. s ≡ after (get_or mid k none)) second mid new →
     get_or new j none ≡ (if a || b then after (get_or old j none) else get_or old j none)
-given_by_two none after twice j true true e f one two =
-    two.each j f ∙ ap after (one.each j e) ∙ twice _
-given_by_two none after twice j true false e f one two = two.others j f ∙ one.each j e
-given_by_two none after twice j false true e f one two = two.each j f ∙ ap after (one.others j e)
-given_by_two none after twice j false false e f one two = two.others j f ∙ one.others j e
+given_by_two none after j true true e f twice one two =
+    two.each j f ∙ ap after (one.each j e) ∙ twice refl refl
+given_by_two none after j true false e f twice one two = two.others j f ∙ one.each j e
+given_by_two none after j false true e f twice one two = two.each j f ∙ ap after (one.others j e)
+given_by_two none after j false false e f twice one two = two.others j f ∙ one.others j e
 
 -- ---- components that are ready
 

@@ -1,22 +1,22 @@
 -- Components of which some received a message.
 use Rattle.qss_devs.proofs.Common
-use Common.{ℕ, ◌+◌, ◌<◌, ◌==◌, ◌||◌, ◌∙◌, ◌≡◌, ◌≢◌, All, All-set, among_rows, ap, AreComponents}
+use Common.{[], is_listed, true, ℕ, ◌+◌, ◌<◌, ◌==◌, ◌||◌, ◌∙◌, ◌≡◌, ◌≢◌, All, All-set, among_rows, ap, AreComponents}
 use Common.{AreReady, arith, Bool, cases_eq, Components, Condition, condition_at, conditions}
 use Common.{Crossing, crossing_after_message, crossing_at, crossing_of, CrossingModel}
 use Common.{crossings_given, Discrete, discrete_count, eqb-no, eqb-yes, false}
 use Common.{function_after_message, function_state_at, function_state_of, FunctionModel}
-use Common.{functions_given, FunctionState, get_or, get_or-map, get_or-set_other, get_or-set_same}
-use Common.{goes_to_crossing, goes_to_function, HaveReceived, if-false, if-true, if_cases, inl, inr}
-use Common.{IntegratorModel, is_listed, IsCrossingReady, IsGivenLine, IsIntegratorOf, IsLineNext}
-use Common.{IsMessage, IsSummingReady, IsTimely, length, length-map, length-set, Level}
+use Common.{functions_given, get_or, get_or-map, get_or-set_other, get_or-set_same, HaveReceived}
+use Common.{if_cases, inl, inr, IntegratorModel, IsCrossingReady, IsGivenLine, IsIntegratorOf}
+use Common.{IsLineNext, IsMessage, IsSummingReady, IsTimely, length, length-map, length-set, Level}
 use Common.{Line, line_after_message, line_at, lines_given, List, Machine, map, map-set, Message}
 use Common.{no_crossing, no_line, no_summing, Quantizer, reading_conditions, reading_rows, refl}
 use Common.{row_at, row_reads, set, Slope, State, state_count, subst, sym, Truth}
-use Rattle.qss_machine.specs.Readers.{condition_reads}
+use Rattle.qss_components.specs.ComponentTheorems.{goes_to_crossing, goes_to_function}
 use Rattle.qss_components.specs.ComponentTheorems.{goes_to_integrator}
+use Rattle.qss_machine.specs.Readers.{condition_reads}
 use Rattle.qss_devs.specs.Coupling.{IsOfLine, IsOfLevel, IsOfDiscrete}
-use Rattle.qss_devs.proofs.ToldAgain.{summing_ready_given, crossing_ready_given, line_ready_given}
-use Rattle.qss_devs.proofs.ToldAgain.{told_twice}
+use Rattle.qss_devs.proofs.ReadyAfterMessage.{summing_ready_given, crossing_ready_given, line_ready_given}
+use Rattle.qss_devs.proofs.ReadyAfterMessage.{received_twice}
 use Rattle.qss_events.proofs.Readers.{among_conditions}
 use Rattle.qss_devs.proofs.MessageDelivery.{HaveStates, given_by, given_by_two}
 
@@ -64,7 +64,7 @@ discrete_twice : (m : Machine) (tick var : ℕ) (message : Message) → IsOfDisc
 discrete_twice m tick var (Slope other slope) is c = absurd is
 discrete_twice m tick var (State other state) is c = absurd is
 discrete_twice m tick var (Level other level) is c = absurd is
-discrete_twice m tick var (Discrete other value) is c = told_twice m tick other value c
+discrete_twice m tick var (Discrete other value) is c = received_twice m tick other value c
 discrete_twice m tick var (Truth place now) is c = absurd is
 
 -- components that received a message are ready
@@ -127,10 +127,10 @@ module _ {X : Type 0} {g : _} (m : Machine) (xs : List (IntegratorModel X g)) (v
       let many : var < length lines =
       omega (arith, inside, length-map xs (λ (i : IntegratorModel X g). i.line)) in (
         (λ e. ap (λ (ls : List Line). get_or ls j no_line) moved
-        ∙ subst (λ (k : ℕ). get_or (set lines var t.line) k no_line ≡ t.line) e
-        (get_or-set_same lines var t.line no_line many)),
+            ∙ subst (λ (k : ℕ). get_or (set lines var t.line) k no_line ≡ t.line) e
+            (get_or-set_same lines var t.line no_line many)),
         (λ ne. ap (λ (ls : List Line). get_or ls j no_line) moved
-        ∙ get_or-set_other lines var j t.line no_line (λ e. ne (sym e))),
+            ∙ get_or-set_other lines var j t.line no_line (λ e. ne (sym e))),
       )
 
 -- ---- the messages
@@ -149,60 +149,22 @@ module _ {X : Type 0} {g : _} (m : Machine) (tick var : ℕ) (message : Message)
       HaveStates crossing_of (λ (c : CrossingModel). c.machine.value) no_crossing
       (λ n c. crossing_after_message n c tick message) m
 
-  pub level_received : (places : List ℕ) → IsOfLevel var message → places ≡ reading_rows m var →
-      new.integrators.items ≡ old.integrators.items →
-      new.crossings.items ≡ old.crossings.items → new.uses ≡ old.uses →
-      All (λ (f : FunctionModel). f.machine.value ≡ m) new.functions.items →
-      FunctionsReceive places old.functions.items new.functions.items →
-      HaveReceived m tick message old new
-  level_received places kind own same_lines same_crossings same_uses machines written = record {
-    parts = record {
-      integrators = rw same_lines are.integrators;
-      functions =
-          sym (length-map new.functions.items function_state_of)
-          ∙ written.as_many
-          ∙ length-map old.functions.items function_state_of
-          ∙ are.functions;
-      crossings = rw same_crossings are.crossings;
-      own_integrators = rw same_lines are.own_integrators;
-      own_functions = machines;
-      own_crossings = rw same_crossings are.own_crossings;
-      uses = same_uses ∙ are.uses;
-    };
-    ruled = λ name before. rw same_lines before;
-    ready = ready_after m tick message old new is ready lines functions crossings;
-    lines = lines;
-    functions = functions;
-    crossings = crossings;
-  }
-    where
-      goes : GoesTo m message (λ j. false) (λ j. row_reads var (row_at m j)) (λ k. false)
-      goes = level_receivers m var message kind
-
-      lines : (j : ℕ) → j < state_count m → line_at new j ≡ lines_given tick message (line_at old) j
-      lines j h = rw (same_lines, goes.line_is j) refl
-
-      functions : (j : ℕ) → j < state_count m →
-          function_state_at new j ≡ functions_given m tick message (function_state_at old) j
-      functions j h =
-          given_by no_summing (λ s. function_after_message m s tick message) j
-          (goes_to_function m j message)
-          (rw own (among_rows m var j h) ∙ sym (goes.function_is j)) written
-
-      crossings : (place : ℕ) → place < length (conditions m) →
-          crossing_at new place ≡ crossings_given m tick message (crossing_at old) place
-      crossings place h = rw (same_crossings, goes.crossing_is (condition_at m place)) refl
-
-  pub discrete_received : (rows first second : List ℕ) (mid : List CrossingModel) →
-      IsOfDiscrete var message → rows ≡ reading_rows m var → first ≡ reading_conditions m var →
-      second ≡ reading_conditions m (var + discrete_count m) →
+  -- functions at some places received the message, and crossings at places of two lists
+  readers_received : (rows first second : List ℕ) (mid : List CrossingModel) →
+      ((j : ℕ) → goes_to_integrator j message ≡ false) →
+      ((j : ℕ) → j < state_count m → is_listed rows j ≡ goes_to_function m j message) →
+      ((place : ℕ) → place < length (conditions m) → goes_to_crossing m (condition_at m place) message
+      ≡ (is_listed first place || is_listed second place)) →
+      ((c : Crossing) (place : ℕ) → is_listed first place ≡ true → is_listed second place ≡ true →
+      crossing_after_message m (crossing_after_message m c tick message) tick message
+      ≡ crossing_after_message m c tick message) →
       new.integrators.items ≡ old.integrators.items → new.uses ≡ old.uses →
       All (λ (f : FunctionModel). f.machine.value ≡ m) new.functions.items →
       All (λ (c : CrossingModel). c.machine.value ≡ m) new.crossings.items →
       FunctionsReceive rows old.functions.items new.functions.items →
       CrossingsReceive first old.crossings.items mid →
       CrossingsReceive second mid new.crossings.items → HaveReceived m tick message old new
-  discrete_received rows first second mid kind own_rows own_first own_second same_lines same_uses
+  readers_received rows first second mid no_line to_rows to_places twice same_lines same_uses
       function_machines crossing_machines written one two = record {
     parts = record {
       integrators = rw same_lines are.integrators;
@@ -229,29 +191,58 @@ module _ {X : Type 0} {g : _} (m : Machine) (tick var : ℕ) (message : Message)
     crossings = crossings;
   }
     where
-      goes : GoesTo m message (λ j. false) (λ j. row_reads var (row_at m j))
-          (λ k. condition_reads var k || condition_reads (var + discrete_count m) k)
-      goes = discrete_receivers m var message kind
-
       lines : (j : ℕ) → j < state_count m → line_at new j ≡ lines_given tick message (line_at old) j
-      lines j h = rw (same_lines, goes.line_is j) refl
+      lines j h = rw (same_lines, no_line j) refl
 
       functions : (j : ℕ) → j < state_count m →
           function_state_at new j ≡ functions_given m tick message (function_state_at old) j
       functions j h =
           given_by no_summing (λ s. function_after_message m s tick message) j
-          (goes_to_function m j message)
-          (rw own_rows (among_rows m var j h) ∙ sym (goes.function_is j)) written
+          (goes_to_function m j message) (to_rows j h) written
 
       crossings : (place : ℕ) → place < length (conditions m) →
           crossing_at new place ≡ crossings_given m tick message (crossing_at old) place
       crossings place h =
-          rw (goes.crossing_is (condition_at m place))
-          (given_by_two no_crossing (λ c. crossing_after_message m c tick message)
-          (discrete_twice m tick var message kind) place (condition_reads var (condition_at m place))
-          (condition_reads (var + discrete_count m) (condition_at m place))
-          (rw own_first (among_conditions m var place h))
-          (rw own_second (among_conditions m (var + discrete_count m) place h)) one two)
+          rw (to_places place h)
+          (given_by_two no_crossing (λ c. crossing_after_message m c tick message) place
+          (is_listed first place) (is_listed second place) refl refl
+          (twice (crossing_at old place) place) one two)
+
+  pub level_received : (places : List ℕ) → IsOfLevel var message → places ≡ reading_rows m var →
+      new.integrators.items ≡ old.integrators.items →
+      new.crossings.items ≡ old.crossings.items → new.uses ≡ old.uses →
+      All (λ (f : FunctionModel). f.machine.value ≡ m) new.functions.items →
+      FunctionsReceive places old.functions.items new.functions.items →
+      HaveReceived m tick message old new
+  level_received places kind own same_lines same_crossings same_uses machines written =
+      let goes = level_receivers m var message kind in
+      let none : CrossingsReceive [] old.crossings.items old.crossings.items =
+      record { as_many = refl; each = λ j e. absurd (cc); others = λ j e. refl } in
+      readers_received places [] [] old.crossings.items goes.line_is
+      (λ j h. rw own (among_rows m var j h) ∙ sym (goes.function_is j))
+      (λ place h. goes.crossing_is (condition_at m place)) (λ c place e f. absurd (cc)) same_lines
+      same_uses machines (rw same_crossings are.own_crossings) written none (rw same_crossings none)
+
+  pub discrete_received : (rows first second : List ℕ) (mid : List CrossingModel) →
+      IsOfDiscrete var message → rows ≡ reading_rows m var → first ≡ reading_conditions m var →
+      second ≡ reading_conditions m (var + discrete_count m) →
+      new.integrators.items ≡ old.integrators.items → new.uses ≡ old.uses →
+      All (λ (f : FunctionModel). f.machine.value ≡ m) new.functions.items →
+      All (λ (c : CrossingModel). c.machine.value ≡ m) new.crossings.items →
+      FunctionsReceive rows old.functions.items new.functions.items →
+      CrossingsReceive first old.crossings.items mid →
+      CrossingsReceive second mid new.crossings.items → HaveReceived m tick message old new
+  discrete_received rows first second mid kind own_rows own_first own_second =
+      let goes = discrete_receivers m var message kind in
+      readers_received rows first second mid goes.line_is
+      (λ j h. rw own_rows (among_rows m var j h) ∙ sym (goes.function_is j))
+      (λ place h.
+      let a : is_listed first place ≡ condition_reads var (condition_at m place) =
+      rw own_first (among_conditions m var place h) in
+      let b : is_listed second place ≡ condition_reads (var + discrete_count m) (condition_at m place) =
+      rw own_second (among_conditions m (var + discrete_count m) place h) in
+      rw (a, b) (goes.crossing_is (condition_at m place)))
+      (λ c place e f. discrete_twice m tick var message kind c)
 
   pub line_received : (places : List ℕ) (t : IntegratorModel X g) → IsOfLine var message →
       var < state_count m → places ≡ reading_conditions m var →

@@ -6,7 +6,7 @@ use Common.{function_state_of, FunctionModel, FunctionState, get_or, get_or-map,
 use Common.{get_or-set_same, get_or_default, inl, inr, IntegratorModel, IsCrossingReady}
 use Common.{IsIntegratorOf, IsLineNext, IsSummingReady, IsTimely, length, length-map, length-set}
 use Common.{Line, line_at, List, Machine, map, map-set, no_crossing, no_line, no_summing, Option}
-use Common.{refl, Rule, set, state_count, subst, sym, Vec, with_items, with_items_is}
+use Common.{refl, Rule, set, state_count, subst, sym}
 use Rattle.qss_devs.proofs.MessagesReceived.{integrators_set, line_set}
 
 -- ---- an integrator

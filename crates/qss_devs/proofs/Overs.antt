@@ -1,8 +1,6 @@
 -- The variable that exceeds its limit, or none.
 use Rattle.qss_devs.proofs.Common
-use Common.{ℕ, ◌≡◌, Bool, Err, false, if◌then◌else◌, None, refl, Some, true}
-use Rattle.std.specs.Prelude.{Result}
-use Rattle.qss_hand.specs.Works.{overflow_of}
+use Common.{ℕ, ◌≡◌, Bool, Err, false, if◌then◌else◌, None, overflow_of, refl, Result, Some, true}
 use Rattle.qss_hand.specs.declared.handler_statements.Over.{Over}
 
 -- an error has an overflow

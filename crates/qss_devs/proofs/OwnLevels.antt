@@ -14,7 +14,7 @@ use Rattle.qss_machine.specs.Machines.{quantum_of}
 use Rattle.qss_quant.specs.IntegratorLines.{IsLineWithinQuantum}
 use Rattle.qss_events.proofs.Changes.{leaving_changes_level}
 use Rattle.qss_events.proofs.Lines.{line_here}
-use Rattle.qss_devs.proofs.AgreeTold.{agree_level}
+use Rattle.qss_devs.proofs.AgreementAfterMessage.{agree_level}
 use Rattle.qss_machine.specs.declared.machine_parts.RowKind.TheVariants as kind
 
 module _ (m : Machine) (var : ℕ) (line : Line) where
@@ -158,7 +158,7 @@ pub taken_sends : {X : Type 0} {g : _} {Answers : ℤ → ℤ → ℤ → ℤ �
     ((i : ℕ) → function_state_at mid i ≡ function_state_at old i) → ((place : ℕ) → crossing_at mid place ≡ crossing_at old place) → HaveReceived m tick sent mid new →
     after ≡ before ++ record { tick = tick; kind = kind.Level; var = j; level = (line_at mid j).level; state = (line_at mid j).x } ∷ [] →
     IsLevelTaken m rule tick v j new before after None
-taken_sends {X} {g} {Answers} m rule tick v j old mid new before after name sent each known a named next sends small takes others functions crossings told row_is =
+taken_sends {X} {g} {Answers} m rule tick v j old mid new before after name sent each known a named next sends small takes others functions crossings received row_is =
     let own : LineAgrees tick v j (line_at old j) = a.integrators j known in
     let is : sent ≡ Level j (level_after m rule v j) = due_level m rule tick v j (line_at old j) own name sent named next sends in
     let same : Level j takes.level ≡ Level j (level_after m rule v j) = sym takes.told ∙ is in
@@ -167,7 +167,7 @@ taken_sends {X} {g} {Answers} m rule tick v j old mid new before after name sent
     takes.taken ∙ ap (λ (z : ℤ). record { tick = tick; x = state_at (line_at old j) tick; slope = (line_at old j).slope; level = z }) same_level in
     record {
       own_over = sym (if-false (exceeds 43 (level_after m rule v j)) _ _ (sym (ap passes_limit is) ∙ small));
-      agree = λ e. agree_level m tick v each old new j (level_after m rule v j) mid known (subst (λ (s : Message). HaveReceived m tick s mid new) is told) a others taken functions crossings;
+      agree = λ e. agree_level m tick v each old new j (level_after m rule v j) mid known (subst (λ (s : Message). HaveReceived m tick s mid new) is received) a others taken functions crossings;
       rows = λ e.
           row_is
           ∙ ap (λ (line : Line). before ++ record { tick = tick; kind = kind.Level; var = j; level = line.level; state = line.x } ∷ []) taken

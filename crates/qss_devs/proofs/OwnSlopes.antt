@@ -9,7 +9,7 @@ use Common.{LineAgrees, lines_given, List, Machine, MatchBool, Message, None, Op
 use Common.{pos, refl, row_at, set, set-get_or, Slope, slope_at, Some, state_at, state_count, subst}
 use Common.{sum_at, sum_of, sum_same, summing_sent, SummingAgrees, sym, true, Values, within-passes}
 use Rattle.qss_components.proofs.Sent.{still_light, own_slope}
-use Rattle.qss_devs.proofs.AgreeTold.{agree_slope}
+use Rattle.qss_devs.proofs.AgreementAfterMessage.{agree_slope}
 
 -- a sum passes the limit of slopes where its row is past its limits
 pub past_or_slope : (m : Machine) (j : ℕ) (levels discretes : List ℤ) → exceeds 88 (sum_at m j levels discretes) ≡ exceeds_row_limits m levels discretes (row_at m j)
@@ -65,14 +65,14 @@ module _ (m : Machine) (tick : ℕ) (v : Values) (each : HasEach m v) (j : ℕ) 
         sent = λ e. absurd (cc);
       }
 
-  module _ {X : Type 0} {g : _} (old mid new : Components X g) (sent : Message) (a : Agrees m tick v old) (is : sent ≡ Slope j (sum_of m (function_state_at old j))) (told : HaveReceived m tick sent mid new) where
+  module _ {X : Type 0} {g : _} (old mid new : Components X g) (sent : Message) (a : Agrees m tick v old) (is : sent ≡ Slope j (sum_of m (function_state_at old j))) (received : HaveReceived m tick sent mid new) where
     pub sent_sends : passes_limit sent ≡ false → ((i : ℕ) → line_at mid i ≡ line_at old i) → ((i : ℕ) → i ≢ j → function_state_at mid i ≡ function_state_at old i) →
         function_state_at mid j ≡ summing_sent (function_state_at old j) tick → ((place : ℕ) → crossing_at mid place ≡ crossing_at old place) → IsSlopeSent m tick v j new None
     sent_sends small lines others own crossings =
         let sum : sum_of m (function_state_at old j) ≡ sum_at m j v.levels v.discretes = sum_same m tick v each j known (function_state_at old j) (a.functions j known) in
         let light : exceeds_row_limits m v.levels v.discretes (row_at m j) ≡ false = sym (past_or_slope m j v.levels v.discretes) ∙ ap (exceeds 88) (sym sum) ∙ sym (ap passes_limit is) ∙ small in
         let slope : sum_of m (function_state_at old j) ≡ slope_at m j v.levels v.discretes = sum ∙ if-false (exceeds_row_limits m v.levels v.discretes (row_at m j)) _ _ light in
-        let now : HaveReceived m tick (Slope j (sum_of m (function_state_at old j))) mid new = subst (λ (s : Message). HaveReceived m tick s mid new) is told in
+        let now : HaveReceived m tick (Slope j (sum_of m (function_state_at old j))) mid new = subst (λ (s : Message). HaveReceived m tick s mid new) is received in
         record {
           own_over = sym (if-false (exceeds_row_limits m v.levels v.discretes (row_at m j)) _ _ light);
           agree = λ e. subst (λ (z : ℤ). Agrees m tick (record v { slopes = set v.slopes j z }) new) slope (agree_slope m tick v each old new j mid known now a lines others own crossings);
@@ -82,13 +82,13 @@ module _ (m : Machine) (tick : ℕ) (v : Values) (each : HasEach m v) (j : ℕ) 
     -- the others have no other sum to send
     pub others_sent : (i : ℕ) → i < state_count m → i ≢ j → function_state_at mid i ≡ function_state_at old i → function_state_at new i ≡ function_state_at old i
     others_sent i h ne same =
-        let now : HaveReceived m tick (Slope j (sum_of m (function_state_at old j))) mid new = subst (λ (s : Message). HaveReceived m tick s mid new) is told in
+        let now : HaveReceived m tick (Slope j (sum_of m (function_state_at old j))) mid new = subst (λ (s : Message). HaveReceived m tick s mid new) is received in
         now.functions i h ∙ same
 
     -- the line that receives a slope is near its level, and leaves it later
     pub lines_later : AreWithinQuanta m v → ((i : ℕ) → line_at mid i ≡ line_at old i) → AllLinesLater m tick (line_at old) → AllLinesLater m tick (line_at new)
     lines_later near lines later i next h found =
-        let now : HaveReceived m tick (Slope j (sum_of m (function_state_at old j))) mid new = subst (λ (s : Message). HaveReceived m tick s mid new) is told in
+        let now : HaveReceived m tick (Slope j (sum_of m (function_state_at old j))) mid new = subst (λ (s : Message). HaveReceived m tick s mid new) is received in
         let given : line_at new i ≡ lines_given tick (Slope j (sum_of m (function_state_at old j))) (line_at old) i =
         now.lines i h ∙ ap (λ (l : Line). lines_given tick (Slope j (sum_of m (function_state_at old j))) (λ k. l) i) (lines i) in
         let own : LineAgrees tick v i (line_at old i) = a.integrators i h in

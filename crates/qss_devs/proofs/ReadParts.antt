@@ -7,7 +7,7 @@ use Common.{IntegratorModel, IsCrossingNext, IsIntegratorOf, IsRead, IsTimely, l
 use Common.{LineAgrees, List, Machine, map, no_crossing, no_line, no_summing, same_lists, Some}
 use Common.{subst, SummingAgrees, sym, Values}
 use Rattle.qss_devs.proofs.Coasting.{at_twice}
-use Rattle.qss_devs.proofs.NextVisits.{some_element}
+use Rattle.qss_devs.proofs.NextTransitions.{some_element}
 use Rattle.qss_devs.proofs.Readings.{read_agrees}
 
 -- what holds of each condition's crossing holds of all crossings

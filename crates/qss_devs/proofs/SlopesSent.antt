@@ -5,7 +5,7 @@ use Common.{cases_eq, cases_lt, Components, exceeds_row_limits, false, first_is,
 use Common.{FunctionState, HasEach, inl, inr, int_at, int_at-tabulate, IsSlopeSent, IsWithin}
 use Common.{length, length-map-range_with_len, length-set, light_row, List, Machine, no_row, None}
 use Common.{pos, position-none, refl, row_at, same_lists, set_other, set_same, slope_at, sloped}
-use Common.{Some, state_count, subst, suc, sym, tabulate, true, Values, zero}
+use Common.{Some, state_count, subst, suc, sym, tabulate, Values, zero}
 use Rattle.qss_devs.specs.CoupledSteps.{slopes_upto}
 use Rattle.qss_devs.proofs.Overs.{not_past, is_past}
 

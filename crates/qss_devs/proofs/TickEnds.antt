@@ -1,22 +1,20 @@
 -- The store after the components made the transitions of a tick.
 use Rattle.qss_devs.proofs.Common
-use Common.{ℕ, ℤ, ◌++◌, ◌<◌, ◌∙◌, ◌≡◌, Agrees, all_within, ap, AreComponents, AreReady, AreSent, AreTaken}
-use Common.{AreValues, AreWithinQuanta, arith, arrived_values, compares, Components}
-use Common.{ComponentsRepresent, crossing_at, CrossingModel, CrossingsLater, discrete_count, Err}
-use Common.{exceeds_row_limits, first_exceeding, function_state_at, HasEach, int_at}
-use Common.{int_at-tabulate, is_some, IsAllowedLevel, IsStep, IsWithin, length}
-use Common.{length-map-range_with_len, levels_of, line_at, List, Machine, map, MayFollowTick}
-use Common.{moved_states, None, Ok, Option, pos, position, refl, Row, row_is_light, Rule, slope_at}
-use Common.{Snapshot, snapshot_unless, Some, state_count, states_at, Store, subst, sym, tabulate}
-use Common.{true, truths, Values, values_after_rows}
-use Common.{AllLinesLater, Bool, FitsMachine, snapshot_of, StoreRepresents, tick_rows}
+use Common.{ℕ, ℤ, ◌++◌, ◌<◌, ◌∙◌, ◌≡◌, Agrees, all_within, AllLinesLater, ap, AreComponents}
+use Common.{AreReady, AreSent, AreTaken, AreValues, AreWithinQuanta, arith, arrived_values, Bool}
+use Common.{compares, Components, ComponentsRepresent, crossing_at, CrossingModel, CrossingsLater}
+use Common.{discrete_count, Err, exceeds_row_limits, first_exceeding, FitsMachine}
+use Common.{function_state_at, HasEach, int_at, int_at-tabulate, IsAfterHandlers, IsAllowedLevel}
+use Common.{IsStep, IsWithin, length, length-map-range_with_len, levels_of, line_at, List, Machine}
+use Common.{map, MayFollowTick, moved_states, None, Ok, Option, pos, position, Row, row_is_light}
+use Common.{Rule, slope_at, Snapshot, snapshot_of, Some, state_count, states_at, Store}
+use Common.{StoreRepresents, subst, sym, tabulate, tick_rows, truths, Values, values_after_rows}
 use Rattle.qss_hand.specs.Values.{Values as Kept}
 use Rattle.mu_num.proofs.Tests.{int_lt-yes}
 use Rattle.qss_machine.specs.Runs.{level_rows}
 use Rattle.qss_events.proofs.NextLevels.{next_is_near}
 use Rattle.qss_components.proofs.Sent.{settled_stand}
-use Rattle.qss_devs.specs.CoupledEvents.{IsAfterHandlers}
-use Rattle.qss_devs.proofs.Followed.{handled_values, told_all, handled_fit, step_level, step_slope}
+use Rattle.qss_devs.proofs.Followed.{handled_values, values_after_handlers, handled_fit, step_level, step_slope}
 use Rattle.qss_devs.proofs.Followed.{step_done, states_are, levels_are, settled_are}
 
 abbrev snapshot : List ℤ → List ℤ → List ℤ → List Bool → List Bool → Snapshot
@@ -46,7 +44,7 @@ module _ {X : Type 0} {g : _} {m : Machine} {name : Option Rule} {tick : ℕ} {w
       → Agrees m tick (values_after_rows m v s.work.log) parts) → Agrees m tick handled parts
   handled_agree parts received =
       subst (λ (v : Values). Agrees m tick v parts)
-      (ap (values_after_rows m (arrived_values m w)) h.log ∙ told_all m tick w)
+      (ap (values_after_rows m (arrived_values m w)) h.log ∙ values_after_handlers m tick w)
       (received (arrived_values m w) h.each h.agree)
 
   module _ {leveled : Components X g} {before after : List Row} {over : Option ℕ}
@@ -98,122 +96,6 @@ module _ {X : Type 0} {g : _} {m : Machine} {name : Option Rule} {tick : ℕ} {w
             step_slope m tick w name h.none_over taken.levels taken.allowed var (sym small)
             (sym is ∙ sent.own_over)
 
-        module _ (light : heavy ≡ None) (are : AreComponents m parts)
-            (ready : AreReady m tick (line_at parts) (function_state_at parts) (crossing_at parts)) where
-          abbrev ended : Snapshot
-          ended = record {
-            states = handled.states;
-            levels = taken.levels;
-            discretes = handled.discretes;
-            at_arrival = truths m (moved_states m w) w.discretes tick;
-            after_handlers = truths m handled.states handled.discretes tick;
-          }
-
-          abbrev slopes : List ℤ
-          slopes = tabulate (state_count m) (λ j. slope_at m j taken.levels handled.discretes)
-
-          abbrev sent_values : Values
-          sent_values = record {
-            states = handled.states;
-            slopes = slopes;
-            levels = taken.levels;
-            discretes = handled.discretes;
-          }
-
-          agree : Agrees m tick sent_values parts
-          agree = sent.agree light
-
-          none_heavy : position (exceeds_row_limits m taken.levels handled.discretes) m.rows ≡ None
-          none_heavy = sym sent.own_over ∙ light
-
-          slow : (j : ℕ) → j < state_count m → IsWithin 88 (int_at slopes j)
-          slow j inside =
-              subst (IsWithin 88)
-              (sym (int_at-tabulate (state_count m)
-              (λ j. slope_at m j taken.levels handled.discretes) j inside))
-              (row_is_light m taken.levels handled.discretes none_heavy j inside).slope
-
-          ended_stand : ComponentsRepresent m tick ended (line_at parts) (function_state_at parts)
-              (crossing_at parts)
-          ended_stand =
-              (settled_stand m tick ended slopes (line_at parts) (function_state_at parts)
-              (crossing_at parts)
-              (record {
-                states = states_many;
-                slopes = length-map-range_with_len
-                    (λ j. slope_at m j taken.levels handled.discretes) 0 (state_count m);
-                levels = taken.allowed.one_each;
-                discretes = discretes_many;
-              })
-              agree (sent.sent light) slow).0
-
-          ended_left : MayFollowTick m ended
-          ended_left = record {
-            one_each = taken.allowed.one_each;
-            small_levels = taken_fits.small;
-            light = none_heavy;
-          }
-
-          ended_crossings : CrossingsLater m tick (crossing_at parts)
-          ended_crossings place next inside found = (ready.crossings place inside).later next found
-
-          ended_states : states_at tick parts ≡ handled.states
-          ended_states = states_are m tick sent_values parts are agree states_many
-
-          ended_levels : levels_of parts ≡ taken.levels
-          ended_levels = levels_are m tick sent_values parts are agree taken.allowed.one_each
-
-          ended_settled : map (λ (c : CrossingModel). compares c.detector.rel c.detector.value)
-              parts.crossings.items ≡ truths m handled.states handled.discretes tick
-          ended_settled =
-              settled_are m tick ended parts are (omega (arith, ready.in_time)) states_many
-              discretes_many ended_stand ended_crossings
-
-          -- the store with these components, whose truth values were settled
-          module _ (next : Store X g) (of_parts : next.parts ≡ parts) (of_work : next.work ≡ s.work)
-              (arrived : next.truths.at_arrival.items ≡ s.truths.current.items)
-              (settled : next.truths.after_handlers.items
-              ≡ map (λ (c : CrossingModel). compares c.detector.rel c.detector.value) parts.crossings.items) where
-            ended_is : snapshot_of tick next ≡ ended
-            ended_is =
-                let a : states_at tick next.parts ≡ handled.states =
-                ap (states_at tick) of_parts ∙ ended_states in
-                let b : levels_of next.parts ≡ taken.levels = ap levels_of of_parts ∙ ended_levels in
-                let d : next.work.d ≡ handled.discretes =
-                ap (λ (v : Kept). v.d) of_work ∙ h.discretes in
-                let e : next.truths.at_arrival.items ≡ ended.at_arrival = arrived ∙ h.current in
-                let f : next.truths.after_handlers.items ≡ ended.after_handlers =
-                settled ∙ ended_settled in
-                same_snapshot a b d e f
-
-            pub ended_step : IsStep (IsAllowedLevel name) m tick w (Ok (snapshot_of tick next))
-            ended_step =
-                step_done m tick w name h.none_over taken.levels taken.allowed (snapshot_of tick next)
-                ended_is (sym small) (sym none_heavy)
-
-            pub ended_rows : before ≡ s.work.log → after ≡ tick_rows m tick w (snapshot_of tick next)
-            ended_rows of_log =
-                taken.rows none
-                ∙ ap (λ (l : List Row). l ++ level_rows tick w.levels taken.levels handled.states)
-                (of_log ∙ h.log)
-                ∙ sym (ap (tick_rows m tick w) ended_is)
-
-            pub ended_represents : FitsMachine m name next → AllLinesLater m tick (line_at parts) →
-                StoreRepresents m name tick next
-            ended_represents fits later = record {
-              fits = fits;
-              stand = rw (ended_is, of_parts) ended_stand;
-              left = rw ended_is ended_left;
-              after_handlers =
-                  let states : (snapshot_of tick next).states ≡ handled.states =
-                  ap (λ (u : Snapshot). u.states) ended_is in
-                  let discretes : next.work.d ≡ handled.discretes =
-                  ap (λ (u : Snapshot). u.discretes) ended_is in
-                  rw (states, discretes) (settled ∙ ended_settled);
-              lines = rw of_parts later;
-              crossings = rw of_parts ended_crossings;
-            }
-
 -- a tick that ended: its step, its rows, and the store after it
 pub record EndsTick {X : Type 0} {g : _} (m : Machine) (name : Option Rule) (tick : ℕ) (w : Snapshot)
     (next : Store X g) (rows : List Row) : Type 0 where
@@ -235,14 +117,68 @@ pub ends_tick : {X : Type 0} {g : _} (m : Machine) (name : Option Rule) (tick : 
     next.truths.after_handlers.items
     ≡ map (λ (c : CrossingModel). compares c.detector.rel c.detector.value) parts.crossings.items →
     before ≡ s.work.log → FitsMachine m name next → EndsTick m name tick w next after
-ends_tick m name tick w s next h leveled parts before after over heavy taken none sent light are ready
-    later of_parts of_work arrived settled of_log fits =
-    let v : Values = taken_values h taken none in
-    let slopes = sent v (taken_fits h taken none) (taken_agree h taken none) in
+ends_tick {X} {g} m name tick w s next h leveled parts before after over heavy taken none sends light
+    are ready later of_parts of_work arrived settled of_log fits =
+    let x : List ℤ = (handled h).states in
+    let d : List ℤ = (handled h).discretes in
+    let levels : List ℤ = taken.levels in
+    let slope : ℕ → ℤ = λ j. slope_at m j levels d in
+    let slopes : List ℤ = tabulate (state_count m) slope in
+    let v : Values = record { states = x; slopes = slopes; levels = levels; discretes = d } in
+    let last : Snapshot =
+    snapshot x levels d (truths m (moved_states m w) w.discretes tick) (truths m x d tick) in
+    let of_values = taken_fits h taken none in
+    let leveled_agree = taken_agree h taken none in
+    let sent = sends (taken_values h taken none) of_values leveled_agree in
+    let agree : Agrees m tick v parts = sent.agree light in
+    let each : HasEach m v = record {
+      states = states_many h;
+      slopes = length-map-range_with_len slope 0 (state_count m);
+      levels = taken.allowed.one_each;
+      discretes = discretes_many h;
+    } in
+    let small : first_exceeding 43 levels ≡ None = sym taken.own_over ∙ none in
+    let none_heavy : position (exceeds_row_limits m levels d) m.rows ≡ None =
+    sym sent.own_over ∙ light in
+    let slow : (j : ℕ) → j < state_count m → IsWithin 88 (int_at slopes j) =
+    λ j inside.
+    subst (IsWithin 88) (sym (int_at-tabulate (state_count m) slope j inside))
+    (row_is_light m levels d none_heavy j inside).slope in
+    let stand : ComponentsRepresent m tick last (line_at parts) (function_state_at parts) (crossing_at parts) =
+    (settled_stand m tick last slopes (line_at parts) (function_state_at parts) (crossing_at parts) each
+    agree (sent.sent light) slow).0 in
+    let crossings : CrossingsLater m tick (crossing_at parts) =
+    λ place n inside found. (ready.crossings place inside).later n found in
+    let states : states_at tick parts ≡ x = states_are m tick v parts are agree each.states in
+    let truths_are : next.truths.after_handlers.items ≡ truths m x d tick =
+    settled
+    ∙ settled_are m tick last parts are (omega (arith, ready.in_time)) each.states each.discretes
+    stand crossings in
+    let is : snapshot_of tick next ≡ last =
+    same_snapshot (ap (states_at tick) of_parts ∙ states)
+    (ap levels_of of_parts ∙ levels_are m tick v parts are agree each.levels)
+    (ap (λ (u : Kept). u.d) of_work ∙ h.discretes) (arrived ∙ h.current) truths_are in
     record {
-      step = ended_step h taken none slopes light are ready next of_parts of_work arrived settled;
-      rows_are = ended_rows h taken none slopes light are ready next of_parts of_work arrived settled of_log;
-      represents =
-          ended_represents h taken none slopes light are ready next of_parts of_work arrived settled fits
-          (later v (taken_fits h taken none) (taken_agree h taken none) (taken_near h taken none));
+      step =
+          step_done m tick w name h.none_over levels taken.allowed (snapshot_of tick next) is (sym small)
+          (sym none_heavy);
+      rows_are =
+          taken.rows none
+          ∙ ap (λ (l : List Row). l ++ level_rows tick w.levels levels x) (of_log ∙ h.log)
+          ∙ sym (ap (tick_rows m tick w) is);
+      represents = record {
+        fits = fits;
+        stand = rw (is, of_parts) stand;
+        left = rw is (record {
+          one_each = each.levels;
+          small_levels = of_values.small;
+          light = none_heavy;
+        });
+        after_handlers =
+            let a : (snapshot_of tick next).states ≡ x = ap (λ (u : Snapshot). u.states) is in
+            let b : next.work.d ≡ d = ap (λ (u : Snapshot). u.discretes) is in
+            rw (a, b) truths_are;
+        lines = rw of_parts (later (taken_values h taken none) of_values leveled_agree (taken_near h taken none));
+        crossings = rw of_parts crossings;
+      };
     }

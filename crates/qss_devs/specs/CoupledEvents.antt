@@ -16,7 +16,7 @@ use Rattle.qss_devs.specs.declared.coupled_messages.Components.{Components}
 use Rattle.qss_devs.specs.declared.coupled_start.Store.{Store}
 use Rattle.qss_devs.specs.Coupling.{line_at, function_state_at, crossing_at, AreComponents}
 use Rattle.qss_devs.specs.Coupling.{AreRuled, AreReady, AllLinesLater}
-use Rattle.qss_devs.specs.CoupledSteps.{IsToldMessage, Agrees}
+use Rattle.qss_devs.specs.CoupledSteps.{IsMessageOfRow, Agrees}
 use Rattle.qss_devs.specs.Flags.{HaveFlags}
 
 -- the states of the integrators' lines at a tick, and their levels
@@ -76,6 +76,6 @@ pub record IsAfterHandlers {X : Type 0} {g : _} (m : Machine) (name : Option Rul
   pub states : s.work.x ≡ (handlers_at m tick w).states
   pub discretes : s.work.d ≡ (handlers_at m tick w).discretes
   pub log : s.work.log ≡ (handlers_at m tick w).rows
-  pub told : All (IsToldMessage m) s.work.log
+  pub messages : All (IsMessageOfRow m) s.work.log
   pub count : length s.work.log ≤ row_room m.clauses
   pub current : s.truths.current.items ≡ truths m (moved_states m w) w.discretes tick

@@ -23,17 +23,17 @@ use Rattle.qss_devs.specs.declared.coupled_messages.Components.{Components}
 use Rattle.qss_devs.specs.Coupling.{line_at, function_state_at, crossing_at}
 
 -- the message for a row of a handler is within the limits
-abbrev pub IsToldKind : Machine → RowKind → Row → Type 0
-IsToldKind m kind.Start row = Unit {0}
-IsToldKind m (kind.When clause branch) row = Unit {0}
-IsToldKind m kind.Set row = IsMessage m (Discrete row.var row.level)
-IsToldKind m kind.Reinit row = IsMessage m (State row.var row.state)
-IsToldKind m kind.Level row = Unit {0}
-IsToldKind m kind.End row = Unit {0}
-IsToldKind m kind.Overflow row = Unit {0}
+abbrev pub IsMessageOfKind : Machine → RowKind → Row → Type 0
+IsMessageOfKind m kind.Start row = Unit {0}
+IsMessageOfKind m (kind.When clause branch) row = Unit {0}
+IsMessageOfKind m kind.Set row = IsMessage m (Discrete row.var row.level)
+IsMessageOfKind m kind.Reinit row = IsMessage m (State row.var row.state)
+IsMessageOfKind m kind.Level row = Unit {0}
+IsMessageOfKind m kind.End row = Unit {0}
+IsMessageOfKind m kind.Overflow row = Unit {0}
 
-abbrev pub IsToldMessage : Machine → Row → Type 0
-IsToldMessage m row = IsToldKind m row.kind row
+abbrev pub IsMessageOfRow : Machine → Row → Type 0
+IsMessageOfRow m row = IsMessageOfKind m row.kind row
 
 -- the rule of a quantizer has a name, and so is a function of the state and its old level
 abbrev pub IsNamed : Option Rule → Type 0

@@ -2,7 +2,7 @@
 
 ghost use Rattle.std.specs.Prelude.{◌≡◌, ◌+◌, ◌<◌, ◌≤◌, [], length, All, position};
 ghost use Rattle.qss_devs.specs.Prelude.{flag_at, condition_limit, conditions, run_first_due, run_clauses, clause_room, AreValuesOf, handling_of, values_after, overflow_of, clause_at, row_room, branch_at, IsForm, state_count, discrete_count};
-ghost use Rattle.qss_devs.specs.CoupledSteps.{IsToldMessage};
+ghost use Rattle.qss_devs.specs.CoupledSteps.{IsMessageOfRow};
 ghost use Rattle.qss_devs.specs.Flags.{HaveFlags, due_flags, flags_from};
 
 use crate::coupled_start::Truths;
@@ -26,7 +26,7 @@ pub(crate) fn fire_clauses_on_arrival(
         ≡ (run_clauses m.now work.old.tick work.old.pre 0 (handling_of work.old) m.now.clauses
         (due_flags truths.now)).overflow }
     ensures fits { AreValuesOf m.now work.new }
-    ensures told { All (IsToldMessage m.now) work.new.log }
+    ensures messages { All (IsMessageOfRow m.now) work.new.log }
     ensures count { length work.new.log ≤ row_room m.now.clauses }
 {
     fire_all_clauses(m, truths, work)

@@ -3,7 +3,7 @@
 
 ghost use Rattle.std.specs.Prelude.{◌≡◌, ◌<◌, ◌+◌, ◌≢◌, ◌≤◌, length, map, All, slice_index_or, Option, ℕ, None, Some, vec_len, vec_capacity};
 ghost use Rattle.qss_devs.specs.Prelude.{overflow_of, state_count, discrete_count, AreRisingBelow, IsWritten, tick_limit, IsMessage, function_after_message, crossing_after_message, function_state_of, crossing_of, Rule, Values, HasEach, values_after_row, values_after_rows, no_line, IsLineNext};
-ghost use Rattle.qss_devs.specs.CoupledSteps.{IsToldMessage, Agrees, AreValues, IsLevelTaken, AreTaken, AreWithinQuanta, IsSlopeSent, AreSent};
+ghost use Rattle.qss_devs.specs.CoupledSteps.{IsMessageOfRow, Agrees, AreValues, IsLevelTaken, AreTaken, AreWithinQuanta, IsSlopeSent, AreSent};
 ghost use Rattle.qss_devs.specs.Coupling.{line_at, function_state_at, crossing_at, no_summing, no_crossing, AreComponents, AreReady, IsSummingReady, IsCrossingReady, IsOfLine, IsOfLevel, IsOfDiscrete, HaveReceived, AreRuled, AllLinesLater};
 ghost use Rattle.qss_machine.specs.declared.machine_parts.RowKind.TheVariants as kind;
 
@@ -29,7 +29,7 @@ pub(crate) fn send_assigned_messages(m: &Machine, parts: &mut Components, tick: 
     requires parts { AreComponents m.now parts.old }
     requires ready { AreReady m.now tick
         (line_at parts.old) (function_state_at parts.old) (crossing_at parts.old) }
-    requires told { All (IsToldMessage m.now) work.now.log }
+    requires messages { All (IsMessageOfRow m.now) work.now.log }
     ensures parts { AreComponents m.now parts.new }
     ensures ruled { (name : Option Rule) → AreRuled name parts.old → AreRuled name parts.new }
     ensures ready { AreReady m.now tick
@@ -104,7 +104,7 @@ fn send_row_messages(m: &Machine, parts: &mut Components, tick: u64, row: &Row)
     requires parts { AreComponents m.now parts.old }
     requires ready { AreReady m.now tick
         (line_at parts.old) (function_state_at parts.old) (crossing_at parts.old) }
-    requires told { IsToldMessage m.now row.now }
+    requires messages { IsMessageOfRow m.now row.now }
     ensures parts { AreComponents m.now parts.new }
     ensures ruled { (name : Option Rule) → AreRuled name parts.old → AreRuled name parts.new }
     ensures ready { AreReady m.now tick
@@ -313,12 +313,7 @@ fn level_message_row(tick: u64, var: u32, integrators: &[IntegratorModel]) -> Ro
 }
 
 // Sends the sum of a function, if it changed. The error is the state if its row exceeds its limits.
-fn send_slope_message(
-    m: &Machine,
-    parts: &mut Components,
-    tick: u64,
-    j: u32,
-) -> Result<(), Over>
+fn send_slope_message(m: &Machine, parts: &mut Components, tick: u64, j: u32) -> Result<(), Over>
     requires parts { AreComponents m.now parts.old }
     requires known { j < state_count m.now }
     requires ready { AreReady m.now tick

@@ -111,13 +111,7 @@ pub(crate) fn start_coupled_store(
     let after_handlers = start_flags(alloc, &parts.crossings)?;
     let count = work.log.capacity() + work.x.len() + work.d.len() + 1;
     let mut rows = Vec::with_capacity(alloc, count)?;
-    set_snapshot_rows(
-        RowKind::Start,
-        0,
-        &parts.integrators,
-        &work.d,
-        &mut rows,
-    );
+    set_snapshot_rows(RowKind::Start, 0, &parts.integrators, &work.d, &mut rows);
     Ok(Store {
         parts,
         work,

@@ -1,7 +1,7 @@
 -- The states are written in place, and the first that exceeds its limit is found.
 use Rattle.qss_devs.proofs.Common
 use Common.{ℤ, ◌∙◌, ◌≡◌, ap, arith, first_exceeding, IntegratorModel, length, length-map, List, map}
-use Common.{state_at, sym, vec_capacity, with_items, with_items_is}
+use Common.{state_at, vec_capacity, with_items, with_items_is}
 use Rattle.qss_hand.specs.Values.{Values}
 use Rattle.qss_devs.proofs.coupled_arrivals.compute_arrival_states.Goals as goal
 

@@ -10,7 +10,7 @@ pub loop-place-init : goal.loop-place-init
 loop-place-init c = record {
   crossings = none_read c.args.tick c.args.crossings.now;
   as_many = refl;
-  told = λ k below. absurd (omega (arith, below));
+  flags_are = λ k below. absurd (omega (arith, below));
   rest = λ k past. refl;
 }
 
@@ -40,13 +40,13 @@ loop-place-preserved c =
     let h : place < length old = omega (arith, c.loop-place-test.true) in
     let same : get_or xs place d ≡ get_or old place d = inv.crossings.rest place d (omega arith) in
     let within : place < length c.loop-place.now = omega (arith, h, inv.as_many, c.requires.same_length) in
-    let told : c.read_crossing_on_arrival.result ≡ flag_at (map (λ (k : CrossingModel). holds_at k.detector tick) old) place =
+    let flags_are : c.read_crossing_on_arrival.result ≡ flag_at (map (λ (k : CrossingModel). holds_at k.detector tick) old) place =
     c.read_crossing_on_arrival.ensures.now ∙ ap (λ (k : CrossingModel). holds_at k.detector tick) same ∙ sym (get_or-map (λ (k : CrossingModel). holds_at k.detector tick) old place d false h) in
     record {
       crossings = read_more tick place old xs x d h inv.crossings (c.read_crossing_on_arrival.ensures.machine ∙ ap (λ (k : CrossingModel). k.machine.value) same)
           (subst (λ (k : CrossingModel). IsRead tick (crossing_of k) (crossing_of x)) same c.read_crossing_on_arrival.ensures.read) c.read_crossing_on_arrival.ensures.later;
       as_many = length-set c.loop-place.now place c.read_crossing_on_arrival.result ∙ inv.as_many;
-      told = one_more false (flag_at (map (λ (k : CrossingModel). holds_at k.detector tick) old)) c.loop-place.now place c.read_crossing_on_arrival.result within inv.told told;
+      flags_are = one_more false (flag_at (map (λ (k : CrossingModel). holds_at k.detector tick) old)) c.loop-place.now place c.read_crossing_on_arrival.result within inv.flags_are flags_are;
       rest = λ k past. get_or-set_other c.loop-place.now place k c.read_crossing_on_arrival.result false (λ e. absurd (omega (arith, e, past))) ∙ inv.rest k (omega (arith, past));
     }
 
@@ -58,7 +58,7 @@ returns c =
     let all : length (map (λ (k : CrossingModel). holds_at k.detector tick) old) ≡ length old = length-map old (λ (k : CrossingModel). holds_at k.detector tick) in
     record {
       now = same_lists false c.loop-place.now (map (λ (k : CrossingModel). holds_at k.detector tick) old) (inv.as_many ∙ c.requires.same_length ∙ sym all)
-          (λ k h. inv.told k (omega (arith, h, all, c.loop-place-test.false)));
+          (λ k h. inv.flags_are k (omega (arith, h, all, c.loop-place-test.false)));
       machines = λ k d h. inv.crossings.machines k d (omega (arith, h, c.loop-place-test.false)) h;
       read = λ k d h. inv.crossings.read k d (omega (arith, h, c.loop-place-test.false)) h;
       later = λ k d h n is. inv.crossings.later k n d (omega (arith, h, inv.crossings.as_many, c.loop-place-test.false)) (omega (arith, h, inv.crossings.as_many)) is;

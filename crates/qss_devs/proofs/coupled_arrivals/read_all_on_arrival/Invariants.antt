@@ -7,6 +7,6 @@ abbrev pub invariant-loop-place : goal.invariant-loop-place
 invariant-loop-place l = record {
   crossings : AreReadUpTo l.tick l.place l.fn.crossings l.crossings;
   as_many : length l.now ≡ length l.fn.now;
-  told : (k : ℕ) → k < l.place → flag_at l.now k ≡ flag_at (map (λ c. holds_at c.detector l.tick) l.fn.crossings) k;
+  flags_are : (k : ℕ) → k < l.place → flag_at l.now k ≡ flag_at (map (λ c. holds_at c.detector l.tick) l.fn.crossings) k;
   rest : (k : ℕ) → l.place ≤ k → flag_at l.now k ≡ flag_at l.fn.now k;
 }

@@ -1,17 +1,14 @@
 -- Each clause runs; an overflow ends the loop.
 use Rattle.qss_devs.proofs.Common
-use Common.{[], ◌+◌, ◌<◌, ◌∙◌, ◌≡◌, ◌≤◌, ap, arith, Bool, clause_at, conditions_few, drop, Err}
-use Common.{flags_from, HandlerState, handling_of, length, List, run_clauses}
-use Common.{sum_by_more, sym, values_after}
-use Rattle.std.proofs.Common.{rules}
+use Common.{[], ◌+◌, ◌<◌, ◌∙◌, ◌≡◌, ◌≤◌, ap, arith, Bool, clause_at, conditions_few, drop}
+use Common.{due_flags, Err, flags_from, HandlerState, handling_of, length, List, overflow_of, rules}
+use Common.{run_clauses, sum_by_more, sym, values_after}
 use Rattle.std.proofs.lemmas.List.{drop_all}
 use Rattle.qss_machine.specs.declared.machine_parts.ClauseInfo.{ClauseInfo}
 use Rattle.qss_hand.specs.Values.{Values}
-use Rattle.qss_hand.specs.Works.{overflow_of}
 use Rattle.qss_hand.proofs.AfterStatements.{from_start, all_done}
 use Rattle.qss_hand.proofs.Turns.{clauses_few, room-drop, rows_turn}
 use Rattle.qss_devs.proofs.DueFlags.{turn_within, turn, turn_done, turn_over}
-use Rattle.qss_devs.specs.Flags.{due_flags}
 use Rattle.qss_devs.proofs.coupled_branches.fire_all_clauses.Goals as goal
 
 pub branch_count-count-requires : goal.branch_count-count-requires

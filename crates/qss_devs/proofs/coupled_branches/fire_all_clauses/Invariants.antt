@@ -1,7 +1,6 @@
 use Rattle.qss_devs.proofs.Common
-use Common.{◌+◌, ◌≡◌, ◌≤◌, AreValuesOf, drop, first_place, handling_of, length}
-use Common.{row_room, run_clauses}
-use Rattle.qss_devs.specs.Flags.{due_flags}
+use Common.{◌+◌, ◌≡◌, ◌≤◌, AreValuesOf, drop, due_flags, first_place, handling_of, length, row_room}
+use Common.{run_clauses}
 use Rattle.qss_devs.proofs.coupled_branches.fire_all_clauses.Given as goal
 
 -- the clauses so far ran, and none overflowed

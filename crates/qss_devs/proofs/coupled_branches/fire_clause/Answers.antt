@@ -1,8 +1,8 @@
 -- The first due branch fires, and without one nothing changes.
 use Rattle.qss_devs.proofs.Common
-use Common.{◌+◌, ◌∙◌, ◌≡◌, ◌≤◌, Action, ap, arith, Bool, branch_at, clause_at, conditions_few, false}
-use Common.{flags_from, HandlerState, handling_of, length, List, None, refl, run_first_due, Some, sym}
-use Common.{values_after}
+use Common.{◌+◌, ◌∙◌, ◌≡◌, ◌≤◌, Action, ap, arith, Bool, branch_at, clause_at, conditions_few}
+use Common.{due_flags, false, flags_from, HandlerState, handling_of, length, List, None, refl}
+use Common.{run_first_due, Some, sym, values_after}
 use Rattle.std.proofs.lemmas.List.Quantifiers.{position-Some}
 use Rattle.std.proofs.lemmas.List.Sums.{get_or-le-sum_by}
 use Rattle.std.specs.List.{position}
@@ -11,7 +11,6 @@ use Rattle.qss_machine.specs.Handlers.{run_branch}
 use Rattle.qss_hand.specs.Values.{Values}
 use Rattle.qss_hand.proofs.Turns.{first_fires, none_due}
 use Rattle.qss_hand.proofs.Branches.{no_branch}
-use Rattle.qss_devs.specs.Flags.{due_flags}
 use Rattle.qss_devs.proofs.DueFlags.{length-due, length-flags, none_set}
 use Rattle.qss_devs.proofs.coupled_branches.fire_clause.Goals as goal
 

@@ -1,10 +1,9 @@
 -- The rows of the handlers may be sent, and there is room for them.
 use Rattle.qss_devs.proofs.Common
-use Common.{◌∙◌, All, ap, arith, Bool, handling_of, IsToldMessage, length, List, subst, sym}
+use Common.{All, ap, arith, Bool, due_flags, handling_of, IsMessageOfRow, length, List, subst, sym}
 use Rattle.qss_hand.specs.Values.{Values}
 use Rattle.qss_hand.proofs.Turns.{rows_clauses}
-use Rattle.qss_devs.specs.Flags.{due_flags}
-use Rattle.qss_devs.proofs.ToldRows.{rows_are_told}
+use Rattle.qss_devs.proofs.HandlerMessages.{rows_are_messages}
 use Rattle.qss_devs.proofs.coupled_branches.fire_clauses_on_arrival.Goals as goal
 
 pub fire_all_clauses-requires-clause-room : goal.fire_all_clauses-requires-clause-room
@@ -20,11 +19,11 @@ returns c =
       values = fired.values;
       overflow = fired.overflow;
       fits = fired.fits;
-      told =
-          let none : All (IsToldMessage m) w.log =
+      messages =
+          let none : All (IsMessageOfRow m) w.log =
           rw c.requires.fresh (λ k d h. absurd (omega (arith, h))) in
-          subst (All (IsToldMessage m)) (sym (ap (λ (v : Values). v.log) fired.values))
-          (rows_are_told m w.tick w.pre (handling_of w) due none);
+          subst (All (IsMessageOfRow m)) (sym (ap (λ (v : Values). v.log) fired.values))
+          (rows_are_messages m w.tick w.pre (handling_of w) due none);
       count = omega (
         arith,
         ap (λ (v : Values). length v.log) fired.values,

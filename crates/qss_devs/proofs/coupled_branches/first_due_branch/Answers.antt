@@ -1,8 +1,8 @@
 -- The first flag that is set.
 use Rattle.qss_devs.proofs.Common
-use Common.{◌<◌, ◌∙◌, ◌≡◌, arith, Bool, false, first_is, flags_from, length, List, position-none, sym}
+use Common.{◌<◌, ◌∙◌, ◌≡◌, arith, Bool, due_flags, false, first_is, flags_from, length, List}
+use Common.{position-none, sym}
 use Rattle.std.proofs.Common.{below_more}
-use Rattle.qss_devs.specs.Flags.{due_flags}
 use Rattle.qss_devs.proofs.DueFlags.{length-due, length-flags, flag_from}
 use Rattle.qss_devs.proofs.coupled_branches.first_due_branch.Goals as goal
 

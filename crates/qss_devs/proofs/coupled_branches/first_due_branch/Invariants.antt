@@ -1,5 +1,4 @@
-use Rattle.qss_devs.proofs.Common.{ℕ, ◌+◌, ◌<◌, ◌≡◌, false, flag_at}
-use Rattle.qss_devs.specs.Flags.{due_flags}
+use Rattle.qss_devs.proofs.Common.{ℕ, ◌+◌, ◌<◌, ◌≡◌, due_flags, false, flag_at}
 use Rattle.qss_devs.proofs.coupled_branches.first_due_branch.Given as goal
 
 -- none so far

@@ -1,6 +1,7 @@
 -- A branch is due as the three truth values of its condition say.
 use Rattle.qss_devs.proofs.Common
-use Common.{ℕ, ◌<◌, ◌∙◌, ◌≡◌, Bool, false, flag_at, get_or, get_or_default, length, List, refl, sym, true}
+use Common.{ℕ, ◌<◌, ◌∙◌, ◌≡◌, Bool, false, flag_at, get_or, get_or_default, length, List, refl, sym}
+use Common.{true}
 use Rattle.qss_devs.proofs.DueFlags.{due_of}
 use Rattle.qss_devs.proofs.coupled_branches.is_branch_due.Goals.{then-index-2, else-index-2}
 use Rattle.qss_devs.proofs.coupled_branches.is_branch_due.Goals as goal

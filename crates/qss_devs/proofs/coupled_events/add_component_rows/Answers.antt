@@ -2,7 +2,7 @@
 use Rattle.qss_devs.proofs.Common
 use Common.{◌∙◌, ◌≤◌, ap, arith, IntegratorModel, state_at, state_row, subst, sym}
 use Rattle.qss_events.proofs.EndRows.{row_more}
-use Rattle.qss_devs.proofs.WorldRows.{levels_in, states_in, row_of}
+use Rattle.qss_devs.proofs.SnapshotRows.{levels_in, states_in, row_of}
 use Rattle.qss_devs.proofs.coupled_events.add_component_rows.Goals as goal
 
 pub component_state_row-requires-clause-not_later : goal.component_state_row-requires-clause-not_later

@@ -1,6 +1,6 @@
 use Rattle.qss_devs.proofs.Common
 use Common.{◌++◌, ◌+◌, ◌≡◌, map, range_with_len, state_row, vec_capacity, vec_len}
-use Rattle.qss_devs.proofs.WorldRows.{levels_in, states_in}
+use Rattle.qss_devs.proofs.SnapshotRows.{levels_in, states_in}
 use Rattle.qss_devs.proofs.coupled_events.add_component_rows.Given as goal
 
 -- the rows so far

@@ -1,11 +1,11 @@
 -- Event steps without rows are silent; the first with rows is the next event.
 use Rattle.qss_devs.proofs.Common
-use Common.{[], ◌++◌, ◌∙◌, ◌∷◌, ◌≡◌, ap, AreEventFree, arith, false, IsAllowedLevel, IsStep, refl}
-use Common.{snapshot_of, snapshot_rows, snapshot_unless, StoreRepresents, subst, sym, true}
+use Common.{[], ◌++◌, ◌∙◌, ◌∷◌, ◌≡◌, ap, AreEventFree, arith, false, IsAllowedLevel, IsStep}
+use Common.{overflow_of, refl, snapshot_of, snapshot_rows, snapshot_unless, StoreRepresents, subst}
+use Common.{sym, true}
 use Rattle.qss_machine.specs.Runs.{last_snapshot}
 use Rattle.qss_events.specs.EventFreeRuns.{IsVisit}
 use Rattle.qss_events.proofs.Goings.{visit_on, rows_on, silent_visit}
-use Rattle.qss_hand.specs.Works.{overflow_of}
 use Rattle.qss_events.proofs.SomeRows.{some_rows, no_rows}
 use Rattle.qss_machine.specs.declared.machine_parts.RowKind.TheVariants as kind
 use Rattle.qss_devs.proofs.coupled_events.go_to_next_rows.Goals as goal

@@ -4,8 +4,8 @@ use Common.{ℕ, ◌<◌, ◌∙◌, ◌≡◌, ◌≤◌, All, ap, arith, Bool,
 use Common.{DetectorView, false, firing_flags, FunctionModel, get_or, IntegratorModel}
 use Common.{IsCrossingNext, IsLineNext, length, line_at, List, list_any, None, rises, snapshot_of}
 use Common.{Some, state_count, Store, subst, sym}
-use Rattle.qss_devs.proofs.NextVisits.{some_element, line_of, of_line, watch_of, summing_of_place}
-use Rattle.qss_devs.proofs.NextVisits.{due_of, none_before, are_next}
+use Rattle.qss_devs.proofs.NextTransitions.{some_element, line_of, of_line, detector_of, summing_of_place}
+use Rattle.qss_devs.proofs.NextTransitions.{due_of, none_before, are_next}
 use Rattle.qss_devs.proofs.coupled_events.next_step_tick.Goals as goal
 
 pub has_event_condition_risen-requires : goal.has_event_condition_risen-requires
@@ -38,7 +38,7 @@ returns g c =
           absurd (cc)) in
           let crossings : All (λ (k : CrossingModel). (next : ℕ) → IsCrossingNext k.detector (Some next) → tick < next) c.deref-5.result.now =
           subst (All (λ (k : CrossingModel). (next : ℕ) → IsCrossingNext k.detector (Some next) → tick < next)) (sym c.deref-5.ensures.value)
-          (λ place d h n is. stands.crossings place n (omega (arith, h, stands.fits.parts.crossings)) (subst (λ (w : DetectorView). IsCrossingNext w (Some n)) (sym (watch_of m s.parts stands.fits.parts place d h)) is)) in
+          (λ place d h n is. stands.crossings place n (omega (arith, h, stands.fits.parts.crossings)) (subst (λ (w : DetectorView). IsCrossingNext w (Some n)) (sym (detector_of m s.parts stands.fits.parts place d h)) is)) in
           c.least_advance.ensures.later tick (c.least_advance-second.ensures.later tick (c.least_integrator_leaving-first.ensures.later tick c.requires.tick_limit lines) functions) crossings;
       at_most = omega (arith, c.least_advance.ensures.within, c.least_advance-second.ensures.within, c.least_integrator_leaving-first.ensures.within);
       lines = λ j n h is.
@@ -52,7 +52,7 @@ returns g c =
           let inside : place < length s.parts.crossings.items = omega (arith, h, parts.crossings) in
           let d : CrossingModel = some_element s.parts.crossings.items place inside in
           let before = subst (All (λ (k : CrossingModel). (next : ℕ) → IsCrossingNext k.detector (Some next) → c.least_advance.result ≤ next)) c.deref-5.ensures.value c.least_advance.ensures.not_past in
-          before place d inside n (subst (λ (w : DetectorView). IsCrossingNext w (Some n)) (watch_of m s.parts parts place d inside) is);
+          before place d inside n (subst (λ (w : DetectorView). IsCrossingNext w (Some n)) (detector_of m s.parts parts place d inside) is);
       dues = λ more.
           let parts = stands.fits.parts in
           let r = c.least_advance.result in
@@ -70,13 +70,12 @@ returns g c =
           λ place h.
           let inside : place < length s.parts.crossings.items = omega (arith, h, parts.crossings) in
           let d : CrossingModel = some_element s.parts.crossings.items place inside in
-          subst (λ (w : DetectorView). IsCrossingNext w (get_or dc.0 place None)) (sym (watch_of m s.parts parts place d inside))
+          subst (λ (w : DetectorView). IsCrossingNext w (get_or dc.0 place None)) (sym (detector_of m s.parts parts place d inside))
           (subst (λ (xs : List CrossingModel). (h : place < length xs) → IsCrossingNext (get_or xs place d).detector (get_or dc.0 place None)) c.deref-5.ensures.value (dc.2 place d) inside) in
           let calm : rises (snapshot_of c.args.tick s) ≡ false =
           sym (ap (λ (b : List Bool). list_any (λ flag. flag) (firing_flags b c.deref.result.now b)) c.deref-2.ensures.value
           ∙ ap (λ (a : List Bool). list_any (λ flag. flag) (firing_flags s.truths.after_handlers.items a s.truths.after_handlers.items)) c.deref.ensures.value)
-          ∙ sym c.has_event_condition_risen.ensures ∙ c.if-has_event_condition_risen.false in
-          (
+          ∙ sym c.has_event_condition_risen.ensures ∙ c.if-has_event_condition_risen.false in (
             due_of m c.args.tick (snapshot_of c.args.tick s) s.parts dl.0 dc.0 many count own_lines own_crossings,
             are_next m c.args.tick (snapshot_of c.args.tick s) s.parts dl.0 dc.0 many count own_lines own_crossings calm (λ j t h is. stands.lines j t h is) (λ k t h is. stands.crossings k t h is),
             none_before m c.args.tick (snapshot_of c.args.tick s) s.parts dl.0 dc.0 many count own_lines own_crossings r
@@ -89,6 +88,6 @@ returns g c =
                 let inside : k < length s.parts.crossings.items = omega (arith, h, parts.crossings) in
                 let d : CrossingModel = some_element s.parts.crossings.items k inside in
                 let before = subst (All (λ (x : CrossingModel). (next : ℕ) → IsCrossingNext x.detector (Some next) → c.least_advance.result ≤ next)) c.deref-5.ensures.value c.least_advance.ensures.not_past in
-                before k d inside t (subst (λ (w : DetectorView). IsCrossingNext w (Some t)) (watch_of m s.parts parts k d inside) is)),
+                before k d inside t (subst (λ (w : DetectorView). IsCrossingNext w (Some t)) (detector_of m s.parts parts k d inside) is)),
           );
     }

@@ -1,17 +1,15 @@
 -- The handlers of the next tick.
 use Rattle.qss_devs.proofs.Common
-use Common.{[], ℕ, ℤ, ◌+◌, ◌∙◌, ◌≡◌, ◌≤◌, All, ap, AreRuled, arith, arrived_values, Bool}
-use Common.{Components, conditions, Err, first_exceeding, flag_at, function_state_at, HandlerState}
-use Common.{IntegratorModel, length, line_at, List, map, moved_states, None, refl}
-use Common.{Snapshot, snapshot_of, state_at, Store, subst, sym, truths, with_items, with_items_is}
-use Rattle.std.proofs.Common.{rules}
+use Common.{[], ℤ, ◌+◌, ◌∙◌, ◌≡◌, ◌≤◌, All, ap, AreRuled, arith, arrived_values, Bool, Components}
+use Common.{conditions, Err, first_exceeding, flag_at, function_state_at, HandlerState}
+use Common.{IntegratorModel, length, line_at, List, map, moved_states, None, overflow_of, refl}
+use Common.{rules, Snapshot, snapshot_of, state_at, Store, subst, sym, truths, with_items_is}
 use Rattle.qss_hand.specs.Values.{Values as Kept}
-use Rattle.qss_hand.specs.Works.{overflow_of}
 use Rattle.qss_devs.proofs.Arrivals.{arrival_over, arrived_agree, arrived_each, arrived_states}
 use Rattle.qss_devs.proofs.Arrivals.{arrived_truths, arrived_ready, begun, begun_fits, handled_is}
 use Rattle.qss_devs.proofs.Arrivals.{crossing_timely, crossing_held}
 use Rattle.qss_devs.proofs.Overs.{no_overflow}
-use Rattle.qss_devs.proofs.WorldRows.{lines_early}
+use Rattle.qss_devs.proofs.SnapshotRows.{lines_early}
 use Rattle.qss_devs.proofs.coupled_events.run_handlers_of_tick.Goals as goal
 
 pub overflow_add-next : goal.overflow_add-next
@@ -168,7 +166,7 @@ returns g c =
         states = ap (λ (u : Kept). u.x) fired.values ∙ ap (λ (h : HandlerState). h.states) handled;
         discretes = ap (λ (u : Kept). u.d) fired.values ∙ ap (λ (h : HandlerState). h.discretes) handled;
         log = ap (λ (u : Kept). u.log) fired.values ∙ ap (λ (h : HandlerState). h.rows) handled;
-        told = fired.told;
+        messages = fired.messages;
         count = fired.count;
         current = now_is;
       };

@@ -1,8 +1,5 @@
 -- The handlers of a tick, and what follows from them.
-use Rattle.qss_devs.proofs.Common
-use Common.{◌+◌, ◌∙◌, ◌≡◌, ap, arith, Err, None, refl, snapshot_of, sym}
-use Rattle.std.proofs.Common.{rules}
-use Rattle.qss_hand.specs.Works.{overflow_of}
+use Rattle.qss_devs.proofs.Common.{◌+◌, ◌∙◌, ◌≡◌, arith, Err, refl, rules, snapshot_of}
 use Rattle.qss_devs.proofs.Arrivals.{over_step}
 use Rattle.qss_devs.proofs.Overs.{no_overflow}
 use Rattle.qss_devs.proofs.coupled_events.run_next_tick.Goals as goal

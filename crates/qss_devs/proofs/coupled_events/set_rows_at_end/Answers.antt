@@ -1,6 +1,6 @@
 -- The rows are those of the snapshot.
 use Rattle.qss_devs.proofs.Common.{◌∙◌, ◌≤◌, All, ap, arith, IntegratorModel, length, subst, sym}
-use Rattle.qss_devs.proofs.WorldRows.{rows_at, lines_early}
+use Rattle.qss_devs.proofs.SnapshotRows.{rows_at, lines_early}
 use Rattle.qss_machine.specs.declared.machine_parts.RowKind.TheVariants as kind
 use Rattle.qss_devs.proofs.coupled_events.set_rows_at_end.Goals as goal
 

@@ -4,7 +4,7 @@ use Common.{ℕ, ◌+◌, ◌-◌, ◌<◌, ◌∙◌, ◌≡◌, ap, AreEventFr
 use Common.{if◌then◌else◌, IsAllowedLevel, nat_lt, quiet_worlds, refl, snapshot_of, Store}
 use Common.{StoreRepresents, subst, sym, Vec, with_items, with_items_is}
 use Rattle.qss_events.proofs.Silences.{arrived_if}
-use Rattle.qss_devs.proofs.Coasting.{Dues, with_arrived, world_then, stands_then, silent_then}
+use Rattle.qss_devs.proofs.Coasting.{Dues, with_arrived, snapshot_then, stands_then, silent_then}
 use Rattle.qss_devs.proofs.coupled_events.skip_event_free_ticks.Goals as goal
 
 pub overflow_sub-result : goal.overflow_sub-result
@@ -32,7 +32,7 @@ returns g c =
     ∙ ap (λ b. if nat_lt (tick + 1) next then b else c.deref_mut.result.now) c.deref.ensures.value
     ∙ ap (λ a. if nat_lt (tick + 1) next then s.truths.after_handlers.items else a) c.deref_mut.ensures.value
     ∙ arrived_if tick next k s.truths.at_arrival.items s.truths.after_handlers.items e later in
-    let snapshot = world_then m name tick s c.requires.represents_snapshot k at_arrival is in
+    let snapshot = snapshot_then m name tick s c.requires.represents_snapshot k at_arrival is in
     record {
       later = omega (arith, later);
       before = omega (arith, later, c.next_step_tick-next.ensures.at_most);

@@ -1,20 +1,17 @@
 -- A tick, after its handlers.
 use Rattle.qss_devs.proofs.Common
-use Common.{Snapshot, Err, FitsMachine, ℕ, ◌∙◌, ◌≡◌, All, ap, AreRuled, AreTaken, arith, compares, CrossingModel, length, length-map, List, map, None, Option, refl, Row, Rule, Some, Store, subst, sym}
-use Rattle.std.proofs.Common.{rules}
-use Rattle.qss_hand.specs.declared.handler_statements.Over.{Over}
-use Rattle.qss_hand.specs.Works.{overflow_of}
-use Rattle.qss_devs.specs.CoupledEvents.{IsAfterHandlers}
+use Common.{◌∙◌, ◌≡◌, ap, AreRuled, AreTaken, arith, compares, CrossingModel, Err, FitsMachine}
+use Common.{IsAfterHandlers, length, length-map, map, None, overflow_of, refl, rules, Snapshot}
+use Common.{Some, Store, sym}
 use Rattle.qss_devs.proofs.Overs.{no_overflow}
 use Rattle.qss_devs.proofs.TickEnds.{handled, handled_fits, handled_agree, levels_step}
-use Rattle.qss_devs.proofs.TickEnds.{taken_values, taken_agree, taken_fits, slopes_step}
-use Rattle.qss_devs.proofs.TickEnds.{ends_tick}
+use Rattle.qss_devs.proofs.TickEnds.{taken_values, taken_agree, taken_fits, slopes_step, ends_tick}
 use Rattle.qss_devs.proofs.coupled_events.update_components.Goals as goal
 
 pub send_assigned_messages-requires : goal.send_assigned_messages-requires
 send_assigned_messages-requires g c =
     let h = c.requires.handled.1 in
-    record { parts = h.fits.parts; ready = h.ready; told = h.told }
+    record { parts = h.fits.parts; ready = h.ready; messages = h.messages }
 
 pub list_handler_rows-requires : goal.list_handler_rows-requires
 list_handler_rows-requires g c =

@@ -1,8 +1,7 @@
 -- The event-free ticks, and then the event step.
 use Rattle.qss_devs.proofs.Common
-use Common.{◌+◌, ◌∙◌, ap, IsAllowedLevel, IsStep, snapshot_of, snapshot_unless, subst, sym}
-use Common.{tick_rows}
-use Rattle.qss_hand.specs.Works.{overflow_of}
+use Common.{◌+◌, ◌∙◌, ap, IsAllowedLevel, IsStep, overflow_of, snapshot_of, snapshot_unless, subst}
+use Common.{sym, tick_rows}
 use Rattle.qss_devs.proofs.coupled_events.visit_next_step.Goals as goal
 
 pub returns-clause-visited : goal.returns-clause-visited

@@ -89,16 +89,16 @@ loop-k-preserved c =
           k (pos 0);
       value = c.start_input_value-value.result;
     } in
-    let told : map items c.add_start_input.new.lists.items ≡ set old row
+    let pushed : map items c.add_start_input.new.lists.items ≡ set old row
     (get_or old row [] ++ input ∷ []) = simp to_z-of_z at c.in_ok-add_start_input.ensures in
     let many : length old ≡ state_count m = length-map c.loop-k.lists.items items ∙
     c.loop-k.invariant.count in
     record {
-      count = sym (length-map c.add_start_input.new.lists.items items) ∙ ap length told ∙ length-set
+      count = sym (length-map c.add_start_input.new.lists.items items) ∙ ap length pushed ∙ length-set
           old row (get_or old row [] ++ input ∷ []) ∙ many;
       written = subst (λ (now : List (List FunctionInput)). IsWritten []
           (AreFirstInputs m (var + 1)) (take (k + 1) list) (map items c.args.lists.now.items) now)
-          (sym told)
+          (sym pushed)
           (row_more m var list rows (map items c.args.lists.now.items) old many c.requires.before k
           input inside c.loop-k.invariant.written refl coef c.start_input_value-value.ensures);
     }

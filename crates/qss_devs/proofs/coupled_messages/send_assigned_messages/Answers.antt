@@ -1,7 +1,7 @@
 -- One more row is sent.
 use Rattle.qss_devs.proofs.Common
 use Common.{Agrees, get_or, get_or_default, pos, Row, subst, take, Values, values_after_rows}
-use Rattle.qss_devs.proofs.AgreeTold.{rows_each, told_more}
+use Rattle.qss_devs.proofs.AgreementAfterMessage.{rows_each, row_more}
 use Rattle.qss_machine.specs.declared.machine_parts.RowKind.TheVariants as kind
 use Rattle.qss_devs.proofs.coupled_messages.send_assigned_messages.Goals as goal
 
@@ -29,6 +29,6 @@ loop-row-preserved g c = record {
       let i = c.loop-row.row-index in
       let row : Row = get_or items i (record { tick = 0; kind = kind.Start; var = 0; level = pos 0; state = pos 0 }) in
       subst (λ (u : Values). Agrees c.args.m.now c.args.tick u c.send_row_messages.new.parts)
-      (told_more c.args.m.now v items i row c.loop-row-test.true (get_or_default items i (record { tick = 0; kind = kind.Start; var = 0; level = pos 0; state = pos 0 }) row c.loop-row-test.true))
+      (row_more c.args.m.now v items i row c.loop-row-test.true (get_or_default items i (record { tick = 0; kind = kind.Start; var = 0; level = pos 0; state = pos 0 }) row c.loop-row-test.true))
       (c.send_row_messages.ensures.agree (values_after_rows c.args.m.now v (take i items)) (rows_each c.args.m.now v (take i items) each) (c.loop-row.invariant.agree v each a));
 }

@@ -1,10 +1,11 @@
 -- The functions and the crossings that read a discrete value receive the message.
 use Rattle.qss_devs.proofs.Common
 use Common.{[], ℕ, ◌+◌, ◌∙◌, ◌≡◌, All, ap, AreRisingBelow, arith, condition_numbers}
-use Common.{conditions_kept, conditions_many, crossing_after_message, crossing_of, CrossingModel, function_after_message, no_crossing, no_summing, discrete_count}
-use Common.{function_state_of, FunctionModel, get_or, IsCrossingReady, IsSummingReady, length}
-use Common.{reading_conditions, reading_numbers, reading_rows, refl, rows_kept, rows_many, subst}
-use Common.{sym, with_items, with_items_is}
+use Common.{conditions_kept, conditions_many, crossing_after_message, crossing_of, CrossingModel}
+use Common.{discrete_count, function_after_message, function_state_of, FunctionModel, get_or}
+use Common.{IsCrossingReady, IsSummingReady, length, no_crossing, no_summing, reading_conditions}
+use Common.{reading_numbers, reading_rows, refl, rows_kept, rows_many, subst, sym, with_items}
+use Common.{with_items_is}
 use Rattle.qss_devs.proofs.OneTransition.{functions_are_ready, crossings_are_ready}
 use Rattle.qss_devs.proofs.MessageDelivery.{states_moved}
 use Rattle.qss_devs.proofs.MessagesReceived.{discrete_received}

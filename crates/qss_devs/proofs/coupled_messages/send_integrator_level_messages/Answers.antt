@@ -1,8 +1,7 @@
 -- One more integrator makes its transition.
 use Rattle.qss_devs.proofs.Common
-use Common.{ℕ, ◌<◌, ◌∙◌, ◌≡◌, ap, AreTakenUpTo, arith, cases_eq, Err, inl, inr}
-use Common.{IsLineNext, length, leveled, Line, line_at, refl, Some, state_count, subst, sym}
-use Rattle.std.proofs.Common.{rules}
+use Common.{ℕ, ◌<◌, ◌∙◌, ◌≡◌, ap, arith, cases_eq, Err, inl, inr, IsLineNext, length, leveled, Line}
+use Common.{line_at, refl, rules, Some, state_count, subst}
 use Rattle.qss_devs.proofs.Overs.{no_overflow}
 use Rattle.qss_devs.proofs.LevelsTaken.{taken_none, taken_more, taken_all, taken_over}
 use Rattle.qss_devs.proofs.LevelsTaken.{leveled_values}
@@ -81,7 +80,7 @@ loop-j-preserved g c =
           let step = sent.taken rule (leveled m rule v j) now fits before.agree in
           taken_more before (rw was at step);
       later = λ i next below found. elim (cases_eq i j) [
-        | inl e ↦ 
+        | inl e ↦
             sent.later next (rw was refl)
             (subst (λ (k : ℕ). IsLineNext m k (line_at c.send_integrator_level_message.new.parts k) (Some next)) e found)
         | inr ne ↦

@@ -1,8 +1,8 @@
 -- The functions that read a level receive the message.
 use Rattle.qss_devs.proofs.Common
-use Common.{◌∙◌, ◌≡◌, All, ap, AreRisingBelow, arith, function_after_message, function_state_of, no_summing, FunctionModel}
-use Common.{IsSummingReady, length, reading_numbers, reading_rows, refl, rows_kept, rows_many}
-use Common.{subst, sym, with_items_is}
+use Common.{◌∙◌, ◌≡◌, All, ap, AreRisingBelow, arith, function_after_message, function_state_of}
+use Common.{FunctionModel, IsSummingReady, length, no_summing, reading_numbers, reading_rows, refl}
+use Common.{rows_kept, rows_many, subst, sym, with_items_is}
 use Rattle.qss_devs.proofs.OneTransition.{functions_are_ready}
 use Rattle.qss_devs.proofs.MessageDelivery.{states_moved}
 use Rattle.qss_devs.proofs.MessagesReceived.{level_received}

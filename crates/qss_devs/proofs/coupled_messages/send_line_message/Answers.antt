@@ -1,9 +1,9 @@
 -- An integrator and the crossings that read its state receive the message.
 use Rattle.qss_devs.proofs.Common
 use Common.{◌∙◌, ◌≡◌, All, ap, AreRisingBelow, arith, condition_numbers, conditions_kept}
-use Common.{conditions_many, crossing_after_message, crossing_of, no_crossing, CrossingModel, get_or, IntegratorModel, IsCrossingReady}
-use Common.{IsGivenLine, IsLineNext, IsTimely, length, List, reading_conditions, refl, set, subst}
-use Common.{sym, with_items_is}
+use Common.{conditions_many, crossing_after_message, crossing_of, CrossingModel, get_or}
+use Common.{IntegratorModel, IsCrossingReady, IsGivenLine, IsLineNext, IsTimely, length, List}
+use Common.{no_crossing, reading_conditions, refl, set, subst, sym, with_items_is}
 use Rattle.qss_devs.proofs.OneTransition.{integrators_timely, integrators_own, crossings_are_ready}
 use Rattle.qss_devs.proofs.MessageDelivery.{states_moved}
 use Rattle.qss_devs.proofs.MessagesReceived.{line_received}
@@ -43,15 +43,15 @@ returns g c =
     let m = c.args.m.now in
     let old = c.args.parts.now in
     let var = c.args.var in
-    let told = c.send_to_integrator_model.ensures in
+    let received = c.send_to_integrator_model.ensures in
     let integrators = with_items_is old.integrators c.send_to_integrator_model.new.integrators (c.send_to_integrator_model.auto.integrators ∙ c.deref_mut.ensures.len) in
     let crossings = with_items_is old.crossings c.send_message_to_crossings.new.crossings (c.send_message_to_crossings.auto.crossings ∙ c.deref_mut-2.ensures.len) in
     let reads : c.conditions_of-places.result.now ≡ reading_conditions m var =
     c.conditions_of-places.ensures ∙ conditions_kept m old.uses c.requires.parts.uses var (omega (arith, c.requires.known)) in
     line_received m c.args.tick var c.args.msg old _ c.requires.parts c.requires.ready
-    c.requires.message c.conditions_of-places.result.now told.0 c.requires.own c.requires.known reads
-    (integrators ∙ told.1 ∙ ap (λ (xs : List (IntegratorModel _ _)). set xs var told.0) c.deref_mut.ensures.value)
-    (subst (λ (xs : List (IntegratorModel _ _)). IsGivenLine (get_or xs var told.0) c.args.tick c.args.msg told.0) c.deref_mut.ensures.value told.2)
+    c.requires.message c.conditions_of-places.result.now received.0 c.requires.own c.requires.known reads
+    (integrators ∙ received.1 ∙ ap (λ (xs : List (IntegratorModel _ _)). set xs var received.0) c.deref_mut.ensures.value)
+    (subst (λ (xs : List (IntegratorModel _ _)). IsGivenLine (get_or xs var received.0) c.args.tick c.args.msg received.0) c.deref_mut.ensures.value received.2)
     refl refl (subst (All (λ (k : CrossingModel). k.machine.value ≡ m)) (sym crossings) c.send_message_to_crossings.ensures.machines)
     (states_moved crossing_of (λ (k : CrossingModel). k.machine.value) no_crossing (λ n k. crossing_after_message n k c.args.tick c.args.msg)
     m c.conditions_of-places.result.now c.deref_mut-2.result.now old.crossings.items c.send_message_to_crossings.new.crossings _ c.deref_mut-2.ensures.value (sym crossings) c.send_message_to_crossings.ensures.received)

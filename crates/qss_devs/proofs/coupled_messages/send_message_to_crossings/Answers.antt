@@ -1,10 +1,10 @@
 -- One more crossing receives the message.
 use Rattle.qss_devs.proofs.Common
-use Common.{All-set, IsCrossingReady, ◌<◌, ◌≡◌, AreSmallAt, arith, crossing_after_message, crossing_of, CrossingModel, get_or}
-use Common.{get_or_default, IsMessage, length, List, Machine, map, no_crossing, refl, subst, sym}
-use Common.{written_all}
+use Common.{◌<◌, ◌≡◌, All-set, AreSmallAt, arith, crossing_after_message, crossing_of}
+use Common.{CrossingModel, get_or, get_or_default, IsCrossingReady, IsMessage, length, List}
+use Common.{Machine, map, no_crossing, refl, subst, sym, written_all}
 use Rattle.qss_devs.proofs.MessageDelivery.{states_more, machines_stay, crossing_timely}
-use Rattle.qss_devs.proofs.ToldAgain.{crossing_ready_given}
+use Rattle.qss_devs.proofs.ReadyAfterMessage.{crossing_ready_given}
 use Rattle.qss_devs.proofs.coupled_messages.send_message_to_crossings.Goals as goal
 
 pub loop-place-init : goal.loop-place-init

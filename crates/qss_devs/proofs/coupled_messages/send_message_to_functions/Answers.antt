@@ -1,10 +1,10 @@
 -- One more function receives the message.
 use Rattle.qss_devs.proofs.Common
-use Common.{All-set, IsSummingReady, ◌<◌, ◌≡◌, arith, function_after_message, function_state_of, FunctionModel, get_or}
-use Common.{get_or_default, IsMessage, length, List, Machine, map, no_summing, refl, subst, sym}
-use Common.{written_all}
+use Common.{◌<◌, ◌≡◌, All-set, arith, function_after_message, function_state_of, FunctionModel}
+use Common.{get_or, get_or_default, IsMessage, IsSummingReady, length, List, Machine, map}
+use Common.{no_summing, refl, subst, sym, written_all}
 use Rattle.qss_devs.proofs.MessageDelivery.{states_more, machines_stay, function_timely}
-use Rattle.qss_devs.proofs.ToldAgain.{summing_ready_given}
+use Rattle.qss_devs.proofs.ReadyAfterMessage.{summing_ready_given}
 use Rattle.qss_devs.proofs.coupled_messages.send_message_to_functions.Goals as goal
 
 pub loop-place-init : goal.loop-place-init

@@ -1,12 +1,12 @@
 -- A function that is due sends its sum.
 use Rattle.qss_devs.proofs.Common
-use Common.{ℕ, ◌<◌, ◌∙◌, ◌≡◌, AreComponents, Components, FunctionModel, get_or, Machine, refl, state_count, sym}
+use Common.{ℕ, ◌<◌, ◌∙◌, ◌≡◌, AreComponents, Components, FunctionModel, get_or, Machine, refl}
+use Common.{state_count, sym}
 use Rattle.std.specs.Vec.{with_item}
 use Rattle.qss_devs.proofs.OneTransition.{HasNewFunction}
 use Rattle.qss_devs.proofs.FunctionTransition.{same_summings, same_parts, same_ready, same_later}
 use Rattle.qss_devs.proofs.FunctionTransition.{rests_sent, exceeds_sent, slope_parts, slope_ready}
-use Rattle.qss_devs.proofs.FunctionTransition.{slope_message, slope_others, slope_sent}
-use Rattle.qss_devs.proofs.FunctionTransition.{slope_later}
+use Rattle.qss_devs.proofs.FunctionTransition.{slope_message, slope_others, slope_sent, slope_later}
 use Rattle.qss_devs.proofs.coupled_messages.send_slope_message.Goals as goal
 
 -- the function that was borrowed is replaced

@@ -1,7 +1,6 @@
 -- One more function makes its transition.
 use Rattle.qss_devs.proofs.Common
-use Common.{ℕ, ◌<◌, ◌≡◌, ap, arith, Err, length, refl, sloped, state_count}
-use Rattle.std.proofs.Common.{rules}
+use Common.{◌<◌, ◌≡◌, ap, arith, Err, length, refl, rules, sloped, state_count}
 use Rattle.qss_devs.proofs.Overs.{no_overflow}
 use Rattle.qss_devs.proofs.SlopesSent.{sent_none, sent_more, sent_all, sent_over, sloped_values}
 use Rattle.qss_devs.proofs.coupled_messages.send_slope_messages.Goals as goal

@@ -53,7 +53,7 @@ loop-branch-preserved c =
     (rw c.deref-m.ensures at c.branch_condition-condition.ensures.value) ∙ sym (own_condition m i b c.requires.known inside) ∙ ap (condition_at m) (sym inv.as_many) in
     let count : c.len-next.result ≡ place = omega (arith, c.len-next.ensures, c.loop-branch.crossings.ok.0) in
     let inputs : c.in_ok-inputs.inputs.items ≡ map (first_input m (start_values m)) condition.form.entries = (rw c.deref-m.ensures at c.in_ok-inputs.ensures) in
-    let watch_of : List Input → DetectorView = λ xs. record {
+    let detector_of : List Input → DetectorView = λ xs. record {
       rel = condition.rel;
       tick = 0;
       value = form_at m xs condition.form.time condition.form.gamma 0;
@@ -64,8 +64,8 @@ loop-branch-preserved c =
       machine = c.start_coupled_crossing-crossing.ensures.machine ∙ c.in_ok-machine.ensures.cases;
       crossing = c.start_coupled_crossing-crossing.ensures.crossing
           ∙ ap (λ n. record { place = n; detector = c.start_coupled_detector-detector.result; inputs = c.in_ok-inputs.inputs.items; time = condition.form.time; gamma = condition.form.gamma }) count
-          ∙ ap (λ (w : DetectorView). crossing_with w c.in_ok-inputs.inputs.items) ((rw c.deref-m.ensures at c.start_coupled_detector-detector.ensures) ∙ ap watch_of (c.deref.ensures.value ∙ inputs))
-          ∙ ap (crossing_with (watch_of (map (first_input m (start_values m)) condition.form.entries))) inputs;
+          ∙ ap (λ (w : DetectorView). crossing_with w c.in_ok-inputs.inputs.items) ((rw c.deref-m.ensures at c.start_coupled_detector-detector.ensures) ∙ ap detector_of (c.deref.ensures.value ∙ inputs))
+          ∙ ap (crossing_with (detector_of (map (first_input m (start_values m)) condition.form.entries))) inputs;
     } in
     let here : IsFirstAt m place c.start_coupled_crossing-crossing.result = subst (λ (k : Condition). IsFirstCrossing m place k c.start_coupled_crossing-crossing.result) own first in
     record {

@@ -17,37 +17,23 @@ overflow_cast-row c = omega (
   c.args.m.now.has_variables.few,
 )
 
-pub start_coupled_function-function-requires-clause-known : goal.start_coupled_function-function-requires-clause-known
-start_coupled_function-function-requires-clause-known c =
-    let known : c.loop-j.j < state_count c.args.m.now = omega (
-      arith,
-      c.loop-j-test.true,
-      c.len-j-end.ensures,
-      c.in_ok-lists.lists.ok.0,
-      c.in_ok-lists.ensures.count,
-    ) in
-    subst (λ (m : Machine). c.loop-j.j < state_count m) (sym (c.in_ok-machine.ensures.cases ∙ c.requires.same)) known
-
-pub start_coupled_function-function-requires-clause-inputs :
-    goal.start_coupled_function-function-requires-clause-inputs
-start_coupled_function-function-requires-clause-inputs c =
+pub start_coupled_function-function-requires : goal.start_coupled_function-function-requires
+start_coupled_function-function-requires c =
     let m = c.args.m.now in
     let j = c.loop-j.j in
-    let known : j < state_count m = omega (
-      arith,
-      c.loop-j-test.true,
-      c.len-j-end.ensures,
-      c.in_ok-lists.lists.ok.0,
-      c.in_ok-lists.ensures.count,
-    ) in
+    let known : j < state_count m =
+    omega (arith, c.loop-j-test.true, c.len-j-end.ensures, c.in_ok-lists.lists.ok.0, c.in_ok-lists.ensures.count) in
     let items : List FunctionInput = c.replace-inputs.result.items in
     let first : AreFirstInputs m (state_count m + discrete_count m) j items =
     subst (λ (list : Vec FunctionInput Global). AreFirstInputs m (state_count m + discrete_count m)
     j list.items) (sym (c.replace-inputs.ensures.value ∙ c.index_mut.ensures.value))
     (c.loop-j.invariant.rest j c.index_mut.result.now (omega arith)
     (omega (arith, known, c.loop-j.invariant.count))) in
-    subst (λ (t : Machine). AreInputs t j items) (sym (c.in_ok-machine.ensures.cases ∙ c.requires.same))
-    (all_inputs m j known items first)
+    let same = sym (c.in_ok-machine.ensures.cases ∙ c.requires.same) in
+    record {
+      known = subst (λ (n : Machine). j < state_count n) same known;
+      inputs = subst (λ (n : Machine). AreInputs n j items) same (all_inputs m j known items first);
+    }
 
 pub loop-j-init : goal.loop-j-init
 loop-j-init c = record {
@@ -71,13 +57,7 @@ loop-j-preserved c =
     let m = c.args.m.now in
     let j = c.loop-j.j in
     let lists : List (Vec FunctionInput Global) = c.loop-j.lists.items in
-    let known : j < state_count m = omega (
-      arith,
-      c.loop-j-test.true,
-      c.len-j-end.ensures,
-      c.in_ok-lists.lists.ok.0,
-      c.in_ok-lists.ensures.count,
-    ) in
+    let known : j < state_count m = omega (arith, c.loop-j-test.true, c.len-j-end.ensures, c.in_ok-lists.lists.ok.0, c.in_ok-lists.ensures.count) in
     let items : List FunctionInput = c.replace-inputs.result.items in
     let first : AreFirstInputs m (state_count m + discrete_count m) j items =
     subst (λ (list : Vec FunctionInput Global). AreFirstInputs m (state_count m + discrete_count m)
@@ -98,15 +78,13 @@ loop-j-preserved c =
             row = j;
             tick = 0;
             levels = ls;
-            discretes =
-                input_discretes m items;
+            discretes = input_discretes m items;
             changed = None;
           }) (all_levels m j known items first)
           ∙ ap (λ (ds : List ℤ). record {
             row = j;
             tick = 0;
-            levels = read_levels m j
-                (start_values m).levels;
+            levels = read_levels m j (start_values m).levels;
             discretes = ds;
             changed = None;
           })
@@ -122,8 +100,7 @@ loop-j-preserved c =
           let old : row < length lists = omega (
             arith,
             inside,
-            length-set lists j
-                c.replace-inputs.new.dest,
+            length-set lists j c.replace-inputs.new.dest,
           ) in
           subst (λ (list : Vec FunctionInput Global). AreFirstInputs m
           (state_count m + discrete_count m) row list.items)
@@ -134,8 +111,7 @@ loop-j-preserved c =
         arith,
         c.push_reserved.ensures.capacity,
         inv.room,
-        length-set lists j
-            c.replace-inputs.new.dest,
+        length-set lists j c.replace-inputs.new.dest,
       );
     }
 

@@ -81,8 +81,8 @@ module _ (m : Machine) (tick var : ℕ) (value : ℤ) where
   inputs_twice [] = refl
   inputs_twice (i ∷ inputs) = ap (λ (r : Input). r ∷ map given (map given inputs)) (input_twice i) ∙ ap (λ (rest : List Input). given i ∷ rest) (inputs_twice inputs)
 
-  pub told_twice : (c : Crossing) → crossing_after_message m (crossing_after_message m c tick (Discrete var value)) tick (Discrete var value) ≡ crossing_after_message m c tick (Discrete var value)
-  told_twice c =
+  pub received_twice : (c : Crossing) → crossing_after_message m (crossing_after_message m c tick (Discrete var value)) tick (Discrete var value) ≡ crossing_after_message m c tick (Discrete var value)
+  received_twice c =
       ap (λ (inputs : List Input). record c {
         detector = record { rel = c.detector.rel; tick = tick; value = form_at m inputs c.time c.gamma tick; speed = speed_by m inputs c.time };
         inputs = inputs;

@@ -34,8 +34,8 @@ module _ {X : Type 0} {g : _} (m : Machine) (parts : Components X g) (are : AreC
       subst (λ (n : Machine). IsLineNext n i.var i.line next) (sym own.machine)
       (subst (λ (v : ℕ). IsLineNext m v i.line next) (sym own.own) (subst (λ (l : Line). IsLineNext m j l next) line is))
 
-  pub watch_of : (place : ℕ) (d : CrossingModel) → place < length parts.crossings.items → (crossing_at parts place).detector ≡ (get_or parts.crossings.items place d).detector
-  watch_of place d h = ap (λ (c : Crossing). c.detector) (get_or-map crossing_of parts.crossings.items place d no_crossing h)
+  pub detector_of : (place : ℕ) (d : CrossingModel) → place < length parts.crossings.items → (crossing_at parts place).detector ≡ (get_or parts.crossings.items place d).detector
+  detector_of place d h = ap (λ (c : Crossing). c.detector) (get_or-map crossing_of parts.crossings.items place d no_crossing h)
 
 -- a function's next transition by its place
 pub summing_of_place : {X : Type 0} {g : _} (parts : Components X g) (j : ℕ) (d : FunctionModel) → j < length parts.functions.items → (function_state_at parts j).changed ≡ (get_or parts.functions.items j d).changed

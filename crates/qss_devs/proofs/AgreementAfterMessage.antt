@@ -24,15 +24,15 @@ agree_same m tick v line now_line s now_s c now_c lines functions crossings a = 
 
 module _ {X : Type 0} {g : _} (m : Machine) (tick : ℕ) (v : Values) (each : HasEach m v) (old new : Components X g) where
   pub agree_state : (var : ℕ) (state : ℤ) → var < state_count m → HaveReceived m tick (State var state) old new → Agrees m tick v old → Agrees m tick (values_after_message m v (State var state)) new
-  agree_state var state known told a =
+  agree_state var state known received a =
       agree_same m tick (values_after_message m v (State var state)) (lines_given tick (State var state) (line_at old)) (line_at new) (function_state_at old) (function_state_at new)
-      (crossings_given m tick (State var state) (crossing_at old)) (crossing_at new) told.lines told.functions told.crossings
+      (crossings_given m tick (State var state) (crossing_at old)) (crossing_at new) received.lines received.functions received.crossings
       (messages_keep_agreement.state m tick var state v (line_at old) (function_state_at old) (crossing_at old) each known a)
 
   pub agree_discrete : (var : ℕ) (value : ℤ) → IsMessage m (Discrete var value) → HaveReceived m tick (Discrete var value) old new → Agrees m tick v old → Agrees m tick (values_after_message m v (Discrete var value)) new
-  agree_discrete var value is told a =
+  agree_discrete var value is received a =
       agree_same m tick (values_after_message m v (Discrete var value)) (line_at old) (line_at new) (functions_given m tick (Discrete var value) (function_state_at old)) (function_state_at new)
-      (crossings_given m tick (Discrete var value) (crossing_at old)) (crossing_at new) told.lines told.functions told.crossings
+      (crossings_given m tick (Discrete var value) (crossing_at old)) (crossing_at new) received.lines received.functions received.crossings
       (messages_keep_agreement.discrete m tick var value v (line_at old) (function_state_at old) (crossing_at old) each is a)
 
   -- where a state's integrator took the level before it was sent
@@ -41,11 +41,11 @@ module _ {X : Type 0} {g : _} (m : Machine) (tick : ℕ) (v : Values) (each : Ha
       line_at mid var ≡ record { tick = tick; x = state_at (line_at old var) tick; slope = (line_at old var).slope; level = level } →
       ((j : ℕ) → function_state_at mid j ≡ function_state_at old j) → ((place : ℕ) → crossing_at mid place ≡ crossing_at old place) →
       Agrees m tick (values_after_message m v (Level var level)) new
-  agree_level var level mid known told a others own functions crossings =
+  agree_level var level mid known received a others own functions crossings =
       agree_same m tick (values_after_message m v (Level var level)) (line_at mid) (line_at new) (functions_given m tick (Level var level) (function_state_at old)) (function_state_at new)
-      (crossing_at old) (crossing_at new) told.lines
-      (λ j h. told.functions j h ∙ ap (λ (s : FunctionState). functions_given m tick (Level var level) (λ k. s) j) (functions j))
-      (λ place h. told.crossings place h ∙ crossings place)
+      (crossing_at old) (crossing_at new) received.lines
+      (λ j h. received.functions j h ∙ ap (λ (s : FunctionState). functions_given m tick (Level var level) (λ k. s) j) (functions j))
+      (λ place h. received.crossings place h ∙ crossings place)
       (messages_keep_agreement.level m tick var level v (line_at old) (line_at mid) (function_state_at old) (crossing_at old) each known a others own)
 
   -- where a function made its transition before its sum was sent
@@ -53,12 +53,12 @@ module _ {X : Type 0} {g : _} (m : Machine) (tick : ℕ) (v : Values) (each : Ha
       ((j : ℕ) → line_at mid j ≡ line_at old j) → ((j : ℕ) → j ≢ var → function_state_at mid j ≡ function_state_at old j) →
       function_state_at mid var ≡ summing_sent (function_state_at old var) tick → ((place : ℕ) → crossing_at mid place ≡ crossing_at old place) →
       Agrees m tick (values_after_message m v (Slope var (sum_of m (function_state_at old var)))) new
-  agree_slope var mid known told a lines others own crossings =
+  agree_slope var mid known received a lines others own crossings =
       let sum = sum_of m (function_state_at old var) in
       agree_same m tick (values_after_message m v (Slope var sum)) (lines_given tick (Slope var sum) (line_at old)) (line_at new) (function_state_at mid) (function_state_at new)
       (crossings_given m tick (Slope var sum) (crossing_at old)) (crossing_at new)
-      (λ j h. told.lines j h ∙ ap (λ (l : Line). lines_given tick (Slope var sum) (λ k. l) j) (lines j)) told.functions
-      (λ place h. told.crossings place h ∙ ap (λ (c : Crossing). crossings_given m tick (Slope var sum) (λ k. c) place) (crossings place))
+      (λ j h. received.lines j h ∙ ap (λ (l : Line). lines_given tick (Slope var sum) (λ k. l) j) (lines j)) received.functions
+      (λ place h. received.crossings place h ∙ ap (λ (c : Crossing). crossings_given m tick (Slope var sum) (λ k. c) place) (crossings place))
       (messages_keep_agreement.slope m tick var v (line_at old) (function_state_at old) (function_state_at mid) (crossing_at old) each known a others own)
 
 -- ---- rows
@@ -98,8 +98,8 @@ rows_each m v [] each = each
 rows_each m v (row ∷ rows) each = rows_each m (values_after_row m v row.kind row) rows (kind_each m v row.kind row each)
 
 -- one row more
-pub told_more : (m : Machine) (v : Values) (rows : List Row) (i : ℕ) (row : Row) → i < length rows → row ≡ get_or rows i row →
+pub row_more : (m : Machine) (v : Values) (rows : List Row) (i : ℕ) (row : Row) → i < length rows → row ≡ get_or rows i row →
     values_after_row m (values_after_rows m v (take i rows)) row.kind row ≡ values_after_rows m v (take (i + 1) rows)
-told_more m v rows i row h is =
+row_more m v rows i row h is =
     ap (λ (r : Row). values_after_row m (values_after_rows m v (take i rows)) r.kind r) is
     ∙ sym (fold_more (λ (values : Values) (r : Row). values_after_row m values r.kind r) v rows i row h)
