@@ -78,7 +78,7 @@ pub use Rattle.qss_events.proofs.Silences.{arrived_then, quiet_worlds}
 pub use Rattle.qss_events.proofs.Starts.{count_start, levels_at_start, levels_start}
 pub use Rattle.qss_events.specs.AllowedLevels.{IsAllowedLevel}
 pub use Rattle.qss_events.specs.EventFreeRuns.{AreEventFree}
-pub use Rattle.qss_events.specs.EventFreeTicks.{MayFollowTick, snapshot_after}
+pub use Rattle.qss_events.specs.EventFreeTicks.{snapshot_after}
 pub use Rattle.qss_events.specs.RunViews.{RunView}
 pub use Rattle.qss_events.specs.Schedules.{condition_at, HasNoEventBefore, LeavesAt, no_line}
 pub use Rattle.qss_events.specs.Schedules.{no_row, rises, slopes_of}
@@ -116,8 +116,9 @@ pub use Rattle.qss_devs.specs.CoupledEvents.{arrived_values, CrossingsLater, Fit
 pub use Rattle.qss_devs.specs.CoupledEvents.{IsAfterHandlers, levels_of, snapshot_of, states_at}
 pub use Rattle.qss_devs.specs.CoupledEvents.{StoreRepresents}
 pub use Rattle.qss_devs.specs.CoupledSteps.{Agrees, AreSent, AreSentUpTo, AreTaken, AreTakenUpTo}
-pub use Rattle.qss_devs.specs.CoupledSteps.{AreValues, AreWithinQuanta, IsLevelTaken, IsSlopeSent}
-pub use Rattle.qss_devs.specs.CoupledSteps.{IsMessageOfRow, level_after, leveled, row_after, sloped}
+pub use Rattle.qss_devs.specs.CoupledSteps.{AreValues, AreWithinQuanta, IsLevelTaken}
+pub use Rattle.qss_devs.specs.CoupledSteps.{IsMessageOfRow, IsSlopeSent, level_after, leveled}
+pub use Rattle.qss_devs.specs.CoupledSteps.{row_after, sloped}
 pub use Rattle.qss_devs.specs.CoupledViews.{view_of}
 pub use Rattle.qss_devs.specs.Coupling.{AllLinesLater, AreComponents, AreReady, AreRuled}
 pub use Rattle.qss_devs.specs.Coupling.{crossing_at, function_state_at, HaveReceived}

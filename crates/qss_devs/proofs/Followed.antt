@@ -7,10 +7,11 @@ use Common.{CrossingsLater, discrete_count, Err, exceeds_row_limits, false, firi
 use Common.{first_exceeding, function_state_at, get_or, get_or-map, handlers_at, HandlerState}
 use Common.{int_at, int_at-tabulate, IntegratorModel, IsAllowedLevel, IsStep, IsWithin, length}
 use Common.{length-map, length-map-range_with_len, Less, levels_of, Line, line_at, List, Machine}
-use Common.{map, MayFollowTick, moved_states, no_crossing, no_line, None, Ok, Option, option_or}
-use Common.{pos, position, refl, Result, row_is_light, Rule, same_lists, slope_at, slopes_of}
-use Common.{Snapshot, snapshot_unless, Some, state_at, state_count, states_at, subst, sym}
-use Common.{tick_limit, truth, truths, Values, values_after_rows}
+use Common.{map, moved_states, no_crossing, no_line, None, Ok, Option, option_or, pos, position}
+use Common.{refl, Result, row_is_light, Rule, same_lists, slope_at, slopes_of, Snapshot}
+use Common.{snapshot_unless, Some, state_at, state_count, states_at, subst, sym, tick_limit, truth}
+use Common.{truths, Values, values_after_rows}
+use Rattle.qss_events.specs.EventFreeTicks.{MayFollowTick}
 use Rattle.qss_components.proofs.RowsTold.{rows_tell_handlers}
 use Rattle.qss_devs.proofs.Stays.{holds_still}
 

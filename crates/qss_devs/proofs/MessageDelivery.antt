@@ -3,8 +3,8 @@ use Rattle.qss_devs.proofs.Common
 use Common.{ℕ, ◌+◌, ◌<◌, ◌^◌, ◌||◌, ◌∙◌, ◌≡◌, All, All-set, ap, AreRisingBelow, arith, Bool}
 use Common.{crossing_of, CrossingModel, false, function_state_of, FunctionModel, get_or, get_or-map}
 use Common.{if◌then◌else◌, is_listed, IsCrossingNext, IsCrossingReady, IsSummingReady, IsTimely}
-use Common.{IsWritten, length, length-map, List, Machine, map, map-set, not_before, refl, set, sym, take}
-use Common.{true, written_more}
+use Common.{IsWritten, length, length-map, List, Machine, map, map-set, not_before, refl, set, sym}
+use Common.{take, true, written_more}
 
 -- ---- the elements of a list, each with a state and a machine
 

@@ -1,22 +1,23 @@
 -- Components of which some received a message.
 use Rattle.qss_devs.proofs.Common
-use Common.{[], is_listed, true, ℕ, ◌+◌, ◌<◌, ◌==◌, ◌||◌, ◌∙◌, ◌≡◌, ◌≢◌, All, All-set, among_rows, ap, AreComponents}
+use Common.{[], ℕ, ◌+◌, ◌<◌, ◌==◌, ◌||◌, ◌∙◌, ◌≡◌, ◌≢◌, All, All-set, among_rows, ap, AreComponents}
 use Common.{AreReady, arith, Bool, cases_eq, Components, Condition, condition_at, conditions}
 use Common.{Crossing, crossing_after_message, crossing_at, crossing_of, CrossingModel}
 use Common.{crossings_given, Discrete, discrete_count, eqb-no, eqb-yes, false}
 use Common.{function_after_message, function_state_at, function_state_of, FunctionModel}
 use Common.{functions_given, get_or, get_or-map, get_or-set_other, get_or-set_same, HaveReceived}
-use Common.{if_cases, inl, inr, IntegratorModel, IsCrossingReady, IsGivenLine, IsIntegratorOf}
-use Common.{IsLineNext, IsMessage, IsSummingReady, IsTimely, length, length-map, length-set, Level}
-use Common.{Line, line_after_message, line_at, lines_given, List, Machine, map, map-set, Message}
-use Common.{no_crossing, no_line, no_summing, Quantizer, reading_conditions, reading_rows, refl}
-use Common.{row_at, row_reads, set, Slope, State, state_count, subst, sym, Truth}
+use Common.{if_cases, inl, inr, IntegratorModel, is_listed, IsCrossingReady, IsGivenLine}
+use Common.{IsIntegratorOf, IsLineNext, IsMessage, IsSummingReady, IsTimely, length, length-map}
+use Common.{length-set, Level, Line, line_after_message, line_at, lines_given, List, Machine, map}
+use Common.{map-set, Message, no_crossing, no_line, no_summing, Quantizer, reading_conditions}
+use Common.{reading_rows, refl, row_at, row_reads, set, Slope, State, state_count, subst, sym, true}
+use Common.{Truth}
 use Rattle.qss_components.specs.ComponentTheorems.{goes_to_crossing, goes_to_function}
 use Rattle.qss_components.specs.ComponentTheorems.{goes_to_integrator}
 use Rattle.qss_machine.specs.Readers.{condition_reads}
 use Rattle.qss_devs.specs.Coupling.{IsOfLine, IsOfLevel, IsOfDiscrete}
-use Rattle.qss_devs.proofs.ReadyAfterMessage.{summing_ready_given, crossing_ready_given, line_ready_given}
-use Rattle.qss_devs.proofs.ReadyAfterMessage.{received_twice}
+use Rattle.qss_devs.proofs.ReadyAfterMessage.{summing_ready_given, crossing_ready_given}
+use Rattle.qss_devs.proofs.ReadyAfterMessage.{line_ready_given, received_twice}
 use Rattle.qss_events.proofs.Readers.{among_conditions}
 use Rattle.qss_devs.proofs.MessageDelivery.{HaveStates, given_by, given_by_two}
 
@@ -166,30 +167,30 @@ module _ {X : Type 0} {g : _} (m : Machine) (tick var : ℕ) (message : Message)
       CrossingsReceive second mid new.crossings.items → HaveReceived m tick message old new
   readers_received rows first second mid no_line to_rows to_places twice same_lines same_uses
       function_machines crossing_machines written one two = record {
-    parts = record {
-      integrators = rw same_lines are.integrators;
-      functions =
-          sym (length-map new.functions.items function_state_of)
-          ∙ written.as_many
-          ∙ length-map old.functions.items function_state_of
-          ∙ are.functions;
-      crossings =
-          sym (length-map new.crossings.items crossing_of)
-          ∙ two.as_many
-          ∙ one.as_many
-          ∙ length-map old.crossings.items crossing_of
-          ∙ are.crossings;
-      own_integrators = rw same_lines are.own_integrators;
-      own_functions = function_machines;
-      own_crossings = crossing_machines;
-      uses = same_uses ∙ are.uses;
-    };
-    ruled = λ name before. rw same_lines before;
-    ready = ready_after m tick message old new is ready lines functions crossings;
-    lines = lines;
-    functions = functions;
-    crossings = crossings;
-  }
+        parts = record {
+          integrators = rw same_lines are.integrators;
+          functions =
+              sym (length-map new.functions.items function_state_of)
+              ∙ written.as_many
+              ∙ length-map old.functions.items function_state_of
+              ∙ are.functions;
+          crossings =
+              sym (length-map new.crossings.items crossing_of)
+              ∙ two.as_many
+              ∙ one.as_many
+              ∙ length-map old.crossings.items crossing_of
+              ∙ are.crossings;
+          own_integrators = rw same_lines are.own_integrators;
+          own_functions = function_machines;
+          own_crossings = crossing_machines;
+          uses = same_uses ∙ are.uses;
+        };
+        ruled = λ name before. rw same_lines before;
+        ready = ready_after m tick message old new is ready lines functions crossings;
+        lines = lines;
+        functions = functions;
+        crossings = crossings;
+      }
     where
       lines : (j : ℕ) → j < state_count m → line_at new j ≡ lines_given tick message (line_at old) j
       lines j h = rw (same_lines, no_line j) refl

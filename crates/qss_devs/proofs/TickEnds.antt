@@ -6,16 +6,16 @@ use Common.{compares, Components, ComponentsRepresent, crossing_at, CrossingMode
 use Common.{discrete_count, Err, exceeds_row_limits, first_exceeding, FitsMachine}
 use Common.{function_state_at, HasEach, int_at, int_at-tabulate, IsAfterHandlers, IsAllowedLevel}
 use Common.{IsStep, IsWithin, length, length-map-range_with_len, levels_of, line_at, List, Machine}
-use Common.{map, MayFollowTick, moved_states, None, Ok, Option, pos, position, Row, row_is_light}
-use Common.{Rule, slope_at, Snapshot, snapshot_of, Some, state_count, states_at, Store}
-use Common.{StoreRepresents, subst, sym, tabulate, tick_rows, truths, Values, values_after_rows}
+use Common.{map, moved_states, None, Ok, Option, pos, position, Row, row_is_light, Rule, slope_at}
+use Common.{Snapshot, snapshot_of, Some, state_count, states_at, Store, StoreRepresents, subst, sym}
+use Common.{tabulate, tick_rows, truths, Values, values_after_rows}
 use Rattle.qss_hand.specs.Values.{Values as Kept}
 use Rattle.mu_num.proofs.Tests.{int_lt-yes}
 use Rattle.qss_machine.specs.Runs.{level_rows}
 use Rattle.qss_events.proofs.NextLevels.{next_is_near}
 use Rattle.qss_components.proofs.Sent.{settled_stand}
-use Rattle.qss_devs.proofs.Followed.{handled_values, values_after_handlers, handled_fit, step_level, step_slope}
-use Rattle.qss_devs.proofs.Followed.{step_done, states_are, levels_are, settled_are}
+use Rattle.qss_devs.proofs.Followed.{handled_values, values_after_handlers, handled_fit, step_level}
+use Rattle.qss_devs.proofs.Followed.{step_slope, step_done, states_are, levels_are, settled_are}
 
 abbrev snapshot : List ℤ → List ℤ → List ℤ → List Bool → List Bool → Snapshot
 snapshot a b d e f =

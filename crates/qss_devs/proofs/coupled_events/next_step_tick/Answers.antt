@@ -4,8 +4,8 @@ use Common.{ℕ, ◌<◌, ◌∙◌, ◌≡◌, ◌≤◌, All, ap, arith, Bool,
 use Common.{DetectorView, false, firing_flags, FunctionModel, get_or, IntegratorModel}
 use Common.{IsCrossingNext, IsLineNext, length, line_at, List, list_any, None, rises, snapshot_of}
 use Common.{Some, state_count, Store, subst, sym}
-use Rattle.qss_devs.proofs.NextTransitions.{some_element, line_of, of_line, detector_of, summing_of_place}
-use Rattle.qss_devs.proofs.NextTransitions.{due_of, none_before, are_next}
+use Rattle.qss_devs.proofs.NextTransitions.{some_element, line_of, of_line, detector_of}
+use Rattle.qss_devs.proofs.NextTransitions.{summing_of_place, due_of, none_before, are_next}
 use Rattle.qss_devs.proofs.coupled_events.next_step_tick.Goals as goal
 
 pub has_event_condition_risen-requires : goal.has_event_condition_risen-requires
