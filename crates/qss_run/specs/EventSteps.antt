@@ -1,11 +1,14 @@
 -- Defines a store after handlers and after an event step, and the effect of an event step.
-use Rattle.std.specs.Prelude.{◌≡◌, ℕ, ◌+◌, ◌<◌, ◌≤◌, List, ℤ, Option, None, Result, vec_capacity}
+use Rattle.std.specs.Prelude.{◌≡◌, ℕ, ◌+◌, ◌<◌, ◌≤◌, List, length, ℤ, Option, None, Result}
+use Rattle.std.specs.Prelude.{vec_capacity}
 use Rattle.mu_num.specs.Limits.{tick_limit, AreLevels}
 use Rattle.qss_machine.specs.declared.compiled_machine.Machine.{Machine}
-use Rattle.qss_machine.specs.Handlers.{truths}
+use Rattle.qss_machine.specs.Machines.{state_count}
+use Rattle.qss_machine.specs.Handlers.{conditions, truths}
 use Rattle.qss_machine.specs.Runs.{tick_rows}
 use Rattle.qss_machine.specs.Ticks.{Snapshot, snapshot_unless, IsStep}
 use Rattle.qss_quant.specs.declared.quantizer.Rule.{Rule}
+use Rattle.qss_sched.specs.Ranks.{due_at}
 use Rattle.qss_events.specs.HandlerRows.{reinitialized_of}
 use Rattle.qss_events.specs.AllowedLevels.{IsAllowedLevel}
 use Rattle.qss_states.specs.StateLines.{states_at, states_with}
@@ -21,7 +24,8 @@ use Rattle.qss_run.specs.Stores.{FitsMachine, snapshot_of, IsStoreAt}
 use Rattle.qss_run.specs.TouchCounts.{touches_at}
 
 -- a store may continue from a tick after its handlers: states, discrete values, levels and absolute
--- row sums are those after them; slopes, lines, due ticks and detectors are those before the tick
+-- row sums are those after them; slopes, lines, due ticks and detectors are those before the tick;
+-- nothing is due at the index after the conditions
 pub record CanContinueAfterHandlers (m : Machine) (tick : ℕ) (s : Store) : Type 0 where
   pub fits : FitsMachine m s
   pub in_time : tick < tick_limit
@@ -32,6 +36,7 @@ pub record CanContinueAfterHandlers (m : Machine) (tick : ℕ) (s : Store) : Typ
   pub levels : AreLevelsFor m (states_with s.lines.items tick s.moved.items s.work.x) s.levels.items s.work.d
   pub weights : AreWeights m s.levels.items s.work.d s.weights
   pub held : HeldBefore m tick s.moved.items s.levels.items s.work.pre s.slopes.items s.lines.items s.agenda
+  pub behind : due_at s.agenda (state_count m + length (conditions m)) ≡ None
 
 -- the snapshot of a store after it continued from a tick after its handlers
 abbrev pub snapshot_left : Machine → ℕ → Store → Snapshot

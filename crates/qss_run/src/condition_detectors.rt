@@ -240,6 +240,9 @@ impl Conditions {
             self.old self.new agenda.old agenda.new work.old.x work.new.x }
         ensures work { work.new ≡ record work.old { x = work.new.x } }
     {
+        if changed.is_empty() && assigned.is_empty() && work.log.is_empty() {
+            return;
+        }
         let x = work.x.as_mut_slice();
         let d = work.d.as_slice();
         let log = work.log.as_slice();
@@ -311,10 +314,10 @@ impl Conditions {
         }
     }
 
-    // `update_detectors_of` for a machine with conditions. It is not inlined, so that a machine
-    // without conditions needs only one test.
-    #[inline(never)]
-    fn update_detectors_of_readers(
+    /// Sets the speeds of the detectors of the conditions that read a state whose row reads a moved
+    /// state, at a tick. All detectors that were valid for the old slopes are then valid for the
+    /// new ones, and their next changes are scheduled.
+    pub fn update_detectors_of(
         &mut self,
         m: &Machine,
         uses: &Uses,
@@ -331,29 +334,6 @@ impl Conditions {
             let states = uses.rows_of(*state);
             self.update_detectors_of_states(m, uses, tick, states, slopes, agenda);
         }
-    }
-
-    /// Sets the speeds of the detectors of the conditions that read a state whose row reads a moved
-    /// state, at a tick. All detectors that were valid for the old slopes are then valid for the
-    /// new ones, and their next changes are scheduled.
-    #[inline(always)]
-    pub fn update_detectors_of(
-        &mut self,
-        m: &Machine,
-        uses: &Uses,
-        tick: u64,
-        moved: &[u32],
-        slopes: &[i128],
-        agenda: &mut Agenda,
-    )
-        requires { CanUpdateReaderDetectors m.now uses.now tick moved.now slopes.now self.old agenda.old }
-        ensures { AreReaderDetectorsUpdated m.now tick moved.now slopes.now self.old self.new agenda.old
-            agenda.new }
-    {
-        if self.detectors.is_empty() {
-            return;
-        }
-        self.update_detectors_of_readers(m, uses, tick, moved, slopes, agenda);
     }
 }
 
@@ -391,6 +371,9 @@ pub(crate) fn update_detectors_after_handlers(m: &Machine, tick: u64, s: &mut St
     ensures beyond { (place : ℕ) → state_count m.now + length (conditions m.now) ≤ place
         → due_at s.new.agenda place ≡ due_at s.old.agenda place }
 {
+    if s.conditions.detectors.is_empty() {
+        return;
+    }
     let at = ConditionContext {
         machine: m,
         uses: &s.uses,

@@ -11,7 +11,8 @@ use qss_cross::Detector;
 use qss_sched::{Agenda, PlaceSet};
 
 /// Whether some condition became true during the handlers. If so, it schedules the next tick at
-/// this index of the event queue, else nothing. Only the conditions in `flipped` may have changed.
+/// this index of the event queue. Nothing is due there before. Only the conditions in `flipped` may
+/// have changed.
 pub fn schedule_risen_truth(
     tick: u64,
     flipped: &[u32],
@@ -22,15 +23,18 @@ pub fn schedule_risen_truth(
 ) -> bool
     requires flipped { AreApartAt flipped.now at_arrival.now after_handlers.now }
     requires place { place < length agenda.old }
+    requires none_due { due_at agenda.old place ≡ None }
     requires tick_limit { tick < tick_limit }
     ensures rises { result
         ≡ list_any (λ flag. flag) (firing_flags after_handlers.now at_arrival.now after_handlers.now) }
     ensures own { due_at agenda.new place ≡ (if result then Some (tick + 1) else None) }
     ensures same { IsSameBut place agenda.old agenda.new }
 {
-    let risen = has_risen_truth_at(flipped, at_arrival, after_handlers);
-    agenda.set(place, if risen { Some(tick + 1) } else { None });
-    risen
+    if !has_risen_truth_at(flipped, at_arrival, after_handlers) {
+        return false;
+    }
+    agenda.set(place, Some(tick + 1));
+    true
 }
 
 /// If some condition became true (`rising`), schedules at this tick the conditions that became

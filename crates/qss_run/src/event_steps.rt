@@ -319,13 +319,15 @@ fn continue_after_handlers<L: Ledger>(m: &Machine, tick: u64, s: &mut Store, ste
 }
 
 // Sets whether a condition became true during the handlers of a tick. If so, it schedules the next
-// tick.
+// tick at the index after the conditions. Nothing is due there before.
 fn schedule_next_if_risen(tick: u64, s: &mut Store)
     requires at_arrival { length s.old.conditions.at_arrival.items
         ≡ length s.old.conditions.after_handlers.items }
     requires places { length s.old.agenda
         ≡ length s.old.lines.items + length s.old.conditions.branches.items + 1 }
     requires count_limit { length s.old.lines.items + length s.old.conditions.branches.items < 2 ^ 32 }
+    requires none_due { due_at s.old.agenda
+        (length s.old.lines.items + length s.old.conditions.branches.items) ≡ None }
     requires tick_limit { tick < tick_limit }
     requires count { s.old.conditions.flipped.count ≡ length s.old.conditions.after_handlers.items }
     requires alike { KnowsApart s.old.conditions }

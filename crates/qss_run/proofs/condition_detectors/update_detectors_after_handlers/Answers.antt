@@ -4,7 +4,8 @@ use Common.{ℕ, ℤ, ◌+◌, ◌∙◌, ◌≡◌, All, ap, AreAlikeBut, AreLi
 use Common.{arith, Bool, condition_at, Conditions, conditions, detector_at, detector_states_of}
 use Common.{DetectorView, due_at, flag_at, is_listed, IsDetectorAt, IsSmall, IsWithin, length, List}
 use Common.{one_reads, reinitialized_of, speed_of, state_count, states_at, Store, subst, sym}
-use Common.{touched_after, truths_are, Values}
+use Common.{touched_after, truths_are, Values, vec_len}
+use Rattle.std.proofs.lemmas.Bool.{eqb-true}
 use Rattle.qss_states.specs.Variables.{AreSlopesOf}
 use Rattle.qss_run.proofs.Apart.{alike_then}
 use Rattle.qss_run.proofs.OwnConditions.{settled_fits, still_fits, rest_watched, same_settled}
@@ -60,6 +61,16 @@ update_detectors_of-requires c =
         in_time = c.requires.lines.up_to.in_time;
       };
     }
+
+pub returns-then-is_empty-clause-after_handlers : goal.returns-then-is_empty-clause-after_handlers
+returns-then-is_empty-clause-after_handlers c =
+    let all : Conditions = c.args.s.now.conditions in
+    let own = c.requires.fits.own_conditions in
+    let is_empty = sym c.is_empty.ensures ∙ c.if-is_empty.true in
+    let empty = eqb-true (vec_len all.detectors) 0 is_empty in
+    truths_are c.args.m.now (states_at c.args.s.now.lines.items c.args.tick) c.args.s.now.work.d
+    c.args.tick all.after_handlers.items own.after_handlers
+    (λ place h. absurd (omega (arith, h, empty, all.detectors.ok.0, own.detectors)))
 
 pub returns : goal.returns
 returns c =

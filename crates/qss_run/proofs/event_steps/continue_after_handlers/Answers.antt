@@ -157,22 +157,22 @@ update_detectors_after_handlers-requires-clause-before g c =
           (subst (λ v. AreDetectorsUpTo m t s.moved.items (reinitialized_of s.work.log) s.assigned.items s.changed.items x (states_at after t) s.work.pre s.work.d s.slopes.items v (detector_states_of s.conditions due)) (sym of_slopes) all),
     )
 
-pub schedule_next_if_risen-requires-clause-at_arrival : goal.schedule_next_if_risen-requires-clause-at_arrival
-schedule_next_if_risen-requires-clause-at_arrival g c = c.update_detectors_after_handlers.ensures.fits.own_conditions.at_arrival ∙ sym c.update_detectors_after_handlers.ensures.fits.own_conditions.after_handlers
-
-pub schedule_next_if_risen-requires-clause-places : goal.schedule_next_if_risen-requires-clause-places
-schedule_next_if_risen-requires-clause-places g c =
-    let fits = c.update_detectors_after_handlers.ensures.fits in omega (arith, fits.places, fits.lines, fits.own_conditions.branches.as_many)
-
-pub schedule_next_if_risen-requires-clause-count_limit : goal.schedule_next_if_risen-requires-clause-count_limit
-schedule_next_if_risen-requires-clause-count_limit g c =
-    omega (arith, c.update_detectors_after_handlers.ensures.fits.lines, c.update_detectors_after_handlers.ensures.fits.own_conditions.branches.as_many, conditions_few c.args.m.now, c.args.m.now.has_variables.few)
-
-pub schedule_next_if_risen-requires-clause-count : goal.schedule_next_if_risen-requires-clause-count
-schedule_next_if_risen-requires-clause-count g c = let own = c.update_detectors_after_handlers.ensures.fits.own_conditions in own.flipped ∙ sym own.after_handlers
-
-pub schedule_next_if_risen-requires-clause-alike : goal.schedule_next_if_risen-requires-clause-alike
-schedule_next_if_risen-requires-clause-alike g c = c.update_detectors_after_handlers.ensures.alike c.requires.after_handlers.alike
+pub schedule_next_if_risen-requires : goal.schedule_next_if_risen-requires
+schedule_next_if_risen-requires g c =
+    let m = c.args.m.now in
+    let left = c.update_detectors_after_handlers.ensures in
+    let own = left.fits.own_conditions in
+    let behind : ℕ = state_count m + length (conditions m) in
+    record {
+      at_arrival = own.at_arrival ∙ sym own.after_handlers;
+      places = omega (arith, left.fits.places, left.fits.lines, own.branches.as_many);
+      count_limit = omega (arith, left.fits.lines, own.branches.as_many, conditions_few m, m.has_variables.few);
+      none_due = ap (due_at c.update_detectors_after_handlers.new.s.agenda) (omega (arith, left.fits.lines, own.branches.as_many))
+          ∙ left.beyond behind (omega arith) ∙ c.update_slopes_after_handlers.ensures.others behind (omega arith) ∙ c.requires.behind;
+      tick_limit = c.requires.in_time;
+      count = own.flipped ∙ sym own.after_handlers;
+      alike = left.alike c.requires.after_handlers.alike;
+    }
 
 pub returns : goal.returns
 returns g c =

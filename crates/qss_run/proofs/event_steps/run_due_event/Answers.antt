@@ -347,6 +347,9 @@ continue_after_handlers-requires g c =
         own_slope = own_slope m c.args.tick agenda s taken c.requires.in_time;
         due = due_after m c.args.tick agenda s taken c.requires.in_time moved assigned new h handled c.args.q.now.name levels allowed_now after without;
       };
+      behind = conditions_stay m c.args.tick agenda s taken c.requires.in_time moved assigned
+          new h handled after without (length (conditions m))
+          ∙ taken.without.behind;
     }
 
 pub returns-clause-visited : goal.returns-clause-visited

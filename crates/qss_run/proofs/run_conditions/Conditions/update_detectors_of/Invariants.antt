@@ -1,5 +1,5 @@
 use Rattle.qss_run.proofs.Common.{AreDetectorsUpdated, flat_map, readers_of, reading_rows, take}
-use Rattle.qss_run.proofs.run_conditions.Conditions.update_detectors_of_readers.Given as goal
+use Rattle.qss_run.proofs.run_conditions.Conditions.update_detectors_of.Given as goal
 
 -- the conditions that read a state whose row reads one of the moved states so far have their speeds
 abbrev pub invariant-loop-state : goal.invariant-loop-state
