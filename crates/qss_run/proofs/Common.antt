@@ -115,7 +115,6 @@ pub use Rattle.qss_states.specs.StateLines.{AreLinesAt, IsRestartedFrom, line_at
 pub use Rattle.qss_states.specs.StateLines.{states_with}
 pub use Rattle.qss_states.specs.Variables.{AreAssignedFrom, AreWithin, reads_moved}
 pub use Rattle.qss_states.specs.declared.row_sum_changes.RowSum.TheVariants.{Slope}
-pub use Rattle.qss_run.specs.ConditionContexts.{CanSettle}
 pub use Rattle.qss_run.specs.ConditionPlaces.{AreBranches, detector_at, IsBranchOf, IsDetectorAt}
 pub use Rattle.qss_run.specs.DetectorUpdates.{AreSettled, AreSettledAlong, detector_states_of}
 pub use Rattle.qss_run.specs.DetectorUpdates.{DetectorStates, IsSettled, one_reads, readers_before}

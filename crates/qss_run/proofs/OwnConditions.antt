@@ -1,11 +1,11 @@
 -- Conditions that go on, or of which some settle, are a machine's conditions still.
 use Rattle.qss_run.proofs.Common
 use Common.{[], ℕ, ℤ, ◌++◌, ◌∙◌, ◌≡◌, All, All-append, ap, AreBranches, AreDetectorsUpdated}
-use Common.{AreSettled, AreSettledAlong, arith, Bool, CanSettle, Conditions, conditions}
-use Common.{detector_states_of, DetectorStates, Global, HasSpeed, IsSmall, length, Line, List}
-use Common.{Machine, Option, PlaceList, refl, states_at, subst, sym, touched_after, Vec}
+use Common.{AreSettled, AreSettledAlong, arith, Bool, Conditions, conditions, detector_states_of}
+use Common.{DetectorStates, Global, HasSpeed, IsSmall, IsWithin, length, Line, List, Machine}
+use Common.{Option, PlaceList, refl, states_at, subst, sym, touched_after, Values, Vec}
+use Rattle.qss_run.specs.ConditionContexts.{CanSettle, CanUpdateDetectors}
 use Rattle.qss_run.specs.declared.run_conditions.ConditionContext.{ConditionContext}
-use Rattle.qss_run.specs.ConditionContexts.{CanUpdateDetectors}
 use Rattle.qss_run.specs.ConditionPlaces.{AreConditionsOf}
 use Rattle.qss_run.proofs.Apart.{none_noted, noted_then}
 use Rattle.qss_run.proofs.Rewatching.{none_settled, settled_then}
@@ -32,12 +32,12 @@ still_fits m old new are rest many = record {
   flipped = ap (λ (all : Conditions). all.flipped.count) rest ∙ are.flipped;
 }
 
-module _ (m : Machine) (tick : ℕ) (slopes : List ℤ) where
+module _ (at : ConditionContext) where
   -- others may go on then
-  pub still_goes : (places : List ℕ) (old new : Conditions) (due next : List (Option ℕ)) → CanUpdateDetectors m tick slopes old due → AreDetectorsUpdated m tick slopes places old new due next →
-      CanUpdateDetectors m tick slopes new next
+  pub still_goes : (places : List ℕ) (old new : Conditions) (due next : List (Option ℕ)) → CanUpdateDetectors at old due → AreDetectorsUpdated at places old new due next →
+      CanUpdateDetectors at new next
   still_goes places old new due next can are = record {
-    fits = still_fits m old new can.fits are.same are.goes_on.as_many;
+    fits = still_fits at.machine.now old new can.fits are.same are.goes_on.as_many;
     places = omega (arith, are.goes_on.places, can.places);
     small = record {
       later = λ place h. (are.goes_on.each place (omega (arith, h, are.goes_on.as_many))).not_later;
@@ -48,13 +48,13 @@ module _ (m : Machine) (tick : ℕ) (slopes : List ℤ) where
   }
 
   -- these places one after another, where the second are others that are equal
-  pub rewatched_more : (xs ys zs all : List ℕ) (a b c : Conditions) (p q r : List (Option ℕ)) → AreDetectorsUpdated m tick slopes xs a b p q → zs ≡ ys → all ≡ xs ++ ys → AreDetectorsUpdated m tick slopes zs b c q r →
-      AreDetectorsUpdated m tick slopes all a c p r
+  pub rewatched_more : (xs ys zs all : List ℕ) (a b c : Conditions) (p q r : List (Option ℕ)) → AreDetectorsUpdated at xs a b p q → zs ≡ ys → all ≡ xs ++ ys → AreDetectorsUpdated at zs b c q r →
+      AreDetectorsUpdated at all a c p r
   rewatched_more xs ys zs all a b c p q r first equal is second =
-      let Own : ℕ → Type 0 = HasSpeed m slopes c.detectors.items in
-      let before : All Own xs = λ k d h. has_speed_still m tick slopes b.detectors.items c.detectors.items q r second.goes_on _ (first.speeds k d h) in
+      let Own : ℕ → Type 0 = HasSpeed at.machine.now at.slopes.now c.detectors.items in
+      let before : All Own xs = λ k d h. has_speed_still at.machine.now at.tick at.slopes.now b.detectors.items c.detectors.items q r second.goes_on _ (first.speeds k d h) in
       record {
-        goes_on = going_on_more m tick slopes a.detectors.items b.detectors.items c.detectors.items p q r first.goes_on second.goes_on;
+        goes_on = going_on_more at.machine.now at.tick at.slopes.now a.detectors.items b.detectors.items c.detectors.items p q r first.goes_on second.goes_on;
         speeds = subst (All Own) (sym is) (All-append Own xs ys before (subst (All Own) equal second.speeds));
         same = watched_then a b c first.same second.same;
       }
@@ -75,44 +75,60 @@ pub rest_then : (a b c : Conditions) → b ≡ record a { detectors = b.detector
     c ≡ record a { detectors = c.detectors; after_handlers = c.after_handlers; flipped = c.flipped }
 rest_then a b c first second = second ∙ ap (λ (all : Conditions). record all { detectors = c.detectors; after_handlers = c.after_handlers; flipped = c.flipped }) first
 
-module _ (at : ConditionContext) (d : List ℤ) where
+module _ (at : ConditionContext) where
   -- none has settled at first
-  pub none_along : (all : Conditions) (due : List (Option ℕ)) (x : List ℤ) → CanSettle at d all due x → AreSettledAlong at d [] all all due due x x
-  none_along all due x can = record {
-    after_handlers = none_settled at.machine.now at.tick (states_at at.lines.now at.tick) d at.slopes.now (detector_states_of all due);
+  pub none_along : (all : Conditions) (due : List (Option ℕ)) (work : Values) → CanSettle at all due work → AreSettledAlong at [] all all due due work work
+  none_along all due work can = record {
+    after_handlers = none_settled at.machine.now at.tick (states_at at.lines.now at.tick) work.d at.slopes.now (detector_states_of all due);
     noted = none_noted all;
     rest = refl;
-    at_arrival = none_arrived at.machine.now (states_at at.lines.now at.tick) x;
+    at_arrival = none_arrived at.machine.now (states_at at.lines.now at.tick) work.x;
     small = can.values.small_states;
+    work = refl;
   }
 
   -- and then more settle
-  pub along_then : (xs ys : List ℕ) (a b c : Conditions) (p q r : List (Option ℕ)) (x y z : List ℤ) → AreSettledAlong at d xs a b p q x y → AreSettledAlong at d ys b c q r y z →
-      AreSettledAlong at d (xs ++ ys) a c p r x z
-  along_then xs ys a b c p q r x y z first second = record {
-    after_handlers = settled_then at.machine.now at.tick (states_at at.lines.now at.tick) d at.slopes.now xs ys (detector_states_of a p) (detector_states_of b q) (detector_states_of c r) first.after_handlers second.after_handlers;
-    noted = noted_then xs ys a b c first.noted second.noted (ap (λ (all : Conditions). all.at_arrival.items) second.rest) (λ place none. (second.after_handlers.kept place none).truth);
-    rest = rest_then a b c first.rest second.rest;
-    at_arrival = arrived_on at.machine.now xs ys (states_at at.lines.now at.tick) x y z first.at_arrival second.at_arrival;
-    small = second.small;
-  }
+  pub along_then : (xs ys : List ℕ) (a b c : Conditions) (p q r : List (Option ℕ)) (u v w : Values) → AreSettledAlong at xs a b p q u v → AreSettledAlong at ys b c q r v w →
+      AreSettledAlong at (xs ++ ys) a c p r u w
+  along_then xs ys a b c p q r u v w first second =
+      let full : List ℤ = states_at at.lines.now at.tick in
+      let before = detector_states_of a p in
+      let between = detector_states_of b q in
+      let after = detector_states_of c r in
+      let same : v.d ≡ u.d = ap (λ (z : Values). z.d) first.work in
+      let then_settled = subst (λ d. AreSettled at.machine.now at.tick full d at.slopes.now ys between after) same second.after_handlers in
+      record {
+        after_handlers = settled_then at.machine.now at.tick full u.d at.slopes.now xs ys before between after first.after_handlers then_settled;
+        noted = noted_then xs ys a b c first.noted second.noted (ap (λ (all : Conditions). all.at_arrival.items) second.rest) (λ place none. (second.after_handlers.kept place none).truth);
+        rest = rest_then a b c first.rest second.rest;
+        at_arrival = arrived_on at.machine.now xs ys full u.x v.x w.x first.at_arrival second.at_arrival;
+        small = second.small;
+        work = second.work ∙ ap (λ (z : Values). record z { x = w.x }) first.work;
+      }
 
   -- these lists of places one after another, where the second is another one that is equal
-  pub along_more : (xs ys zs all : List ℕ) (a b c : Conditions) (p q r : List (Option ℕ)) (x y z : List ℤ) → AreSettledAlong at d xs a b p q x y → zs ≡ ys → all ≡ xs ++ ys →
-      AreSettledAlong at d zs b c q r y z → AreSettledAlong at d all a c p r x z
-  along_more xs ys zs all a b c p q r x y z first same is second =
-      subst (λ (places : List ℕ). AreSettledAlong at d places a c p r x z) (sym is)
-      (along_then xs ys a b c p q r x y z first (subst (λ (places : List ℕ). AreSettledAlong at d places b c q r y z) same second))
+  pub along_more : (xs ys zs all : List ℕ) (a b c : Conditions) (p q r : List (Option ℕ)) (u v w : Values) → AreSettledAlong at xs a b p q u v → zs ≡ ys → all ≡ xs ++ ys →
+      AreSettledAlong at zs b c q r v w → AreSettledAlong at all a c p r u w
+  along_more xs ys zs all a b c p q r u v w first same is second =
+      subst (λ (places : List ℕ). AreSettledAlong at places a c p r u w) (sym is)
+      (along_then xs ys a b c p q r u v w first (subst (λ (places : List ℕ). AreSettledAlong at places b c q r v w) same second))
 
   -- others may settle then
-  pub still_settles : (places : List ℕ) (old new : Conditions) (due next : List (Option ℕ)) (x y : List ℤ) → CanSettle at d old due x → AreSettledAlong at d places old new due next x y →
-      CanSettle at d new next y
-  still_settles places old new due next x y can are = record {
-    moment = can.moment;
-    fits = settled_fits at.machine.now old new can.fits are.rest are.after_handlers.many_watches are.after_handlers.many_truths are.noted.count;
-    places = omega (arith, are.after_handlers.many_dues, can.places);
-    values = record { states = are.at_arrival.as_many ∙ can.values.states; discretes = can.values.discretes; small_states = are.small; small_discretes = can.values.small_discretes };
-  }
+  pub still_settles : (places : List ℕ) (old new : Conditions) (due next : List (Option ℕ)) (v w : Values) → CanSettle at old due v → AreSettledAlong at places old new due next v w →
+      CanSettle at new next w
+  still_settles places old new due next v w can are =
+      let of_d : w.d ≡ v.d = ap (λ (z : Values). z.d) are.work in
+      record {
+        moment = can.moment;
+        fits = settled_fits at.machine.now old new can.fits are.rest are.after_handlers.many_watches are.after_handlers.many_truths are.noted.count;
+        places = omega (arith, are.after_handlers.many_dues, can.places);
+        values = record {
+          states = are.at_arrival.as_many ∙ can.values.states;
+          discretes = ap length of_d ∙ can.values.discretes;
+          small_states = are.small;
+          small_discretes = subst (All (IsWithin 43)) (sym of_d) can.values.small_discretes;
+        };
+      }
 
 -- after that some go on
 pub rest_watched : (a b c : Conditions) → b ≡ record a { detectors = b.detectors; after_handlers = b.after_handlers; flipped = b.flipped } → c ≡ record b { detectors = c.detectors } →

@@ -51,26 +51,26 @@ pub record CanSetDetectors (m : Machine) (at : ConditionValues) (all : Condition
   pub places : HasPlaces m due
 
 -- the speeds of detectors may be set at a tick: their values are within the limit there
-pub record CanUpdateDetectors (m : Machine) (tick : ℕ) (slopes : List ℤ) (all : Conditions) (due : List (Option ℕ)) : Type 0 where
-  pub fits : AreConditionsOf m all
-  pub places : HasPlaces m due
-  pub small : AreSmallAt tick all.detectors.items
-  pub slopes_of : AreSlopesOf m slopes
-  pub in_time : tick < tick_limit
+pub record CanUpdateDetectors (at : ConditionContext) (all : Conditions) (due : List (Option ℕ)) : Type 0 where
+  pub fits : AreConditionsOf at.machine.now all
+  pub places : HasPlaces at.machine.now due
+  pub small : AreSmallAt at.tick all.detectors.items
+  pub slopes_of : AreSlopesOf at.machine.now at.slopes.now
+  pub in_time : at.tick < tick_limit
 
 -- the speeds of the conditions that read a state whose row reads a moved state may be set at a tick
-pub record CanUpdateReaderDetectors (m : Machine) (readers : List (List ℕ) × List (List ℕ) × List (List ℤ)) (tick : ℕ) (states : List ℕ) (slopes : List ℤ) (all : Conditions) (due : List (Option ℕ)) : Type 0 where
-  pub uses : readers ≡ uses_of m
-  pub moved : AreRisingBelow (state_count m) states
-  pub ready : CanUpdateDetectors m tick slopes all due
+pub record CanUpdateReaderDetectors (at : ConditionContext) (states : List ℕ) (all : Conditions) (due : List (Option ℕ)) : Type 0 where
+  pub uses : at.uses.now ≡ uses_of at.machine.now
+  pub moved : AreRisingBelow (state_count at.machine.now) states
+  pub ready : CanUpdateDetectors at all due
 
 -- conditions may be settled at a tick at these discrete values and the states on the lines; the
--- states that they read are written to `x`
-pub record CanSettle (at : ConditionContext) (d : List ℤ) (all : Conditions) (due : List (Option ℕ)) (x : List ℤ) : Type 0 where
+-- states that they read are written to these values
+pub record CanSettle (at : ConditionContext) (all : Conditions) (due : List (Option ℕ)) (work : Values) : Type 0 where
   pub moment : IsConditionContext at
   pub fits : AreConditionsOf at.machine.now all
   pub places : HasPlaces at.machine.now due
-  pub values : AreWithin at.machine.now x d
+  pub values : AreWithin at.machine.now work.x work.d
 
 -- the conditions on arrival at a tick: detectors have the truths there, and conditions that are not
 -- evaluated do not change

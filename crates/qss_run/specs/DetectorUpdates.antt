@@ -10,6 +10,7 @@ use Rattle.mu_num.specs.IndexedSums.{int_at}
 use Rattle.mu_num.specs.ListedPlaces.{flag_at, is_listed}
 use Rattle.mu_num.specs.Limits.{AreStates}
 use Rattle.qss_machine.specs.Readers.{condition_reads, reading_rows, reading_conditions}
+use Rattle.qss_hand.specs.Values.{Values}
 use Rattle.qss_cross.specs.Crossing.{DetectorView}
 use Rattle.qss_sched.specs.Ranks.{due_at}
 use Rattle.qss_run.specs.declared.run_conditions.Conditions.{Conditions}
@@ -96,14 +97,15 @@ settles_after m reinitialized assigned changed place =
 abbrev pub one_reads : Machine → List ℕ → ℕ → Bool
 one_reads m places j = list_any (λ place. condition_reads j (condition_at m place)) places
 
--- these conditions are settled at a tick and nothing else of them changes; only the states that
--- they read are written, and all values are within the limit
-pub record AreSettledAlong (at : ConditionContext) (d : List ℤ) (places : List ℕ) (old new : Conditions) (old_dues new_dues : List (Option ℕ)) (x y : List ℤ) : Type 0 where
-  pub after_handlers : AreSettled at.machine.now at.tick (states_at at.lines.now at.tick) d at.slopes.now places (detector_states_of old old_dues) (detector_states_of new new_dues)
+-- these conditions are settled at a tick and nothing else of them changes; of these values only the
+-- states that they read are written, and all states are within the limit
+pub record AreSettledAlong (at : ConditionContext) (places : List ℕ) (old new : Conditions) (old_dues new_dues : List (Option ℕ)) (before after : Values) : Type 0 where
+  pub after_handlers : AreSettled at.machine.now at.tick (states_at at.lines.now at.tick) before.d at.slopes.now places (detector_states_of old old_dues) (detector_states_of new new_dues)
   pub noted : AreMarkedChanged places old new
   pub rest : AreAlikeButSettled old new
-  pub at_arrival : AreArrived (one_reads at.machine.now places) (states_at at.lines.now at.tick) x y
-  pub small : AreStates y
+  pub at_arrival : AreArrived (one_reads at.machine.now places) (states_at at.lines.now at.tick) before.x after.x
+  pub small : AreStates after.x
+  pub work : after ≡ record before { x = after.x }
 
 -- a condition that is not settled after handlers, and already has its speed at these slopes, does
 -- not change

@@ -9,6 +9,7 @@ use Rattle.qss_cross.specs.Crossing.{DetectorView, value_at, holds_at}
 use Rattle.qss_sched.specs.Ranks.{due_at}
 use Rattle.qss_events.specs.Schedules.{condition_at, IsChange}
 use Rattle.qss_run.specs.declared.run_conditions.Conditions.{Conditions}
+use Rattle.qss_run.specs.declared.run_conditions.ConditionContext.{ConditionContext}
 use Rattle.qss_run.specs.ConditionPlaces.{detector_at, IsDetectorAt}
 use Rattle.qss_states.specs.Variables.{reads_moved}
 
@@ -42,9 +43,11 @@ pub record AreSpeedsUpdated (m : Machine) (tick : ℕ) (slopes : List ℤ) (old 
 
 -- detectors get new speeds at a tick: those at these indices have their speeds, and only detectors
 -- and their due ticks change
-pub record AreDetectorsUpdated (m : Machine) (tick : ℕ) (slopes : List ℤ) (places : List ℕ) (old new : Conditions) (old_due new_due : List (Option ℕ)) : Type 0 where
-  pub goes_on : AreSpeedsUpdated m tick slopes old.detectors.items new.detectors.items old_due new_due
-  pub speeds : All (HasSpeed m slopes new.detectors.items) places
+pub record AreDetectorsUpdated (at : ConditionContext) (places : List ℕ) (old new : Conditions) (old_due new_due : List (Option ℕ)) : Type 0 where
+  pub goes_on :
+      AreSpeedsUpdated at.machine.now at.tick at.slopes.now old.detectors.items new.detectors.items
+      old_due new_due
+  pub speeds : All (HasSpeed at.machine.now at.slopes.now new.detectors.items) places
   pub same : new ≡ record old { detectors = new.detectors }
 
 -- each condition that was settled at the old slopes, except for the moved states, is settled at the
@@ -57,7 +60,9 @@ DetectorsStayValid m tick moved slopes old new old_due new_due =
 
 -- detectors after an update for moved states: valid ones stay valid, and only detectors and their
 -- due ticks change
-pub record AreReaderDetectorsUpdated (m : Machine) (tick : ℕ) (moved : List ℕ) (slopes : List ℤ) (old new : Conditions) (old_due new_due : List (Option ℕ)) : Type 0 where
-  pub detectors : DetectorsStayValid m tick moved slopes old.detectors.items new.detectors.items old_due new_due
-  pub goes_on : AreSpeedsUpdated m tick slopes old.detectors.items new.detectors.items old_due new_due
+pub record AreReaderDetectorsUpdated (at : ConditionContext) (moved : List ℕ) (old new : Conditions) (old_due new_due : List (Option ℕ)) : Type 0 where
+  pub detectors : DetectorsStayValid at.machine.now at.tick moved at.slopes.now old.detectors.items new.detectors.items old_due new_due
+  pub goes_on :
+      AreSpeedsUpdated at.machine.now at.tick at.slopes.now old.detectors.items new.detectors.items
+      old_due new_due
   pub same : new ≡ record old { detectors = new.detectors }

@@ -5,12 +5,12 @@ ghost use Rattle.std.specs.Prelude.{◌≡◌, ◌+◌, ◌<◌, ◌≤◌, ◌&
 ghost use Rattle.qss_run.specs.Prelude.{flag_at, is_listed, AreRisingBelow, IsBounded, state_count, truth, value_of, speed_of, discrete_count, conditions, truths, due_at, condition_at, AreDiscretes, AreVariablesOf, AreSlopesOf, reinitialized_of, states_at, AreLinesAt, tick_limit, AreSlopes, uses_of, IsSmall, value_at};
 ghost use Rattle.qss_run.specs.Words.{AreConditionsOf, AreDetectorsAt, KnowsApart, CanSetDetectors, AreConditionValues, CanSettle, CanUpdateDetectors, CanUpdateReaderDetectors, differ, AreAlikeBut, IsSameBut, AreAlikeButSettled, AreMarkedChanged, AreSettled, detector_states_of, AreSettledAlong, readers_of, touched_of, touched_by, readers_before, touched_after, OthersAreKept, OthersAreUnread, is_reinitialized, HadDetectors, HasDetectorsUpdated, FitsMachine, GoesOn, AreDetectorsUpdated, AreReaderDetectorsUpdated};
 
-use crate::condition_handlers::{is_handler_reinitialization, move_handler_states_read};
+use crate::condition_handlers::{is_handler_reinitialization, move_work_states_read};
 use crate::run_conditions::{ConditionContext, ConditionValues, Conditions};
 use crate::run_start::Store;
 use qss_cross::Detector;
 use qss_hand::Work;
-use qss_machine::{Condition, Form, Machine, Row, Uses, multiply_form_coefficient};
+use qss_machine::{Condition, Form, Machine, Row, multiply_form_coefficient};
 use qss_sched::{Agenda, PlaceSet};
 
 impl Conditions {
@@ -75,21 +75,20 @@ impl Conditions {
         &mut self,
         at: &ConditionContext,
         place: u32,
-        d: &[i64],
-        x: &mut [i128],
+        work: &mut Work,
         agenda: &mut Agenda,
     )
-        requires ready { CanSettle at.now d.now self.old agenda.old x.old }
+        requires ready { CanSettle at.now self.old agenda.old work.old }
         requires place { place < length (conditions at.now.machine.now) }
-        ensures { AreSettledAlong at.now d.now (place ∷ []) self.old self.new agenda.old agenda.new
-            x.old x.new }
+        ensures { AreSettledAlong at.now (place ∷ []) self.old self.new agenda.old agenda.new
+            work.old work.new }
     {
         let condition = self.condition(at.machine, place);
-        move_handler_states_read(&condition.form, at.tick, at.lines, x);
+        move_work_states_read(&condition.form, at.tick, at.lines, work);
         let point = ConditionValues {
             tick: at.tick,
-            states: x,
-            discretes: d,
+            states: work.x.as_slice(),
+            discretes: work.d.as_slice(),
             slopes: at.slopes,
         };
         self.settle_detector(at.machine, &point, place, agenda);
@@ -100,17 +99,16 @@ impl Conditions {
         &mut self,
         at: &ConditionContext,
         places: &[u32],
-        d: &[i64],
-        x: &mut [i128],
+        work: &mut Work,
         agenda: &mut Agenda,
     )
-        requires ready { CanSettle at.now d.now self.old agenda.old x.old }
+        requires ready { CanSettle at.now self.old agenda.old work.old }
         requires known { All (λ place. place < length (conditions at.now.machine.now)) places.now }
-        ensures { AreSettledAlong at.now d.now places.now self.old self.new agenda.old agenda.new
-            x.old x.new }
+        ensures { AreSettledAlong at.now places.now self.old self.new agenda.old agenda.new work.old
+            work.new }
     {
         for place in places {
-            self.settle_detector_along(at, *place, d, x, agenda);
+            self.settle_detector_along(at, *place, work, agenda);
         }
     }
 
@@ -119,18 +117,17 @@ impl Conditions {
         &mut self,
         at: &ConditionContext,
         vars: &[u32],
-        d: &[i64],
-        x: &mut [i128],
+        work: &mut Work,
         agenda: &mut Agenda,
     )
-        requires ready { CanSettle at.now d.now self.old agenda.old x.old }
+        requires ready { CanSettle at.now self.old agenda.old work.old }
         requires known { AreVariablesOf at.now.machine.now vars.now }
-        ensures { AreSettledAlong at.now d.now (readers_of at.now.machine.now vars.now) self.old
-            self.new agenda.old agenda.new x.old x.new }
+        ensures { AreSettledAlong at.now (readers_of at.now.machine.now vars.now) self.old self.new
+            agenda.old agenda.new work.old work.new }
     {
         for var in vars {
             let places = at.uses.conditions_of(*var);
-            self.settle_detectors_at(at, places, d, x, agenda);
+            self.settle_detectors_at(at, places, work, agenda);
         }
     }
 
@@ -139,19 +136,18 @@ impl Conditions {
         &mut self,
         at: &ConditionContext,
         var: u32,
-        d: &[i64],
-        x: &mut [i128],
+        work: &mut Work,
         agenda: &mut Agenda,
     )
-        requires ready { CanSettle at.now d.now self.old agenda.old x.old }
+        requires ready { CanSettle at.now self.old agenda.old work.old }
         requires known { var < state_count at.now.machine.now + discrete_count at.now.machine.now }
-        ensures { AreSettledAlong at.now d.now (touched_of at.now.machine.now var) self.old self.new
-            agenda.old agenda.new x.old x.new }
+        ensures { AreSettledAlong at.now (touched_of at.now.machine.now var) self.old self.new
+            agenda.old agenda.new work.old work.new }
     {
         let rows = at.uses.rows_of(var);
-        self.settle_reader_detectors(at, rows, d, x, agenda);
+        self.settle_reader_detectors(at, rows, work, agenda);
         let places = at.uses.conditions_of(var);
-        self.settle_detectors_at(at, places, d, x, agenda);
+        self.settle_detectors_at(at, places, work, agenda);
     }
 
     // Settles the conditions that are affected by one of these variables.
@@ -159,39 +155,37 @@ impl Conditions {
         &mut self,
         at: &ConditionContext,
         vars: &[u32],
-        d: &[i64],
-        x: &mut [i128],
+        work: &mut Work,
         agenda: &mut Agenda,
     )
-        requires ready { CanSettle at.now d.now self.old agenda.old x.old }
+        requires ready { CanSettle at.now self.old agenda.old work.old }
         requires known { AreVariablesOf at.now.machine.now vars.now }
-        ensures { AreSettledAlong at.now d.now (touched_by at.now.machine.now vars.now) self.old
-            self.new agenda.old agenda.new x.old x.new }
+        ensures { AreSettledAlong at.now (touched_by at.now.machine.now vars.now) self.old self.new
+            agenda.old agenda.new work.old work.new }
     {
         for var in vars {
-            self.settle_touched_detectors_of(at, *var, d, x, agenda);
+            self.settle_touched_detectors_of(at, *var, work, agenda);
         }
     }
 
-    // Settles the conditions that are affected by a state that these rows reinitialize.
+    // Settles the conditions that are affected by a state that the handlers reinitialized.
     fn settle_reinitialized_detectors(
         &mut self,
         at: &ConditionContext,
-        log: &[Row],
-        d: &[i64],
-        x: &mut [i128],
+        work: &mut Work,
         agenda: &mut Agenda,
     )
-        requires ready { CanSettle at.now d.now self.old agenda.old x.old }
-        requires known { (j : ℕ) → is_reinitialized log.now j ≡ true
+        requires ready { CanSettle at.now self.old agenda.old work.old }
+        requires known { (j : ℕ) → is_reinitialized work.old.log j ≡ true
             → j < state_count at.now.machine.now }
-        ensures { AreSettledAlong at.now d.now
-            (touched_by at.now.machine.now (reinitialized_of log.now)) self.old self.new agenda.old
-            agenda.new x.old x.new }
+        ensures { AreSettledAlong at.now
+            (touched_by at.now.machine.now (reinitialized_of work.old.log)) self.old self.new
+            agenda.old agenda.new work.old work.new }
     {
-        for row in log {
-            if is_handler_reinitialization(row) {
-                self.settle_touched_detectors_of(at, row.var, d, x, agenda);
+        for index in 0..work.log.len() {
+            let row = work.log.as_slice()[index];
+            if is_handler_reinitialization(&row) {
+                self.settle_touched_detectors_of(at, row.var, work, agenda);
             }
         }
     }
@@ -202,18 +196,18 @@ impl Conditions {
         &mut self,
         at: &ConditionContext,
         assigned: &[u32],
-        d: &[i64],
-        x: &mut [i128],
+        work: &mut Work,
         agenda: &mut Agenda,
     )
-        requires ready { CanSettle at.now d.now self.old agenda.old x.old }
+        requires ready { CanSettle at.now self.old agenda.old work.old }
         requires assigned { AreDiscretes at.now.machine.now assigned.now }
-        ensures { AreSettledAlong at.now d.now (readers_before at.now.machine.now assigned.now)
-            self.old self.new agenda.old agenda.new x.old x.new }
+        ensures { AreSettledAlong at.now (readers_before at.now.machine.now assigned.now) self.old
+            self.new agenda.old agenda.new work.old work.new }
     {
+        let discretes = work.d.len() as u32;
         for var in assigned {
-            let places = at.uses.conditions_of(*var + d.len() as u32);
-            self.settle_detectors_at(at, places, d, x, agenda);
+            let places = at.uses.conditions_of(*var + discretes);
+            self.settle_detectors_at(at, places, work, agenda);
         }
     }
 
@@ -229,110 +223,85 @@ impl Conditions {
         work: &mut Work,
         agenda: &mut Agenda,
     )
-        requires ready { CanSettle at.now work.old.d self.old agenda.old work.old.x }
+        requires ready { CanSettle at.now self.old agenda.old work.old }
         requires reinitialized { (j : ℕ) → is_reinitialized work.old.log j ≡ true
             → j < state_count at.now.machine.now }
         requires assigned { AreDiscretes at.now.machine.now assigned.now }
         requires changed { AreRisingBelow (length (conditions at.now.machine.now)) changed.now }
-        ensures after_handlers { AreSettledAlong at.now work.old.d
+        ensures { AreSettledAlong at.now
             (touched_after at.now.machine.now (reinitialized_of work.old.log) assigned.now
             changed.now)
-            self.old self.new agenda.old agenda.new work.old.x work.new.x }
-        ensures work { work.new ≡ record work.old { x = work.new.x } }
+            self.old self.new agenda.old agenda.new work.old work.new }
     {
         if changed.is_empty() && assigned.is_empty() && work.log.is_empty() {
             return;
         }
-        let x = work.x.as_mut_slice();
-        let d = work.d.as_slice();
-        let log = work.log.as_slice();
-        self.settle_detectors_at(at, changed, d, x, agenda);
-        self.settle_reinitialized_detectors(at, log, d, x, agenda);
-        self.settle_touched_detectors(at, assigned, d, x, agenda);
-        self.settle_assigned_detectors(at, assigned, d, x, agenda);
+        self.settle_detectors_at(at, changed, work, agenda);
+        self.settle_reinitialized_detectors(at, work, agenda);
+        self.settle_touched_detectors(at, assigned, work, agenda);
+        self.settle_assigned_detectors(at, assigned, work, agenda);
     }
 
     // Sets the speed of the detector of one condition at a tick.
-    fn update_detector(
-        &mut self,
-        m: &Machine,
-        tick: u64,
-        place: u32,
-        slopes: &[i128],
-        agenda: &mut Agenda,
-    )
-        requires place { place < length (conditions m.now) }
-        requires ready { CanUpdateDetectors m.now tick slopes.now self.old agenda.old }
-        ensures { AreDetectorsUpdated m.now tick slopes.now (place ∷ []) self.old self.new agenda.old
-            agenda.new }
+    fn update_detector(&mut self, at: &ConditionContext, place: u32, agenda: &mut Agenda)
+        requires place { place < length (conditions at.now.machine.now) }
+        requires ready { CanUpdateDetectors at.now self.old agenda.old }
+        ensures { AreDetectorsUpdated at.now (place ∷ [])
+            self.old self.new agenda.old agenda.new }
     {
-        let condition = self.condition(m, place);
-        let speed = detector_speed_at(m, &condition.form, slopes);
-        let entry = (slopes.len() + place as usize) as u32;
+        let condition = self.condition(at.machine, place);
+        let speed = detector_speed_at(at.machine, &condition.form, at.slopes);
+        let entry = (at.slopes.len() + place as usize) as u32;
         let detectors = self.detectors.as_mut_slice();
-        update_detector_speed(&mut detectors[place as usize], tick, speed, entry, agenda);
+        update_detector_speed(
+            &mut detectors[place as usize],
+            at.tick,
+            speed,
+            entry,
+            agenda,
+        );
     }
 
     // Sets the speeds of the detectors of the conditions at these indices at a tick.
-    fn update_detectors_at(
-        &mut self,
-        m: &Machine,
-        tick: u64,
-        places: &[u32],
-        slopes: &[i128],
-        agenda: &mut Agenda,
-    )
-        requires known { All (λ place. place < length (conditions m.now)) places.now }
-        requires ready { CanUpdateDetectors m.now tick slopes.now self.old agenda.old }
-        ensures { AreDetectorsUpdated m.now tick slopes.now places.now self.old self.new agenda.old
-            agenda.new }
+    fn update_detectors_at(&mut self, at: &ConditionContext, places: &[u32], agenda: &mut Agenda)
+        requires known { All (λ place. place < length (conditions at.now.machine.now)) places.now }
+        requires ready { CanUpdateDetectors at.now self.old agenda.old }
+        ensures { AreDetectorsUpdated at.now places.now
+            self.old self.new agenda.old agenda.new }
     {
         for place in places {
-            self.update_detector(m, tick, *place, slopes, agenda);
+            self.update_detector(at, *place, agenda);
         }
     }
 
     // Sets the speeds of the detectors of the conditions that read one of these states at a tick.
     fn update_detectors_of_states(
         &mut self,
-        m: &Machine,
-        uses: &Uses,
-        tick: u64,
+        at: &ConditionContext,
         states: &[u32],
-        slopes: &[i128],
         agenda: &mut Agenda,
     )
-        requires uses { uses.now ≡ uses_of m.now }
-        requires known { All (λ state. state < state_count m.now) states.now }
-        requires ready { CanUpdateDetectors m.now tick slopes.now self.old agenda.old }
-        ensures { AreDetectorsUpdated m.now tick slopes.now (readers_of m.now states.now) self.old self.new
-            agenda.old agenda.new }
+        requires uses { at.now.uses.now ≡ uses_of at.now.machine.now }
+        requires known { All (λ state. state < state_count at.now.machine.now) states.now }
+        requires ready { CanUpdateDetectors at.now self.old agenda.old }
+        ensures { AreDetectorsUpdated at.now (readers_of at.now.machine.now states.now) self.old self.new agenda.old agenda.new }
     {
         for state in states {
-            let places = uses.conditions_of(*state);
-            self.update_detectors_at(m, tick, places, slopes, agenda);
+            let places = at.uses.conditions_of(*state);
+            self.update_detectors_at(at, places, agenda);
         }
     }
 
     /// Sets the speeds of the detectors of the conditions that read a state whose row reads a moved
     /// state, at a tick. All detectors that were valid for the old slopes are then valid for the
     /// new ones, and their next changes are scheduled.
-    pub fn update_detectors_of(
-        &mut self,
-        m: &Machine,
-        uses: &Uses,
-        tick: u64,
-        moved: &[u32],
-        slopes: &[i128],
-        agenda: &mut Agenda,
-    )
-        requires { CanUpdateReaderDetectors m.now uses.now tick moved.now slopes.now self.old agenda.old }
-        ensures { AreReaderDetectorsUpdated m.now tick moved.now slopes.now self.old self.new agenda.old
-            agenda.new }
+    pub fn update_detectors_of(&mut self, at: &ConditionContext, moved: &[u32], agenda: &mut Agenda)
+        requires { CanUpdateReaderDetectors at.now moved.now self.old agenda.old }
+        ensures { AreReaderDetectorsUpdated at.now moved.now self.old self.new agenda.old agenda.new }
     {
         for state in moved {
-            let states = uses.rows_of(*state);
-            self.update_detectors_of_states(m, uses, tick, states, slopes, agenda);
+            let states = at.uses.rows_of(*state);
+            self.update_detectors_of_states(at, states, agenda);
         }
     }
 }
@@ -388,14 +357,8 @@ pub(crate) fn update_detectors_after_handlers(m: &Machine, tick: u64, s: &mut St
         &mut s.work,
         &mut s.agenda,
     );
-    s.conditions.update_detectors_of(
-        m,
-        &s.uses,
-        tick,
-        s.moved.as_slice(),
-        s.slopes.as_slice(),
-        &mut s.agenda,
-    );
+    s.conditions
+        .update_detectors_of(&at, s.moved.as_slice(), &mut s.agenda);
 }
 
 // The detector of a condition at a tick, with its value and its speed.

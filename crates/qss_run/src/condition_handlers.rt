@@ -229,8 +229,8 @@ fn move_states_handlers_read(actions: &[Action], tick: u64, lines: &[Integrator]
     }
 }
 
-/// Moves the states that a form reads to a tick along their lines.
-pub(crate) fn move_handler_states_read(form: &Form, tick: u64, lines: &[Integrator], x: &mut [i128])
+// Moves the states that a form reads to a tick along their lines.
+fn move_handler_states_read(form: &Form, tick: u64, lines: &[Integrator], x: &mut [i128])
     requires { MayArrive tick lines.now x.old }
     ensures { AreArrived (λ j. has_entry j form.now.entries) (states_at lines.now tick) x.old
         x.new }
@@ -241,6 +241,16 @@ pub(crate) fn move_handler_states_read(form: &Form, tick: u64, lines: &[Integrat
             x[j] = lines[j].value_at(tick);
         }
     }
+}
+
+/// Moves the states that a form reads, in the values of handlers, to a tick along their lines.
+pub(crate) fn move_work_states_read(form: &Form, tick: u64, lines: &[Integrator], work: &mut Work)
+    requires { MayArrive tick lines.now work.old.x }
+    ensures work { work.new ≡ record work.old { x = work.new.x } }
+    ensures states { AreArrived (λ j. has_entry j form.now.entries) (states_at lines.now tick)
+        work.old.x work.new.x }
+{
+    move_handler_states_read(form, tick, lines, work.x.as_mut_slice());
 }
 
 // The form of the right-hand side of a statement.

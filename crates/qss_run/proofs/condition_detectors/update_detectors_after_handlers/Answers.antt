@@ -36,7 +36,7 @@ update_detectors_of-requires c =
     let fits = c.requires.fits in
     let was = c.requires.before in
     let full : List ℤ = states_at s.lines.items t in
-    let along = c.settle_detectors_after_handlers.ensures.after_handlers in
+    let along = c.settle_detectors_after_handlers.ensures in
     let are = same_settled m t s.lines.items c.as_slice.result.now s.work.d s.slopes.items c.as_slice-2.result.now (reinitialized_of s.work.log) s.assigned.items c.as_slice-3.result.now
     s.changed.items c.as_slice-4.result.now (detector_states_of s.conditions s.agenda) (detector_states_of c.settle_detectors_after_handlers.new.self c.settle_detectors_after_handlers.new.agenda)
     c.as_slice.ensures.value c.as_slice-2.ensures.value c.as_slice-3.ensures.value c.as_slice-4.ensures.value along.after_handlers in
@@ -57,7 +57,7 @@ update_detectors_of-requires c =
               (condition_bounded m s.conditions.branches.items fits.own_conditions.branches place (omega (arith, h, many, fits.own_conditions.branches.as_many))) c.requires.lines.small fits.values.small_discretes
               c.requires.lines.up_to.in_time);
         };
-        slopes_of = subst (AreSlopesOf m) (sym c.as_slice-6.ensures.value) c.requires.slopes;
+        slopes_of = subst (AreSlopesOf m) (sym c.as_slice-2.ensures.value) c.requires.slopes;
         in_time = c.requires.lines.up_to.in_time;
       };
     }
@@ -80,7 +80,7 @@ returns c =
     let fits = c.requires.fits in
     let was = c.requires.before in
     let full : List ℤ = states_at s.lines.items t in
-    let along = c.settle_detectors_after_handlers.ensures.after_handlers in
+    let along = c.settle_detectors_after_handlers.ensures in
     let first : Conditions = c.settle_detectors_after_handlers.new.self in
     let last : Conditions = c.update_detectors_of.new.self in
     let new : Store = record s { conditions = last; agenda = c.update_detectors_of.new.agenda; work = c.settle_detectors_after_handlers.new.work } in
@@ -96,7 +96,7 @@ returns c =
     let rest = rest_watched s.conditions first last along.rest same in
     let work = c.settle_detectors_after_handlers.ensures.work in
     let of_d : new.work.d ≡ s.work.d = ap (λ (v : Values). v.d) work in
-    let slopes : c.as_slice-6.result.now ≡ s.slopes.items = c.as_slice-6.ensures.value in
+    let slopes : c.as_slice-2.result.now ≡ s.slopes.items = c.as_slice-2.ensures.value in
     record {
       after_handlers = still
           ∙ truths_are m full s.work.d t first.after_handlers.items (along.after_handlers.many_truths ∙ fits.own_conditions.after_handlers) (λ place h. (there place h).own_truth);

@@ -7,7 +7,7 @@ use Rattle.qss_run.proofs.OwnConditions.{none_along, along_more, still_settles}
 use Rattle.qss_run.proofs.run_conditions.Conditions.settle_reader_detectors.Goals as goal
 
 pub loop-var-init : goal.loop-var-init
-loop-var-init c = none_along c.args.at.now c.args.d.now c.args.self.now c.args.agenda.now c.args.x.now c.requires.ready
+loop-var-init c = none_along c.args.at.now c.args.self.now c.args.agenda.now c.args.work.now c.requires.ready
 
 pub conditions_of-places-requires : goal.conditions_of-places-requires
 conditions_of-places-requires c =
@@ -15,7 +15,7 @@ conditions_of-places-requires c =
     omega (arith, known, conditions_many c.args.at.now.machine.now c.args.at.now.uses.now c.requires.ready.moment.uses)
 
 pub settle_detectors_at-requires-clause-ready : goal.settle_detectors_at-requires-clause-ready
-settle_detectors_at-requires-clause-ready c = still_settles c.args.at.now c.args.d.now _ _ _ _ _ _ _ c.requires.ready c.loop-var.invariant
+settle_detectors_at-requires-clause-ready c = still_settles c.args.at.now _ _ _ _ _ _ _ c.requires.ready c.loop-var.invariant
 
 pub settle_detectors_at-requires-clause-known : goal.settle_detectors_at-requires-clause-known
 settle_detectors_at-requires-clause-known c =
@@ -32,11 +32,11 @@ loop-var-preserved c =
     let i : ℕ = c.loop-var.var-index in
     let var : ℕ = get_or c.args.vars.now i 0 in
     let known = c.requires.known i 0 c.loop-var-test.true in
-    along_more at c.args.d.now (readers_of m (take i c.args.vars.now)) (reading_conditions m var) _ _ _ _ _ _ _ _ _ _ _ c.loop-var.invariant
+    along_more at (readers_of m (take i c.args.vars.now)) (reading_conditions m var) _ _ _ _ _ _ _ _ _ _ _ c.loop-var.invariant
     (c.conditions_of-places.ensures ∙ conditions_kept m at.uses.now c.requires.ready.moment.uses var (omega (arith, known)))
     (lists_more (reading_conditions m) c.args.vars.now i c.loop-var-test.true) c.settle_detectors_at.ensures
 
 pub returns : goal.returns
 returns c =
-    subst (λ (vars : List ℕ). AreSettledAlong c.args.at.now c.args.d.now (readers_of c.args.at.now.machine.now vars) c.args.self.now c.loop-var.self c.args.agenda.now c.loop-var.agenda c.args.x.now c.loop-var.x)
+    subst (λ (vars : List ℕ). AreSettledAlong c.args.at.now (readers_of c.args.at.now.machine.now vars) c.args.self.now c.loop-var.self c.args.agenda.now c.loop-var.agenda c.args.work.now c.loop-var.work)
     (take_all c.loop-var.var-index c.args.vars.now c.loop-var-test.false) c.loop-var.invariant

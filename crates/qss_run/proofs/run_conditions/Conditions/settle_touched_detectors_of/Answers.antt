@@ -23,7 +23,7 @@ conditions_of-places-requires c =
     let at = c.args.at.now in omega (arith, c.requires.known, conditions_many at.machine.now at.uses.now c.requires.ready.moment.uses)
 
 pub settle_detectors_at-requires-clause-ready : goal.settle_detectors_at-requires-clause-ready
-settle_detectors_at-requires-clause-ready c = still_settles c.args.at.now c.args.d.now _ _ _ _ _ _ _ c.requires.ready c.settle_reader_detectors.ensures
+settle_detectors_at-requires-clause-ready c = still_settles c.args.at.now _ _ _ _ _ _ _ c.requires.ready c.settle_reader_detectors.ensures
 
 pub settle_detectors_at-requires-clause-known : goal.settle_detectors_at-requires-clause-known
 settle_detectors_at-requires-clause-known c =
@@ -36,7 +36,7 @@ pub returns : goal.returns
 returns c =
     let at = c.args.at.now in
     let m = at.machine.now in
-    let of_rows = subst (λ (rows : List ℕ). AreSettledAlong at c.args.d.now (readers_of m rows) c.args.self.now c.settle_reader_detectors.new.self c.args.agenda.now c.settle_reader_detectors.new.agenda c.args.x.now c.settle_reader_detectors.new.x)
+    let of_rows = subst (λ (rows : List ℕ). AreSettledAlong at (readers_of m rows) c.args.self.now c.settle_reader_detectors.new.self c.args.agenda.now c.settle_reader_detectors.new.agenda c.args.work.now c.settle_reader_detectors.new.work)
     (c.rows_of-rows.ensures ∙ rows_kept m at.uses.now c.requires.ready.moment.uses c.args.var c.requires.known) c.settle_reader_detectors.ensures in
-    along_more at c.args.d.now (readers_of m (reading_rows m c.args.var)) (reading_conditions m c.args.var) _ _ _ _ _ _ _ _ _ _ _ of_rows
+    along_more at (readers_of m (reading_rows m c.args.var)) (reading_conditions m c.args.var) _ _ _ _ _ _ _ _ _ _ _ of_rows
     (c.conditions_of-places.ensures ∙ conditions_kept m at.uses.now c.requires.ready.moment.uses c.args.var (omega (arith, c.requires.known))) refl c.settle_detectors_at.ensures

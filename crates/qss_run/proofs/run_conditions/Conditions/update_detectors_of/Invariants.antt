@@ -3,4 +3,4 @@ use Rattle.qss_run.proofs.run_conditions.Conditions.update_detectors_of.Given as
 
 -- the conditions that read a state whose row reads one of the moved states so far have their speeds
 abbrev pub invariant-loop-state : goal.invariant-loop-state
-invariant-loop-state l = AreDetectorsUpdated l.m l.tick l.slopes (flat_map (λ j. readers_of l.m (reading_rows l.m j)) (take l.state-index l.moved)) l.fn.self l.self l.fn.agenda l.agenda
+invariant-loop-state l = AreDetectorsUpdated l.at (flat_map (λ j. readers_of l.at.machine.now (reading_rows l.at.machine.now j)) (take l.state-index l.moved)) l.fn.self l.self l.fn.agenda l.agenda

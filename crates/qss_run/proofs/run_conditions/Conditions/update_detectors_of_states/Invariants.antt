@@ -3,4 +3,4 @@ use Rattle.qss_run.proofs.run_conditions.Conditions.update_detectors_of_states.G
 
 -- the conditions that read the states so far have their speeds
 abbrev pub invariant-loop-state : goal.invariant-loop-state
-invariant-loop-state l = AreDetectorsUpdated l.m l.tick l.slopes (readers_of l.m (take l.state-index l.states)) l.fn.self l.self l.fn.agenda l.agenda
+invariant-loop-state l = AreDetectorsUpdated l.at (readers_of l.at.machine.now (take l.state-index l.states)) l.fn.self l.self l.fn.agenda l.agenda
