@@ -1,9 +1,10 @@
 -- Conditions that are not after the handlers as on arrival, and the places at which they are.
 use Rattle.qss_run.proofs.Common
-use Common.{[], ℕ, ◌&&◌, ◌++◌, ◌<◌, ◌==◌, ◌||◌, ◌∙◌, ◌∷◌, ◌≡◌, ◌⊎◌, ap, AreAlikeBut, Bool}
-use Common.{cases_Bool, Conditions, differ, eqb-true, eqb-yes, false, flag_at, get_or-set_same, inl}
-use Common.{inr, is_listed, IsWritten, length, List, list_any-append, Machine, or_cases, or_parts}
-use Common.{readers_before, refl, same_lists, set, subst, sym, touched_after, touched_by, true}
+use Common.{[], ℕ, ◌&&◌, ◌++◌, ◌<◌, ◌==◌, ◌||◌, ◌∙◌, ◌∷◌, ◌≡◌, ◌⊎◌, All, ap, AreAlikeBut, arith}
+use Common.{Bool, cases_Bool, Conditions, differ, eqb-true, eqb-yes, false, flag_at}
+use Common.{get_or-set_same, inl, inr, is_listed, IsWritten, length, List, list_any-append}
+use Common.{ListsFlipped, Machine, or_cases, or_parts, PlaceList, readers_before, refl, same_lists}
+use Common.{set, subst, sym, touched_after, touched_by, true}
 use Rattle.qss_run.specs.DetectorUpdates.{AreMarkedChanged}
 
 -- flags that are alike but for some places are equal where those are written too
@@ -93,3 +94,30 @@ alike_then m reinitialized assigned changed old new noted kept at_arrival alike 
           not_first changed (touched_by m reinitialized) place (not_first first (touched_by m assigned) place (not_first (first ++ touched_by m assigned) (readers_before m assigned) place none)) in
           ap (λ flags. flag_at flags place) at_arrival ∙ alike place unchanged ∙ sym (kept place none)
     ]
+
+-- truths on arrival and after the handlers, as lists of the same length, that differ at most at
+-- these indices
+pub record AreApartAt (flipped : List ℕ) (at_arrival after_handlers : List Bool) : Type 0 where
+  pub as_many : length at_arrival ≡ length after_handlers
+  pub below : All (λ place. place < length after_handlers) flipped
+  pub alike : AreAlikeBut flipped at_arrival after_handlers
+
+-- only these conditions differ in their two truths, if they are those in `flipped`
+pub apart_at : (all : Conditions) (places : List ℕ) → ListsFlipped all → places ≡ all.flipped.places → All (λ place. place < all.flipped.count) places →
+    AreApartAt places all.at_arrival.items all.after_handlers.items
+apart_at all places lists same below = record {
+  as_many = lists.as_many;
+  below = λ k d h. omega (arith, below k d h, lists.count);
+  alike = λ place none. lists.alike place (subst (λ these. is_listed these place ≡ false) same none);
+}
+
+-- none is in an empty set, and the lengths are as before
+pub lists_none : (old new : Conditions) → ListsFlipped old → new.at_arrival.items ≡ old.after_handlers.items → new.flipped ≡ record old.flipped { places = [] } →
+    new ≡ record old { at_arrival = new.at_arrival; flipped = new.flipped } → ListsFlipped new
+lists_none old new lists settled none rest =
+    let same : new.at_arrival.items ≡ new.after_handlers.items = settled ∙ sym (ap (λ (all : Conditions). all.after_handlers.items) rest) in
+    record {
+      as_many = ap length same;
+      count = ap (λ (s : PlaceList). s.count) none ∙ lists.count ∙ sym (ap (λ (all : Conditions). length all.after_handlers.items) rest);
+      alike = λ place out. ap (λ flags. flag_at flags place) same;
+    }

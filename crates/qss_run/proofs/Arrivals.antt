@@ -2,15 +2,14 @@
 use Rattle.qss_run.proofs.Common
 use Common.{[], ℕ, ℤ, ◌&&◌, ◌+◌, ◌<◌, ◌^◌, ◌||◌, ◌∙◌, ◌≡◌, ◌≤◌, ◌⊎◌, All, all_within, among_at, ap}
 use Common.{AreRisingBelow, AreValuesOf, arith, assigned_of, became_true, Bool, cases_Bool}
-use Common.{condition_at, Conditions, conditions, detector_at, DetectorView, discrete_count, eqb}
-use Common.{false, filter, firing_flags, first_exceeding, flag_at, flags_of, get_or}
-use Common.{get_or-map-range_with_len, get_or_default, HandlerState, handling_from}
-use Common.{handling_of_fired, holds_at, if◌then◌else◌, inl, inr, int_at, int_at-states_at}
-use Common.{int_at-tabulate, is_listed, is_reinitialized, IsHandlerEffect, IsWithin, IsWritten}
-use Common.{length, length-map-range_with_len, Line, line_at, List, Machine, None, not, Option}
-use Common.{or_cases, or_parts, pos, refl, row_room, rows_clauses, run_clauses, same_lists}
-use Common.{state_at, state_count, states_at, states_with, subst, sym, true, truth, truths}
-use Common.{truths_are, Values}
+use Common.{condition_at, Conditions, conditions, detector_at, discrete_count, eqb, false, filter}
+use Common.{firing_flags, first_exceeding, flag_at, flags_of, get_or, get_or-map-range_with_len}
+use Common.{get_or_default, HandlerState, handling_from, handling_of_fired, holds_at, if◌then◌else◌}
+use Common.{inl, inr, int_at, int_at-states_at, int_at-tabulate, is_listed, is_reinitialized}
+use Common.{IsHandlerEffect, IsWithin, IsWritten, length, length-map-range_with_len, Line, line_at}
+use Common.{List, ListsFlipped, Machine, None, not, Option, or_cases, or_parts, pos, refl, row_room}
+use Common.{rows_clauses, run_clauses, same_lists, state_at, state_count, states_at, states_with}
+use Common.{subst, sym, true, truth, truths, truths_are, Values}
 use Rattle.std.proofs.lemmas.Bool.{eqb-true}
 use Rattle.std.proofs.lemmas.List.Elements.{All-filter}
 use Rattle.std.proofs.lemmas.List.Kept.{IsStrictlyIncreasing-filter}
@@ -106,52 +105,48 @@ small_then at all d known small = record {
   small = λ place h. (known.watched place (omega (arith, h, known.fits.detectors))).1 small;
 }
 
--- and truths may be read from slices of what conditions keep
-pub may_be_read : (at : ChangedConditions) (all : Conditions) (d : List ℤ) (detectors : List DetectorView) (after_handlers : List Bool) → KnowsArrival at all d → detectors ≡ all.detectors.items → after_handlers ≡ all.after_handlers.items →
-    first_exceeding 88 (states_at at.lines.now at.tick) ≡ None → at.tick < 2 ^ 32 → MayBeRead at.tick detectors after_handlers at.changed.now
-may_be_read at all d detectors after_handlers known of_watches of_settled calm in_time =
-    let many : length after_handlers ≡ length (conditions at.machine.now) = ap length of_settled ∙ known.fits.after_handlers in
-    record {
-      as_many = ap length of_watches ∙ known.fits.detectors ∙ sym many;
-      numbers = subst (λ n. AreRisingBelow n at.changed.now) (sym many) known.changed;
-      small = subst (AreSmallAt at.tick) (sym of_watches) (small_then at all d known (all_within 88 (states_at at.lines.now at.tick) calm));
-      in_time = omega (arith, in_time);
-    }
+-- and truths may be read from what conditions keep
+pub may_be_read : (at : ChangedConditions) (all : Conditions) (d : List ℤ) → KnowsArrival at all d → first_exceeding 88 (states_at at.lines.now at.tick) ≡ None → at.tick < 2 ^ 32 → MayBeRead at.tick all at.changed.now
+may_be_read at all d known calm in_time = record {
+  as_many = known.fits.detectors ∙ sym known.fits.after_handlers;
+  numbers = subst (λ n. AreRisingBelow n at.changed.now) (sym known.fits.after_handlers) known.changed;
+  small = small_then at all d known (all_within 88 (states_at at.lines.now at.tick) calm);
+  in_time = omega (arith, in_time);
+}
 
--- the same truths from such slices, where the detectors are valid on arrival
-module _ (at : ChangedConditions) (all : Conditions) (d : List ℤ) (known : KnowsArrival at all d) (detectors : List DetectorView) (after_handlers at_arrival now : List Bool)
-    (of_watches : detectors ≡ all.detectors.items) (of_settled : after_handlers ≡ all.after_handlers.items) (of_arrived : at_arrival ≡ all.at_arrival.items)
-    (read : IsWritten false (λ place flag. flag ≡ holds_at (detector_at detectors place) at.tick) at.changed.now after_handlers now) where
+-- conditions on arrival have one of each truth
+pub lists_flipped : (at : ChangedConditions) (all : Conditions) (d : List ℤ) → KnowsArrival at all d → ListsFlipped all
+lists_flipped at all d known = record {
+  as_many = known.fits.at_arrival ∙ sym known.fits.after_handlers;
+  count = known.fits.flipped ∙ sym known.fits.after_handlers;
+  alike = known.alike;
+}
+
+-- the truths on arrival, where the detectors are valid there
+module _ (at : ChangedConditions) (all : Conditions) (d : List ℤ) (known : KnowsArrival at all d) (now : List Bool)
+    (read : IsWritten false (λ place flag. flag ≡ holds_at (detector_at all.detectors.items place) at.tick) at.changed.now all.after_handlers.items now) where
   abbrev holds_there : ℕ → Bool
-  holds_there place = holds_at (detector_at detectors place) at.tick
+  holds_there place = holds_at (detector_at all.detectors.items place) at.tick
 
-  many_settled : length after_handlers ≡ length (conditions at.machine.now)
-  many_settled = ap length of_settled ∙ known.fits.after_handlers
+  many_arrived : length all.at_arrival.items ≡ length all.after_handlers.items
+  many_arrived = known.fits.at_arrival ∙ sym known.fits.after_handlers
 
-  many_arrived : length at_arrival ≡ length after_handlers
-  many_arrived = ap length of_arrived ∙ known.fits.at_arrival ∙ sym many_settled
+  own_truth : (place : ℕ) → place < length all.after_handlers.items → holds_there place ≡ truth at.machine.now (condition_at at.machine.now place) (states_at at.lines.now at.tick) d at.tick
+  own_truth place h = (known.watched place (omega (arith, h, known.fits.after_handlers))).2
 
-  own_truth : (place : ℕ) → place < length after_handlers → holds_there place ≡ truth at.machine.now (condition_at at.machine.now place) (states_at at.lines.now at.tick) d at.tick
-  own_truth place h = ap (λ ws. holds_at (detector_at ws place) at.tick) of_watches ∙ (known.watched place (omega (arith, h, many_settled))).2
-
-  other_truth : (place : ℕ) → place < length after_handlers → is_listed at.changed.now place ≡ false →
-      (truth at.machine.now (condition_at at.machine.now place) (states_at at.lines.now at.tick) d at.tick ≡ flag_at after_handlers place) × (became_true at_arrival after_handlers place ≡ false)
-  other_truth place h none =
-      let is : Bool = truth at.machine.now (condition_at at.machine.now place) (states_at at.lines.now at.tick) d at.tick in
-      subst (λ (b : List Bool). (is ≡ flag_at b place) × (became_true at_arrival b place ≡ false)) (sym of_settled)
-      (subst (λ (a : List Bool). (is ≡ flag_at all.after_handlers.items place) × (became_true a all.after_handlers.items place ≡ false)) (sym of_arrived) (known.others place (omega (arith, h, many_settled)) none))
+  other_truth : (place : ℕ) → place < length all.after_handlers.items → is_listed at.changed.now place ≡ false →
+      (truth at.machine.now (condition_at at.machine.now place) (states_at at.lines.now at.tick) d at.tick ≡ flag_at all.after_handlers.items place) × (became_true all.at_arrival.items all.after_handlers.items place ≡ false)
+  other_truth place h none = known.others place (omega (arith, h, known.fits.after_handlers)) none
 
   pub read_on_arrival : now ≡ truths at.machine.now (states_at at.lines.now at.tick) d at.tick
   read_on_arrival =
-      truths_on_arrival after_handlers at_arrival at.changed.now holds_there now many_arrived read at.machine.now at.tick (states_at at.lines.now at.tick) d many_settled own_truth other_truth
+      truths_on_arrival all.after_handlers.items all.at_arrival.items at.changed.now holds_there now many_arrived read at.machine.now at.tick (states_at at.lines.now at.tick) d known.fits.after_handlers own_truth other_truth
 
-  pub read_handling : (begun : List ℤ) (fired : List ℕ) → first_exceeding 88 (states_at at.lines.now at.tick) ≡ None → begun ≡ d → fired ≡ fired_of holds_there at_arrival after_handlers at.changed.now →
+  pub read_handling : (begun : List ℤ) (fired : List ℕ) → first_exceeding 88 (states_at at.lines.now at.tick) ≡ None → begun ≡ d → fired ≡ fired_of holds_there all.at_arrival.items all.after_handlers.items at.changed.now →
       handling_of_fired at.machine.now at.tick (states_at at.lines.now at.tick) begun fired
       ≡ handling_from at.machine.now at.tick (states_at at.lines.now at.tick) d all.at_arrival.items all.after_handlers.items
   read_handling begun fired calm same are =
-      fired_handling after_handlers at_arrival at.changed.now holds_there now many_arrived read at.machine.now at.tick (states_at at.lines.now at.tick) d many_settled own_truth other_truth begun fired calm same are
-      ∙ ap (λ a. handling_from at.machine.now at.tick (states_at at.lines.now at.tick) d a after_handlers) of_arrived
-      ∙ ap (handling_from at.machine.now at.tick (states_at at.lines.now at.tick) d all.at_arrival.items) of_settled
+      fired_handling all.after_handlers.items all.at_arrival.items at.changed.now holds_there now many_arrived read at.machine.now at.tick (states_at at.lines.now at.tick) d known.fits.after_handlers own_truth other_truth begun fired calm same are
 
 -- the branches that fired have room for their rows
 pub rows_fired : (m : Machine) (tick : ℕ) (x d : List ℤ) (fired : List ℕ) → length (handling_of_fired m tick x d fired).rows ≤ row_room m.clauses

@@ -1,9 +1,10 @@
 -- Conditions that became true during the handlers, scheduled for a tick.
 use Rattle.qss_run.proofs.Common
 use Common.{[], ℕ, ◌&&◌, ◌+◌, ◌<◌, ◌∙◌, ◌≡◌, ◌≢◌, ◌≤◌, ◌⊎◌, ap, AreAlikeBut, AreRisenDue, arith}
-use Common.{became_true, Bool, cases_Bool, cases_eq, due_at, eqb, false, flag_at, get_or}
-use Common.{get_or-set_other, get_or-set_same, index_of, inl, inr, is_listed, length, length-set}
-use Common.{List, None, not, Option, or_cases, refl, set, Some, sym, take, take_all, true}
+use Common.{became_true, Bool, cases_Bool, cases_eq, Conditions, due_at, eqb, false, flag_at}
+use Common.{get_or, get_or-set_other, get_or-set_same, index_of, inl, inr, is_listed, length}
+use Common.{length-set, List, None, not, Option, or_cases, refl, set, Some, sym, take, take_all}
+use Common.{true}
 use Rattle.std.proofs.lemmas.Bool.{eqb-true}
 use Rattle.mu_num.proofs.Writes.{among_more}
 
@@ -82,20 +83,20 @@ module _ (n tick : ℕ) (places : List ℕ) (i : ℕ) (at_arrival after_handlers
   }
 
 -- all that became true are scheduled, and the index after the conditions has none
-pub called_all : (n tick : ℕ) (places : List ℕ) (i : ℕ) (at_arrival after_handlers : List Bool) (old new : List (Option ℕ)) → length places ≤ i → AreAlikeBut places at_arrival after_handlers →
-    AreCalled n tick (take i places) at_arrival after_handlers old new → n + length after_handlers < length new → AreRisenDue n tick at_arrival after_handlers old (set new (n + length after_handlers) None)
-called_all n tick places i at_arrival after_handlers old new past alike are within = record {
-  as_many = length-set new (n + length after_handlers) None ∙ are.as_many;
+pub called_all : (n tick : ℕ) (places : List ℕ) (i : ℕ) (all : Conditions) (old new : List (Option ℕ)) → length places ≤ i → AreAlikeBut places all.at_arrival.items all.after_handlers.items →
+    AreCalled n tick (take i places) all.at_arrival.items all.after_handlers.items old new → n + length all.after_handlers.items < length new → AreRisenDue n tick all old (set new (n + length all.after_handlers.items) None)
+called_all n tick places i all old new past alike are within = record {
+  as_many = length-set new (n + length all.after_handlers.items) None ∙ are.as_many;
   states = λ j h. kept j (omega (arith, h)) ∙ are.states j h;
   risen = λ place h e. kept (n + place) (omega (arith, h)) ∙ are.risen place (ap (λ (these : List ℕ). is_listed these place) (take_all i places past) ∙ listed place e (cases_Bool (is_listed places place))) e;
   others = λ place h e. kept (n + place) (omega (arith, h)) ∙ are.others place e;
-  behind = get_or-set_same new (n + length after_handlers) None None within;
+  behind = get_or-set_same new (n + length all.after_handlers.items) None None within;
 }
   where
-    kept : (other : ℕ) → n + length after_handlers ≢ other → due_at (set new (n + length after_handlers) None) other ≡ due_at new other
-    kept other ne = get_or-set_other new (n + length after_handlers) other None None (λ q. ne (sym q))
+    kept : (other : ℕ) → n + length all.after_handlers.items ≢ other → due_at (set new (n + length all.after_handlers.items) None) other ≡ due_at new other
+    kept other ne = get_or-set_other new (n + length all.after_handlers.items) other None None (λ q. ne (sym q))
 
-    listed : (place : ℕ) → became_true at_arrival after_handlers place ≡ true → (is_listed places place ≡ true) ⊎ (is_listed places place ≡ false) → is_listed places place ≡ true
+    listed : (place : ℕ) → became_true all.at_arrival.items all.after_handlers.items place ≡ true → (is_listed places place ≡ true) ⊎ (is_listed places place ≡ false) → is_listed places place ≡ true
     listed place e (inl there) = there
     listed place e (inr none) =
-        let both : true ≡ false = sym e ∙ not_risen (flag_at at_arrival place) (flag_at after_handlers place) (alike place none) in absurd (cc)
+        let both : true ≡ false = sym e ∙ not_risen (flag_at all.at_arrival.items place) (flag_at all.after_handlers.items place) (alike place none) in absurd (cc)

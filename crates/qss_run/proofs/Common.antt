@@ -23,14 +23,14 @@ pub use Rattle.std.proofs.lemmas.List.Sums.{sum_by-cons, sum_by_more}
 pub use Rattle.std.specs.Int.RustNames.{FitsSigned, unsigned_abs}
 pub use Rattle.std.specs.List.{filter, list_any, range_with_len, sum_by}
 pub use Rattle.std.specs.Option.{option_or}
-pub use Rattle.std.specs.Prelude.{All, Err, if◌then◌else◌, is_some, nat_lt, None, not, Ok, Option}
-pub use Rattle.std.specs.Prelude.{position, Result, Some, vec_capacity, vec_len}
+pub use Rattle.std.specs.Prelude.{All, Err, if◌then◌else◌, is_some, None, not, Ok, Option, position}
+pub use Rattle.std.specs.Prelude.{Result, Some, vec_capacity, vec_len}
 pub use Rattle.std.specs.Vec.{with_items}
 pub use mir.Syntax.{w128, w64}
 pub use Rattle.mu_num.proofs.InPlace.{same_length}
 pub use Rattle.mu_num.proofs.Tables.{int_at-tabulate, tabulate-same}
 pub use Rattle.mu_num.proofs.Tests.{eqb-true, eqb-yes, if_cases}
-pub use Rattle.mu_num.proofs.Writes.{among_at, index_of}
+pub use Rattle.mu_num.proofs.Writes.{among_at, index_of, written_all}
 pub use Rattle.mu_num.specs.IndexedSums.{first_exceeding, int_at, sum_over, tabulate}
 pub use Rattle.mu_num.specs.Limits.{tick_limit}
 pub use Rattle.mu_num.specs.ListedPlaces.{AreRisingBelow, DiffersOnlyAt, flag_at, is_listed}
@@ -115,7 +115,8 @@ pub use Rattle.qss_states.specs.StateLines.{AreLinesAt, IsRestartedFrom, line_at
 pub use Rattle.qss_states.specs.StateLines.{states_with}
 pub use Rattle.qss_states.specs.Variables.{AreAssignedFrom, AreWithin, reads_moved}
 pub use Rattle.qss_states.specs.declared.row_sum_changes.RowSum.TheVariants.{Slope}
-pub use Rattle.qss_run.specs.ConditionPlaces.{AreBranches, detector_at, IsBranchOf, IsDetectorAt}
+pub use Rattle.qss_run.specs.ConditionPlaces.{AreBranches, AreConditionsOf, detector_at, IsBranchOf}
+pub use Rattle.qss_run.specs.ConditionPlaces.{IsDetectorAt, ListsFlipped}
 pub use Rattle.qss_run.specs.DetectorUpdates.{AreSettled, AreSettledAlong, detector_states_of}
 pub use Rattle.qss_run.specs.DetectorUpdates.{DetectorStates, IsSettled, one_reads, readers_before}
 pub use Rattle.qss_run.specs.DetectorUpdates.{readers_of, touched_after, touched_by, touched_of}

@@ -1,10 +1,10 @@
 -- The states and lines of a store from which what is due was removed, at the next tick.
 use Rattle.qss_run.proofs.Common
-use Common.{[], ℕ, ℤ, ◌+◌, ◌<◌, ◌∙◌, ◌≡◌, ◌≢◌, ◌≤◌, all_within, ap, AreLinesAt, AreSumsBefore}
-use Common.{arith, conditions, detector_at, DiffersOnlyAt, due_at, false, first_exceeding}
-use Common.{get_or_default, HasDueRemovedFrom, HasLeft, HasNoEventBefore, index_of, int_at}
-use Common.{int_at-tabulate, is_listed, is_within_quantum, IsDue, IsScheduleOf, IsWithin, length}
-use Common.{line_at, line_state_at, List, Machine, moved_states, None, Option, pos, Slope, slope_at}
+use Common.{ℕ, ℤ, ◌+◌, ◌<◌, ◌∙◌, ◌≡◌, ◌≢◌, ◌≤◌, all_within, ap, AreLinesAt, AreSumsBefore, arith}
+use Common.{detector_at, DiffersOnlyAt, due_at, false, first_exceeding, get_or_default}
+use Common.{HasDueRemovedFrom, HasLeft, HasNoEventBefore, index_of, int_at, int_at-tabulate}
+use Common.{is_listed, is_within_quantum, IsDue, IsScheduleOf, IsWithin, length, line_at}
+use Common.{line_state_at, List, Machine, moved_states, None, Option, pos, Slope, slope_at}
 use Common.{snapshot_of, Some, state_at, state_count, states_at, Store, subst, sym, tick_limit}
 use Common.{true}
 use Rattle.qss_events.proofs.Silence.{still_near}

@@ -1,12 +1,12 @@
 -- Conditions that go on, or of which some settle, are a machine's conditions still.
 use Rattle.qss_run.proofs.Common
-use Common.{[], ℕ, ℤ, ◌++◌, ◌∙◌, ◌≡◌, All, All-append, ap, AreBranches, AreDetectorsUpdated}
-use Common.{AreSettled, AreSettledAlong, arith, Bool, Conditions, conditions, detector_states_of}
-use Common.{DetectorStates, Global, HasSpeed, IsSmall, IsWithin, length, Line, List, Machine}
-use Common.{Option, PlaceList, refl, states_at, subst, sym, touched_after, Values, Vec}
+use Common.{[], ℕ, ℤ, ◌++◌, ◌∙◌, ◌≡◌, All, All-append, ap, AreBranches, AreConditionsOf}
+use Common.{AreDetectorsUpdated, AreSettled, AreSettledAlong, arith, Bool, Conditions, conditions}
+use Common.{detector_states_of, DetectorStates, Global, HasSpeed, IsSmall, IsWithin, length, Line}
+use Common.{List, Machine, Option, PlaceList, refl, states_at, subst, sym, touched_after, Values}
+use Common.{Vec}
 use Rattle.qss_run.specs.ConditionContexts.{CanSettle, CanUpdateDetectors}
 use Rattle.qss_run.specs.declared.run_conditions.ConditionContext.{ConditionContext}
-use Rattle.qss_run.specs.ConditionPlaces.{AreConditionsOf}
 use Rattle.qss_run.proofs.Apart.{none_noted, noted_then}
 use Rattle.qss_run.proofs.Rewatching.{none_settled, settled_then}
 use Rattle.qss_run.proofs.Settling.{none_arrived, arrived_on}

@@ -6,10 +6,11 @@ use Common.{Bool, cases_Bool, cases_eq, cases_lt, compares, Condition, condition
 use Common.{condition_reads, conditions, detector_at, DetectorView, due_at, Entry, eqb-yes, false}
 use Common.{FirstAfter, flat_map, Form, get_or, get_or-set_other, get_or-set_same, get_or_past}
 use Common.{GoesOn, HasSpeed, holds_at, if◌then◌else◌, inl, inr, int_at, ints, IsChange}
-use Common.{IsDetectorAt, length, length-set, Less, List, list_any, list_any_at, Machine, nat_lt}
-use Common.{nat_tests, no_detector, no_row, Option, pos, readers_of, reading_conditions}
-use Common.{reading_rows, reads_moved, refl, row_at, row_reads, set, speed_of, state_count, subst}
-use Common.{suc, sum_over, sym, true, truth, value_at, weighted_sum-entries, zero, zero-*ℤ}
+use Common.{IsDetectorAt, length, length-set, Less, List, list_any, list_any_at, Machine, nat_tests}
+use Common.{no_detector, no_row, Option, pos, readers_of, reading_conditions, reading_rows}
+use Common.{reads_moved, refl, row_at, row_reads, set, speed_of, state_count, subst, suc, sum_over}
+use Common.{sym, true, truth, value_at, weighted_sum-entries, zero, zero-*ℤ}
+use Rattle.std.specs.Prelude.{nat_lt}
 use Rattle.std.proofs.lemmas.Bool.{lt-ltb}
 use Rattle.std.proofs.lemmas.List.Elements.{All-head, All-tail}
 use Rattle.qss_machine.specs.Readers.{places_from}

@@ -1,5 +1,5 @@
 -- Defines the contexts in which conditions and handlers are evaluated, and their preconditions.
-use Rattle.std.specs.Prelude.{◌≡◌, ℕ, ◌<◌, ◌≤◌, Bool, List, length, ℤ, Option, false}
+use Rattle.std.specs.Prelude.{◌≡◌, ℕ, ◌+◌, ◌<◌, ◌≤◌, ◌^◌, List, length, ℤ, Option, false}
 use Rattle.qss_machine.specs.declared.compiled_machine.Machine.{Machine}
 use Rattle.qss_machine.specs.Machines.{state_count, truth}
 use Rattle.qss_machine.specs.Readers.{uses_of}
@@ -9,6 +9,7 @@ use Rattle.qss_run.specs.declared.run_conditions.ConditionContext.{ConditionCont
 use Rattle.qss_run.specs.declared.run_conditions.ConditionValues.{ConditionValues}
 use Rattle.qss_states.specs.StateLines.{states_at, AreLinesAt, AreLinesWithDue}
 use Rattle.qss_run.specs.ConditionPlaces.{detector_at, AreConditionsOf, HasPlaces, KnowsApart}
+use Rattle.qss_run.specs.ConditionPlaces.{ListsFlipped}
 use Rattle.qss_states.specs.Variables.{AreSlopesOf, AreWithin}
 use Rattle.mu_num.specs.ListedPlaces.{flag_at, is_listed, AreRisingBelow}
 use Rattle.mu_num.specs.Limits.{tick_limit, AreStates}
@@ -25,10 +26,10 @@ pub record AreSmallAt (tick : ℕ) (detectors : List DetectorView) : Type 0 wher
 
 -- the truths of these conditions may be computed from their detectors at a tick up to 2^32; there
 -- is one detector for each settled truth
-pub record MayBeRead (tick : ℕ) (detectors : List DetectorView) (after_handlers : List Bool) (changed : List ℕ) : Type 0 where
-  pub as_many : length detectors ≡ length after_handlers
-  pub numbers : AreRisingBelow (length after_handlers) changed
-  pub small : AreSmallAt tick detectors
+pub record MayBeRead (tick : ℕ) (all : Conditions) (changed : List ℕ) : Type 0 where
+  pub as_many : length all.detectors.items ≡ length all.after_handlers.items
+  pub numbers : AreRisingBelow (length all.after_handlers.items) changed
+  pub small : AreSmallAt tick all.detectors.items
   pub in_time : tick ≤ tick_limit
 
 -- the readers of a machine, and its lines and slopes at a tick, within the limits
@@ -85,6 +86,13 @@ pub record KnowsArrival (at : ChangedConditions) (all : Conditions) (d : List �
   pub others : (place : ℕ) → place < length (conditions at.machine.now) → is_listed at.changed.now place ≡ false →
       (truth at.machine.now (condition_at at.machine.now place) (states_at at.lines.now at.tick) d at.tick ≡ flag_at all.after_handlers.items place)
       × (became_true all.at_arrival.items all.after_handlers.items place ≡ false)
+
+-- conditions that became true may be scheduled: the event queue has indices for n states, all
+-- conditions, and one more
+pub record CanMakeDue (n : ℕ) (all : Conditions) (due : List (Option ℕ)) : Type 0 where
+  pub flipped : ListsFlipped all
+  pub places : n + length all.after_handlers.items < length due
+  pub few : n + length all.after_handlers.items < 2 ^ 32
 
 -- the handlers of a tick may run: these due states are removed from the event queue, and the others
 -- are within the limit on their lines

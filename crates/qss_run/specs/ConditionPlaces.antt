@@ -1,9 +1,11 @@
 -- Defines the detectors and the branches of conditions, by index in source order.
-use Rattle.std.specs.Prelude.{◌≡◌, ℕ, ◌+◌, ◌<◌, ◌≤◌, List, length, ℤ, Option, slice_index_or}
+use Rattle.std.specs.Prelude.{◌≡◌, ℕ, ◌+◌, ◌<◌, ◌≤◌, Bool, List, length, ℤ, Option}
+use Rattle.std.specs.Prelude.{slice_index_or}
+use Rattle.std.specs.List.{list_any}
 use Rattle.qss_machine.specs.declared.compiled_machine.Machine.{Machine}
 use Rattle.qss_machine.specs.Machines.{state_count, value_of, speed_of, truth}
 use Rattle.qss_machine.specs.Firing.{first_place}
-use Rattle.qss_machine.specs.Handlers.{conditions}
+use Rattle.qss_machine.specs.Handlers.{conditions, firing_flags}
 use Rattle.qss_hand.specs.Works.{clause_at, branch_at}
 use Rattle.qss_cross.specs.Crossing.{DetectorView, value_at}
 use Rattle.qss_sched.specs.Ranks.{due_at}
@@ -46,6 +48,17 @@ pub record AreConditionsOf (m : Machine) (all : Conditions) : Type 0 where
 -- only conditions in `flipped` may differ between arrival and the end of the handlers
 abbrev pub KnowsApart : Conditions → Type 0
 KnowsApart all = AreAlikeBut all.flipped.places all.at_arrival.items all.after_handlers.items
+
+-- whether some condition became true during the handlers
+abbrev pub has_risen : Conditions → Bool
+has_risen all = list_any (λ flag. flag) (firing_flags all.after_handlers.items all.at_arrival.items all.after_handlers.items)
+
+-- one truth on arrival and one after the handlers for each condition; they differ only at conditions
+-- in `flipped`
+pub record ListsFlipped (all : Conditions) : Type 0 where
+  pub as_many : length all.at_arrival.items ≡ length all.after_handlers.items
+  pub count : all.flipped.count ≡ length all.after_handlers.items
+  pub alike : KnowsApart all
 
 -- an event queue has an index for each state, and then one for each condition
 abbrev pub HasPlaces : Machine → List (Option ℕ) → Type 0

@@ -1,7 +1,8 @@
 -- Defines the states and conditions that are due at one tick, and their removal from the queue.
-use Rattle.std.specs.Prelude.{◌≡◌, ℕ, ◌+◌, ◌<◌, ◌≤◌, ◌^◌, ◌⊎◌, Bool, true, false, not, List, length}
-use Rattle.std.specs.Prelude.{All, Vec, vec_capacity, Option, Some, None}
+use Rattle.std.specs.Prelude.{◌≡◌, ℕ, ◌+◌, ◌<◌, ◌≤◌, ◌⊎◌, Bool, true, false, not, List, length}
+use Rattle.std.specs.Prelude.{Vec, vec_capacity, Option, Some, None}
 use Rattle.std.specs.declared.alloc.Global.{Global}
+use Rattle.qss_run.specs.declared.run_conditions.Conditions.{Conditions}
 use Rattle.mu_num.specs.ListedPlaces.{flag_at, is_listed, AreRisingBelow}
 use Rattle.qss_machine.specs.Ticks.{Snapshot}
 use Rattle.qss_sched.specs.Ranks.{due_at}
@@ -50,13 +51,6 @@ pub record AreChanging (n conditions tick : ℕ) (due : List (Option ℕ)) (chan
 abbrev pub AreAlikeBut : List ℕ → List Bool → List Bool → Type 0
 AreAlikeBut places one other = (place : ℕ) → is_listed places place ≡ false → flag_at one place ≡ flag_at other place
 
--- truths on arrival and after the handlers, as lists of the same length, that differ at most at
--- these indices
-pub record AreApartAt (flipped : List ℕ) (at_arrival after_handlers : List Bool) : Type 0 where
-  pub as_many : length at_arrival ≡ length after_handlers
-  pub below : All (λ place. place < length after_handlers) flipped
-  pub alike : AreAlikeBut flipped at_arrival after_handlers
-
 -- whether two flags differ
 abbrev pub differ : Bool → Bool → Bool
 differ true other = not other
@@ -70,21 +64,14 @@ pub record AreConditionsToEvaluate (n conditions tick : ℕ) (due : List (Option
   pub changing : (place : ℕ) → place < conditions → due_at due (n + place) ≡ Some tick → is_listed changed place ≡ true
   pub risen : (place : ℕ) → place < conditions → became_true w.at_arrival w.after_handlers place ≡ true → is_listed changed place ≡ true
 
--- only the listed conditions may have changed; the event queue has indices for n states, all
--- conditions, and one more
-pub record CanMakeDue (n : ℕ) (listed : List ℕ) (at_arrival after_handlers : List Bool) (due : List (Option ℕ)) : Type 0 where
-  pub flipped : AreApartAt listed at_arrival after_handlers
-  pub places : n + length after_handlers < length due
-  pub few : n + length after_handlers < 2 ^ 32
-
 -- the same due ticks, but conditions that became true during the handlers are due at a tick, and
 -- the last index is cleared
-pub record AreRisenDue (n tick : ℕ) (at_arrival after_handlers : List Bool) (old new : List (Option ℕ)) : Type 0 where
+pub record AreRisenDue (n tick : ℕ) (all : Conditions) (old new : List (Option ℕ)) : Type 0 where
   pub as_many : length new ≡ length old
   pub states : (j : ℕ) → j < n → due_at new j ≡ due_at old j
-  pub risen : (place : ℕ) → place < length after_handlers → became_true at_arrival after_handlers place ≡ true → due_at new (n + place) ≡ Some tick
-  pub others : (place : ℕ) → place < length after_handlers → became_true at_arrival after_handlers place ≡ false → due_at new (n + place) ≡ due_at old (n + place)
-  pub behind : due_at new (n + length after_handlers) ≡ None
+  pub risen : (place : ℕ) → place < length all.after_handlers.items → became_true all.at_arrival.items all.after_handlers.items place ≡ true → due_at new (n + place) ≡ Some tick
+  pub others : (place : ℕ) → place < length all.after_handlers.items → became_true all.at_arrival.items all.after_handlers.items place ≡ false → due_at new (n + place) ≡ due_at old (n + place)
+  pub behind : due_at new (n + length all.after_handlers.items) ≡ None
 
 -- the same event queue without the due ticks at these indices, counted after the first ones
 pub record IsTakenAfter (first : ℕ) (found : List ℕ) (old new : List (Option ℕ)) : Type 0 where

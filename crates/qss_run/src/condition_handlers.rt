@@ -9,7 +9,6 @@ ghost use Rattle.qss_run.specs.DueLists.{AreAlikeBut, IsWithout, AreMovedOut, Ha
 ghost use Rattle.qss_run.specs.HandlerReads.{action_reads, fired_reads, AreArrived};
 ghost use Rattle.qss_run.specs.HandlerResults.{IsHandlerEffect, handling_from, flags_of, handling_of_fired, is_reinitialized};
 
-use crate::condition_truths::{list_fired_by_truths, read_changed_truths};
 use crate::event_steps::{put_back_states, take_due_states};
 use crate::run_conditions::{BranchPlace, ChangedConditions, Conditions};
 use qss_hand::{Over, Work, fire};
@@ -64,27 +63,8 @@ impl Conditions {
         ensures assigned_room { vec_capacity assigned.new ≡ vec_capacity assigned.old }
     {
         move_due_handler_states(at.lines, at.tick, moved.as_slice(), work)?;
-        let detectors = self.detectors.as_slice();
-        let after_handlers = self.after_handlers.as_slice();
-        let at_arrival = self.at_arrival.as_mut_slice();
-        list_fired_by_truths(
-            detectors,
-            at.tick,
-            at.changed,
-            after_handlers,
-            at_arrival,
-            fired,
-        );
-        let flipped = self.flipped.places();
-        read_changed_truths(
-            detectors,
-            at.tick,
-            at.changed,
-            flipped,
-            after_handlers,
-            at_arrival,
-        );
-        self.flipped.clear();
+        self.list_fired(at.tick, at.changed, fired);
+        self.read_changed(at.tick, at.changed);
         let branches = self.branches.as_slice();
         handle_fired_conditions(
             at.machine,

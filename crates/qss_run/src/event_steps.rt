@@ -2,12 +2,11 @@
 //! the tick after them.
 
 ghost use Rattle.std.specs.Prelude.{◌≡◌, ◌+◌, ◌<◌, ◌^◌, if◌then◌else◌, ◌≢◌, ◌≤◌, ◌++◌, ◌-◌, ℕ, None, Some, length, All, true, false, vec_capacity, vec_len, List, Option};
-ghost use Rattle.qss_run.specs.Prelude.{overflow_of, list_any, firing_flags, conditions, int_at, state_count, slope_at, tabulate, due_at, states_with, line_at, states_at, MayArrive, goes_from, replaced_lines_from, is_listed, state_rows, discrete_rows, snapshot_rows, last_snapshot, tick_rows, IsAllowedLevel, IsNext, tick_of, end_of, Snapshot, Rule, AreEventFree, IsVisit, variable_limit, tick_limit, is_touched, state_at};
-ghost use Rattle.qss_run.specs.Words.{IsUnderWay, snapshot_after, snapshot_of, IsStoreAt, HasDueRemoved, IsEventRun, CanContinueAfterHandlers, snapshot_left, KnowsApart, AreDue, AreChanging, AreMovedOut, HasRoomFor, IsTakenAfter, view_of, MovesTouched, touches_at};
+ghost use Rattle.qss_run.specs.Prelude.{overflow_of, conditions, int_at, state_count, slope_at, tabulate, due_at, states_with, line_at, states_at, MayArrive, goes_from, replaced_lines_from, is_listed, state_rows, discrete_rows, snapshot_rows, last_snapshot, tick_rows, IsAllowedLevel, IsNext, tick_of, end_of, Snapshot, Rule, AreEventFree, IsVisit, variable_limit, tick_limit, is_touched, state_at};
+ghost use Rattle.qss_run.specs.Words.{IsUnderWay, snapshot_after, snapshot_of, IsStoreAt, HasDueRemoved, IsEventRun, CanContinueAfterHandlers, snapshot_left, has_risen, ListsFlipped, AreDue, AreChanging, AreMovedOut, HasRoomFor, IsTakenAfter, view_of, MovesTouched, touches_at};
 ghost use Rattle.qss_machine.specs.declared.machine_parts.RowKind.TheVariants as kind;
 
 use crate::condition_detectors::update_detectors_after_handlers;
-use crate::condition_truths::{copy_settled_truths, make_risen_truths_due, schedule_risen_truth};
 use crate::run_conditions::{ChangedConditions, Conditions};
 use crate::run_start::Store;
 use qss_events::{Outcome, add_event_discrete_rows, set_event_overflow_row};
@@ -127,12 +126,7 @@ fn skip_to_event(m: &Machine, tick: u64, s: &mut Store) -> u64
     ensures room { vec_capacity s.new.rows ≡ vec_capacity s.old.rows }
 {
     let next = earliest_due_tick(&s.agenda, m.last);
-    copy_settled_truths(
-        tick + 1 < next,
-        s.conditions.after_handlers.as_slice(),
-        s.conditions.at_arrival.as_mut_slice(),
-        &mut s.conditions.flipped,
-    );
+    s.conditions.copy_settled(tick + 1 < next);
     next - 1
 }
 
@@ -166,18 +160,8 @@ pub(crate) fn run_event<L: Ledger>(
 {
     let states = s.lines.len() as u32;
     let conditions = s.conditions.branches.len() as u32;
-    let at_arrival = s.conditions.at_arrival.as_slice();
-    let after_handlers = s.conditions.after_handlers.as_slice();
-    let flipped = s.conditions.flipped.places();
-    make_risen_truths_due(
-        s.rising,
-        &mut s.agenda,
-        tick + 1,
-        states,
-        flipped,
-        at_arrival,
-        after_handlers,
-    );
+    s.conditions
+        .make_risen_due(s.rising, tick + 1, states, &mut s.agenda);
     take_due_states(&mut s.agenda, tick + 1, states, &mut s.moved);
     take_due_conditions(&mut s.agenda, tick + 1, states, conditions, &mut s.changed);
     run_due_event(m, q, tick, s, steps)
@@ -321,20 +305,14 @@ fn continue_after_handlers<L: Ledger>(m: &Machine, tick: u64, s: &mut Store, ste
 // Sets whether a condition became true during the handlers of a tick. If so, it schedules the next
 // tick at the index after the conditions. Nothing is due there before.
 fn schedule_next_if_risen(tick: u64, s: &mut Store)
-    requires at_arrival { length s.old.conditions.at_arrival.items
-        ≡ length s.old.conditions.after_handlers.items }
+    requires flipped { ListsFlipped s.old.conditions }
     requires places { length s.old.agenda
         ≡ length s.old.lines.items + length s.old.conditions.branches.items + 1 }
     requires count_limit { length s.old.lines.items + length s.old.conditions.branches.items < 2 ^ 32 }
     requires none_due { due_at s.old.agenda
         (length s.old.lines.items + length s.old.conditions.branches.items) ≡ None }
     requires tick_limit { tick < tick_limit }
-    requires count { s.old.conditions.flipped.count ≡ length s.old.conditions.after_handlers.items }
-    requires alike { KnowsApart s.old.conditions }
-    ensures rising { s.new.rising
-        ≡ list_any (λ flag. flag)
-        (firing_flags s.old.conditions.after_handlers.items s.old.conditions.at_arrival.items
-        s.old.conditions.after_handlers.items) }
+    ensures rising { s.new.rising ≡ has_risen s.old.conditions }
     ensures own { due_at s.new.agenda
         (length s.old.lines.items + length s.old.conditions.branches.items)
         ≡ (if s.new.rising then Some (tick + 1) else None) }
@@ -345,18 +323,7 @@ fn schedule_next_if_risen(tick: u64, s: &mut Store)
     ensures same { s.new ≡ record s.old { rising = s.new.rising; agenda = s.new.agenda } }
 {
     let place = (s.lines.len() + s.conditions.branches.len()) as u32;
-    let at_arrival = s.conditions.at_arrival.as_slice();
-    let after_handlers = s.conditions.after_handlers.as_slice();
-    let flipped = s.conditions.flipped.places();
-    let rising = schedule_risen_truth(
-        tick,
-        flipped,
-        at_arrival,
-        after_handlers,
-        place,
-        &mut s.agenda,
-    );
-    s.rising = rising;
+    s.rising = s.conditions.schedule_risen(tick, place, &mut s.agenda);
 }
 
 // Sets the end rows, with the states at the last tick.

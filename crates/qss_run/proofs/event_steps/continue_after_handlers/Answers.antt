@@ -164,14 +164,16 @@ schedule_next_if_risen-requires g c =
     let own = left.fits.own_conditions in
     let behind : ℕ = state_count m + length (conditions m) in
     record {
-      at_arrival = own.at_arrival ∙ sym own.after_handlers;
+      flipped = record {
+        as_many = own.at_arrival ∙ sym own.after_handlers;
+        count = own.flipped ∙ sym own.after_handlers;
+        alike = left.alike c.requires.after_handlers.alike;
+      };
       places = omega (arith, left.fits.places, left.fits.lines, own.branches.as_many);
       count_limit = omega (arith, left.fits.lines, own.branches.as_many, conditions_few m, m.has_variables.few);
       none_due = ap (due_at c.update_detectors_after_handlers.new.s.agenda) (omega (arith, left.fits.lines, own.branches.as_many))
           ∙ left.beyond behind (omega arith) ∙ c.update_slopes_after_handlers.ensures.others behind (omega arith) ∙ c.requires.behind;
       tick_limit = c.requires.in_time;
-      count = own.flipped ∙ sym own.after_handlers;
-      alike = left.alike c.requires.after_handlers.alike;
     }
 
 pub returns : goal.returns

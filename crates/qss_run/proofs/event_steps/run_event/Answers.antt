@@ -1,7 +1,6 @@
 -- What is to be evaluated at the next tick was removed from the event queue.
 use Rattle.qss_run.proofs.Common
-use Common.{◌+◌, ◌<◌, ◌∙◌, ◌≡◌, ap, arith, became_true, conditions, conditions_few, flag_at}
-use Common.{is_listed, length, state_count, Store, sym}
+use Common.{◌+◌, ◌<◌, ◌∙◌, ◌≡◌, arith, conditions, conditions_few, length, state_count, Store, sym}
 use Rattle.qss_run.proofs.Jumps.{dues_later}
 use Rattle.qss_run.proofs.Takes.{none_left_before, none_called_before, is_taken, none_to_call}
 use Rattle.qss_run.proofs.event_steps.run_event.Goals as goal
@@ -10,39 +9,27 @@ pub overflow_cast-conditions : goal.overflow_cast-conditions
 overflow_cast-conditions g c =
     omega (arith, c.len-conditions.ensures, c.args.s.now.conditions.branches.ok.0, c.requires.stands.fits.own_conditions.branches.as_many, conditions_few c.args.m.now)
 
-pub make_risen_truths_due-requires-clause-ready : goal.make_risen_truths_due-requires-clause-ready
-make_risen_truths_due-requires-clause-ready g c =
+pub make_risen_due-requires-clause-ready : goal.make_risen_due-requires-clause-ready
+make_risen_due-requires-clause-ready g c =
     let m = c.args.m.now in
     let s : Store = c.args.s.now in
     let fits = c.requires.stands.fits in
     let own = fits.own_conditions in
-    let many = ap length c.as_slice-after_handlers.ensures.value ∙ own.after_handlers in
     record {
-      flipped = record {
-        as_many = ap length c.as_slice-at_arrival.ensures.value ∙ own.at_arrival ∙ sym many;
-        below = λ k d h. omega (arith, c.places-flipped.ensures.below k d h, own.flipped, many);
-        alike = λ place none.
-            ap (λ flags. flag_at flags place) c.as_slice-at_arrival.ensures.value
-            ∙ c.requires.stands.alike place (ap (λ these. is_listed these place) (sym c.places-flipped.ensures.places) ∙ none)
-            ∙ sym (ap (λ flags. flag_at flags place) c.as_slice-after_handlers.ensures.value);
-      };
-      places = omega (arith, fits.places, c.len-states.ensures, s.lines.ok.0, fits.lines, many);
-      few = omega (arith, c.len-states.ensures, s.lines.ok.0, fits.lines, m.has_variables.few, many, conditions_few m);
+      flipped = record { as_many = own.at_arrival ∙ sym own.after_handlers; count = own.flipped ∙ sym own.after_handlers; alike = c.requires.stands.alike };
+      places = omega (arith, fits.places, c.len-states.ensures, s.lines.ok.0, fits.lines, own.after_handlers);
+      few = omega (arith, c.len-states.ensures, s.lines.ok.0, fits.lines, m.has_variables.few, own.after_handlers, conditions_few m);
     }
 
-pub make_risen_truths_due-requires-clause-none_risen : goal.make_risen_truths_due-requires-clause-none_risen
-make_risen_truths_due-requires-clause-none_risen g c calm place h =
-    let s : Store = c.args.s.now in
-    ap (λ a. became_true a c.as_slice-after_handlers.result.now place) c.as_slice-at_arrival.ensures.value
-    ∙ ap (λ b. became_true s.conditions.at_arrival.items b place) c.as_slice-after_handlers.ensures.value
-    ∙ none_to_call c.args.m.now c.args.tick s c.requires.stands calm place
+pub make_risen_due-requires-clause-none_risen : goal.make_risen_due-requires-clause-none_risen
+make_risen_due-requires-clause-none_risen g c calm place h = none_to_call c.args.m.now c.args.tick c.args.s.now c.requires.stands calm place
 
 pub take_due_states-requires-clause-none_before : goal.take_due_states-requires-clause-none_before
 take_due_states-requires-clause-none_before g c =
     let s : Store = c.args.s.now in
     let fits = c.requires.stands.fits in
-    none_called_before c.len-states.result (c.args.tick + 1) c.as_slice-at_arrival.result.now c.as_slice-after_handlers.result.now s.agenda c.make_risen_truths_due.new.agenda c.make_risen_truths_due.ensures
-    (omega (arith, fits.places, c.len-states.ensures, s.lines.ok.0, fits.lines, ap length c.as_slice-after_handlers.ensures.value, fits.own_conditions.after_handlers))
+    none_called_before c.len-states.result (c.args.tick + 1) s.conditions s.agenda c.make_risen_due.new.agenda c.make_risen_due.ensures
+    (omega (arith, fits.places, c.len-states.ensures, s.lines.ok.0, fits.lines, fits.own_conditions.after_handlers))
     (λ place due e. omega (arith, dues_later c.args.m.now c.args.tick s c.requires.stands place due e))
 
 pub take_due_conditions-requires-clause-count_limit : goal.take_due_conditions-requires-clause-count_limit
@@ -64,9 +51,9 @@ pub take_due_conditions-requires-clause-none_before : goal.take_due_conditions-r
 take_due_conditions-requires-clause-none_before g c =
     let s : Store = c.args.s.now in
     let fits = c.requires.stands.fits in
-    none_left_before c.len-states.result (c.args.tick + 1) c.take_due_states.new.moved.items c.make_risen_truths_due.new.agenda c.take_due_states.new.agenda c.take_due_states.ensures.due c.take_due_states.ensures.out.without
-    (none_called_before c.len-states.result (c.args.tick + 1) c.as_slice-at_arrival.result.now c.as_slice-after_handlers.result.now s.agenda c.make_risen_truths_due.new.agenda c.make_risen_truths_due.ensures
-    (omega (arith, fits.places, c.len-states.ensures, s.lines.ok.0, fits.lines, ap length c.as_slice-after_handlers.ensures.value, fits.own_conditions.after_handlers))
+    none_left_before c.len-states.result (c.args.tick + 1) c.take_due_states.new.moved.items c.make_risen_due.new.agenda c.take_due_states.new.agenda c.take_due_states.ensures.due c.take_due_states.ensures.out.without
+    (none_called_before c.len-states.result (c.args.tick + 1) s.conditions s.agenda c.make_risen_due.new.agenda c.make_risen_due.ensures
+    (omega (arith, fits.places, c.len-states.ensures, s.lines.ok.0, fits.lines, fits.own_conditions.after_handlers))
     (λ place due e. omega (arith, dues_later c.args.m.now c.args.tick s c.requires.stands place due e)))
 
 pub run_due_event-requires : goal.run_due_event-requires
@@ -79,9 +66,9 @@ run_due_event-requires g c =
     record {
       taken = (
         s.agenda,
-        is_taken m c.args.tick s c.len-states.result c.len-conditions.result c.as_slice-at_arrival.result.now c.as_slice-after_handlers.result.now c.take_due_states.new.moved c.take_due_conditions.new.changed
-            c.make_risen_truths_due.new.agenda c.take_due_states.new.agenda c.take_due_conditions.new.agenda c.requires.stands states places c.as_slice-at_arrival.ensures.value c.as_slice-after_handlers.ensures.value
-            c.make_risen_truths_due.ensures c.take_due_states.ensures.due c.take_due_states.ensures.out.without c.take_due_conditions.ensures.changing c.take_due_conditions.ensures.taken c.take_due_states.ensures.out.room c.take_due_conditions.ensures.room,
+        is_taken m c.args.tick s c.len-states.result c.len-conditions.result c.take_due_states.new.moved c.take_due_conditions.new.changed
+            c.make_risen_due.new.agenda c.take_due_states.new.agenda c.take_due_conditions.new.agenda c.requires.stands states places
+            c.make_risen_due.ensures c.take_due_states.ensures.due c.take_due_states.ensures.out.without c.take_due_conditions.ensures.changing c.take_due_conditions.ensures.taken c.take_due_states.ensures.out.room c.take_due_conditions.ensures.room,
       );
       in_time = c.requires.in_time;
     }
@@ -97,5 +84,5 @@ returns-clause-kept g c none j inside unaffected =
     let known : j < c.len-states.result = omega (arith, inside, c.len-states.ensures, s.lines.ok.0, c.requires.stands.fits.lines) in
     let kept = c.run_due_event.ensures.kept none j inside unaffected in (
       kept.0,
-      kept.1 ∙ c.take_due_conditions.ensures.taken.before j known ∙ c.take_due_states.ensures.out.without.others j kept.2 ∙ c.make_risen_truths_due.ensures.states j known,
+      kept.1 ∙ c.take_due_conditions.ensures.taken.before j known ∙ c.take_due_states.ensures.out.without.others j kept.2 ∙ c.make_risen_due.ensures.states j known,
     )

@@ -1,14 +1,14 @@
 -- The branches of the conditions that hold on arrival, and did not both before, are those that are due.
 use Rattle.qss_run.proofs.Common
-use Common.{ℕ, ℤ, ◌<◌, ◌||◌, ◌∙◌, ◌≡◌, All, all_within, ap, AreBranches, AreRisingBelow, arith}
-use Common.{assigned_of, clash, Conditions, conditions, detector_at, Err, first_exceeding, flag_at}
-use Common.{HandlerState, handling_from, handling_of_fired, holds_at, is_listed, is_reinitialized}
-use Common.{is_some, IsHandlerEffect, IsWithin, IsWritten, length, line_at, List, None, overflow_of}
-use Common.{PlaceList, pos, Result, Row, rules, same_length, state_at, state_count, states_at}
-use Common.{subst, sym, true, Values, with_items, with_items_is}
+use Common.{ℕ, ℤ, ◌<◌, ◌||◌, ◌∙◌, ◌≡◌, All, all_within, ap, AreBranches, AreConditionsOf}
+use Common.{AreRisingBelow, arith, assigned_of, clash, Conditions, conditions, detector_at, Err}
+use Common.{first_exceeding, flag_at, HandlerState, handling_from, handling_of_fired, holds_at}
+use Common.{is_listed, is_reinitialized, is_some, IsHandlerEffect, IsWithin, IsWritten, length}
+use Common.{line_at, List, None, overflow_of, PlaceList, pos, Result, Row, rules, state_at}
+use Common.{state_count, states_at, subst, sym, true, Values}
 use Rattle.qss_hand.specs.declared.handler_statements.Over.{Over}
-use Rattle.qss_run.proofs.Arrivals.{may_be_read, fired_numbers, read_on_arrival, read_handling}
-use Rattle.qss_run.proofs.Arrivals.{rows_fired, known_states, is_handled}
+use Rattle.qss_run.proofs.Arrivals.{lists_flipped, may_be_read, fired_numbers, read_on_arrival}
+use Rattle.qss_run.proofs.Arrivals.{read_handling, rows_fired, known_states, is_handled}
 use Rattle.qss_run.proofs.Handled.{over_early}
 use Rattle.qss_run.proofs.OwnConditions.{arrived_anew}
 use Rattle.qss_run.proofs.run_conditions.Conditions.handle_changed_conditions.Goals as goal
@@ -64,48 +64,34 @@ pub returns-in_err-move_due_handler_states-clause-without : goal.returns-in_err-
 returns-in_err-move_due_handler_states-clause-without c none =
     unless_over c.from_residual.result c.in_err-move_due_handler_states.field-0.0 (search rules) none
 
-pub list_fired_by_truths-requires-clause-read : goal.list_fired_by_truths-requires-clause-read
-list_fired_by_truths-requires-clause-read c =
+pub list_fired-requires-clause-read : goal.list_fired-requires-clause-read
+list_fired-requires-clause-read c =
     let calm : first_exceeding 88 (states_at c.args.at.now.lines.now c.args.at.now.tick) ≡ None =
     sym c.move_due_handler_states.ensures.at_arrival.over_is ∙ ap overflow_of c.in_ok-move_due_handler_states.was in
-    may_be_read c.args.at.now c.args.self.now c.args.work.now.d c.as_slice-detectors.result.now c.as_slice-after_handlers.result.now c.requires.ready.known c.as_slice-detectors.ensures.value
-    c.as_slice-after_handlers.ensures.value calm c.requires.ready.lines.up_to.in_time
+    may_be_read c.args.at.now c.args.self.now c.args.work.now.d c.requires.ready.known calm c.requires.ready.lines.up_to.in_time
 
-pub list_fired_by_truths-requires-clause-at_arrival : goal.list_fired_by_truths-requires-clause-at_arrival
-list_fired_by_truths-requires-clause-at_arrival c =
-    ap length c.as_mut_slice-at_arrival.ensures.value ∙ c.requires.ready.known.fits.at_arrival ∙ sym (ap length c.as_slice-after_handlers.ensures.value ∙ c.requires.ready.known.fits.after_handlers)
-
-pub list_fired_by_truths-requires-clause-room : goal.list_fired_by_truths-requires-clause-room
-list_fired_by_truths-requires-clause-room c =
-    omega (arith, ap length c.as_slice-after_handlers.ensures.value, c.requires.ready.known.fits.after_handlers, c.requires.fired_room)
-
-pub read_changed_truths-requires-clause-read : goal.read_changed_truths-requires-clause-read
-read_changed_truths-requires-clause-read c =
+pub read_changed-requires-clause-read : goal.read_changed-requires-clause-read
+read_changed-requires-clause-read c =
     let calm : first_exceeding 88 (states_at c.args.at.now.lines.now c.args.at.now.tick) ≡ None =
     sym c.move_due_handler_states.ensures.at_arrival.over_is ∙ ap overflow_of c.in_ok-move_due_handler_states.was in
-    may_be_read c.args.at.now c.args.self.now c.args.work.now.d c.as_slice-detectors.result.now c.as_slice-after_handlers.result.now c.requires.ready.known c.as_slice-detectors.ensures.value
-    c.as_slice-after_handlers.ensures.value calm c.requires.ready.lines.up_to.in_time
+    may_be_read c.args.at.now c.args.self.now c.args.work.now.d c.requires.ready.known calm c.requires.ready.lines.up_to.in_time
 
-pub read_changed_truths-requires-clause-flipped : goal.read_changed_truths-requires-clause-flipped
-read_changed_truths-requires-clause-flipped c =
-    let fits = c.requires.ready.known.fits in
-    record {
-      as_many = ap length c.as_mut_slice-at_arrival.ensures.value ∙ fits.at_arrival ∙ sym (ap length c.as_slice-after_handlers.ensures.value ∙ fits.after_handlers);
-      below = λ k d h. omega (arith, c.places-flipped.ensures.below k d h, fits.flipped, fits.after_handlers, ap length c.as_slice-after_handlers.ensures.value);
-      alike = λ place none.
-          ap (λ flags. flag_at flags place) c.as_mut_slice-at_arrival.ensures.value
-          ∙ c.requires.ready.known.alike place (ap (λ these. is_listed these place) (sym c.places-flipped.ensures.places) ∙ none)
-          ∙ sym (ap (λ flags. flag_at flags place) c.as_slice-after_handlers.ensures.value);
-    }
+pub list_fired-requires-clause-flipped : goal.list_fired-requires-clause-flipped
+list_fired-requires-clause-flipped c = lists_flipped c.args.at.now c.args.self.now c.args.work.now.d c.requires.ready.known
+
+pub list_fired-requires-clause-room : goal.list_fired-requires-clause-room
+list_fired-requires-clause-room c = omega (arith, c.requires.ready.known.fits.after_handlers, c.requires.fired_room)
 
 pub handle_fired_conditions-requires-clause-due : goal.handle_fired_conditions-requires-clause-due
 handle_fired_conditions-requires-clause-due c =
+    let all : Conditions = c.args.self.now in
     let count : ℕ = length c.as_slice-branches.result.now in
-    let places : count ≡ length (conditions c.args.at.now.machine.now) = ap length c.as_slice-branches.ensures.value ∙ c.requires.ready.known.fits.branches.as_many in
+    let kept : c.as_slice-branches.result.now ≡ all.branches.items = c.as_slice-branches.ensures.value ∙ ap (λ (v : Conditions). v.branches.items) c.read_changed.ensures.rest in
+    let places : count ≡ length (conditions c.args.at.now.machine.now) = ap length kept ∙ c.requires.ready.known.fits.branches.as_many in
     record {
-      of = subst (AreBranches c.args.at.now.machine.now) (sym c.as_slice-branches.ensures.value) c.requires.ready.known.fits.branches;
-      numbers = subst (AreRisingBelow count) (sym (c.as_slice-2.ensures.value ∙ c.list_fired_by_truths.ensures.fired))
-          (fired_numbers c.as_slice-after_handlers.result.now c.as_mut_slice-at_arrival.result.now c.args.at.now.changed.now (λ place. holds_at (detector_at c.as_slice-detectors.result.now place) c.args.at.now.tick) count
+      of = subst (AreBranches c.args.at.now.machine.now) (sym kept) c.requires.ready.known.fits.branches;
+      numbers = subst (AreRisingBelow count) (sym (c.as_slice-2.ensures.value ∙ c.list_fired.ensures.fired))
+          (fired_numbers all.after_handlers.items all.at_arrival.items c.args.at.now.changed.now (λ place. holds_at (detector_at all.detectors.items place) c.args.at.now.tick) count
           (subst (λ n. AreRisingBelow n c.args.at.now.changed.now) (sym places) c.requires.ready.known.changed));
     }
 
@@ -138,9 +124,8 @@ returns-in_err-handle_fired_conditions-clause-overflow c =
     let calm : first_exceeding 88 x ≡ None =
     sym c.move_due_handler_states.ensures.at_arrival.over_is ∙ ap overflow_of c.in_ok-move_due_handler_states.was in
     let same : handling_of_fired m tick x c.move_due_handler_states.new.work.d c.as_slice-2.result.now ≡ handling_from m tick x c.args.work.now.d all.at_arrival.items all.after_handlers.items =
-    read_handling c.args.at.now all c.args.work.now.d ready.known c.as_slice-detectors.result.now c.as_slice-after_handlers.result.now c.as_mut_slice-at_arrival.result.now c.read_changed_truths.new.at_arrival
-    c.as_slice-detectors.ensures.value c.as_slice-after_handlers.ensures.value c.as_mut_slice-at_arrival.ensures.value c.read_changed_truths.ensures
-    c.move_due_handler_states.new.work.d c.as_slice-2.result.now calm (ap (λ (v : Values). v.d) c.move_due_handler_states.ensures.work) (c.as_slice-2.ensures.value ∙ c.list_fired_by_truths.ensures.fired) in
+    read_handling c.args.at.now all c.args.work.now.d ready.known c.read_changed.new.self.at_arrival.items c.read_changed.ensures.at_arrival
+    c.move_due_handler_states.new.work.d c.as_slice-2.result.now calm (ap (λ (v : Values). v.d) c.move_due_handler_states.ensures.work) (c.as_slice-2.ensures.value ∙ c.list_fired.ensures.fired) in
     let given : c.from_residual-in_err-handle_fired_conditions.result ≡ Err c.in_err-handle_fired_conditions.field-0.0 =
     search rules in
     ap overflow_of given ∙ ap overflow_of (sym c.in_err-handle_fired_conditions.was) ∙ c.handle_fired_conditions.ensures.overflow ∙ ap (λ (h : HandlerState). h.overflow) same
@@ -213,9 +198,8 @@ returns-clause-overflow c =
     let calm : first_exceeding 88 x ≡ None =
     sym c.move_due_handler_states.ensures.at_arrival.over_is ∙ ap overflow_of c.in_ok-move_due_handler_states.was in
     let same : handling_of_fired m tick x c.move_due_handler_states.new.work.d c.as_slice-2.result.now ≡ handling_from m tick x c.args.work.now.d all.at_arrival.items all.after_handlers.items =
-    read_handling c.args.at.now all c.args.work.now.d ready.known c.as_slice-detectors.result.now c.as_slice-after_handlers.result.now c.as_mut_slice-at_arrival.result.now c.read_changed_truths.new.at_arrival
-    c.as_slice-detectors.ensures.value c.as_slice-after_handlers.ensures.value c.as_mut_slice-at_arrival.ensures.value c.read_changed_truths.ensures
-    c.move_due_handler_states.new.work.d c.as_slice-2.result.now calm (ap (λ (v : Values). v.d) c.move_due_handler_states.ensures.work) (c.as_slice-2.ensures.value ∙ c.list_fired_by_truths.ensures.fired) in
+    read_handling c.args.at.now all c.args.work.now.d ready.known c.read_changed.new.self.at_arrival.items c.read_changed.ensures.at_arrival
+    c.move_due_handler_states.new.work.d c.as_slice-2.result.now calm (ap (λ (v : Values). v.d) c.move_due_handler_states.ensures.work) (c.as_slice-2.ensures.value ∙ c.list_fired.ensures.fired) in
     let none : overflow_of c.handle_fired_conditions.result ≡ None =
     ap overflow_of c.in_ok-handle_fired_conditions.was in
     sym none ∙ c.handle_fired_conditions.ensures.overflow ∙ ap (λ (h : HandlerState). h.overflow) same
@@ -231,9 +215,8 @@ returns-clause-handled c =
     let calm : first_exceeding 88 x ≡ None =
     sym c.move_due_handler_states.ensures.at_arrival.over_is ∙ ap overflow_of c.in_ok-move_due_handler_states.was in
     let same : handling_of_fired m tick x c.move_due_handler_states.new.work.d c.as_slice-2.result.now ≡ handling_from m tick x c.args.work.now.d all.at_arrival.items all.after_handlers.items =
-    read_handling c.args.at.now all c.args.work.now.d ready.known c.as_slice-detectors.result.now c.as_slice-after_handlers.result.now c.as_mut_slice-at_arrival.result.now c.read_changed_truths.new.at_arrival
-    c.as_slice-detectors.ensures.value c.as_slice-after_handlers.ensures.value c.as_mut_slice-at_arrival.ensures.value c.read_changed_truths.ensures
-    c.move_due_handler_states.new.work.d c.as_slice-2.result.now calm (ap (λ (v : Values). v.d) c.move_due_handler_states.ensures.work) (c.as_slice-2.ensures.value ∙ c.list_fired_by_truths.ensures.fired) in
+    read_handling c.args.at.now all c.args.work.now.d ready.known c.read_changed.new.self.at_arrival.items c.read_changed.ensures.at_arrival
+    c.move_due_handler_states.new.work.d c.as_slice-2.result.now calm (ap (λ (v : Values). v.d) c.move_due_handler_states.ensures.work) (c.as_slice-2.ensures.value ∙ c.list_fired.ensures.fired) in
     let begun : Values = c.move_due_handler_states.new.work in
     let came : IsWritten (pos 0) (λ j z. z ≡ state_at (line_at lines j) tick) c.args.moved.now.items c.args.work.now.x begun.x =
     subst (λ these. IsWritten (pos 0) (λ j z. z ≡ state_at (line_at lines j) tick) these c.args.work.now.x begun.x) c.as_slice.ensures.value c.move_due_handler_states.ensures.at_arrival.at_arrival in
@@ -252,25 +235,21 @@ returns-clause-handled c =
 
 pub returns-clause-at_arrival : goal.returns-clause-at_arrival
 returns-clause-at_arrival c =
-    let all : Conditions = c.args.self.now in
-    λ e. with_items_is all.at_arrival c.read_changed_truths.new.at_arrival (c.read_changed_truths.auto.at_arrival ∙ c.as_mut_slice-at_arrival.ensures.len)
-    ∙ read_on_arrival c.args.at.now all c.args.work.now.d c.requires.ready.known c.as_slice-detectors.result.now c.as_slice-after_handlers.result.now c.as_mut_slice-at_arrival.result.now c.read_changed_truths.new.at_arrival
-    c.as_slice-detectors.ensures.value c.as_slice-after_handlers.ensures.value c.as_mut_slice-at_arrival.ensures.value c.read_changed_truths.ensures
+    λ e. read_on_arrival c.args.at.now c.args.self.now c.args.work.now.d c.requires.ready.known c.read_changed.new.self.at_arrival.items c.read_changed.ensures.at_arrival
 
 pub returns-clause-alike : goal.returns-clause-alike
 returns-clause-alike c =
-    let all : Conditions = c.args.self.now in
-    λ e place none.
-    ap (λ flags. flag_at flags place) (with_items_is all.at_arrival c.read_changed_truths.new.at_arrival (c.read_changed_truths.auto.at_arrival ∙ c.as_mut_slice-at_arrival.ensures.len))
-    ∙ c.read_changed_truths.ensures.others place none
-    ∙ ap (λ flags. flag_at flags place) c.as_slice-after_handlers.ensures.value
+    λ e place none. c.read_changed.ensures.at_arrival.others place none ∙ sym (ap (λ (v : Conditions). flag_at v.after_handlers.items place) c.read_changed.ensures.rest)
 
 pub returns-clause-none_apart : goal.returns-clause-none_apart
-returns-clause-none_apart c = λ e. ap (λ (s : PlaceList). s.places) c.clear.ensures
+returns-clause-none_apart c = λ e. ap (λ (s : PlaceList). s.places) c.read_changed.ensures.flipped
 
 pub returns-clause-fits : goal.returns-clause-fits
 returns-clause-fits c =
+    let m = c.args.at.now.machine.now in
     let all : Conditions = c.args.self.now in
+    let left : Conditions = c.read_changed.new.self in
     let fits = c.requires.ready.known.fits in
-    λ e. arrived_anew c.args.at.now.machine.now all (with_items all.at_arrival c.read_changed_truths.new.at_arrival) c.clear.new.self fits (same_length all.at_arrival c.read_changed_truths.new.at_arrival ∙ fits.at_arrival)
-    (ap (λ (s : PlaceList). s.count) c.clear.ensures)
+    let rest = c.read_changed.ensures in
+    λ e. subst (AreConditionsOf m) (sym rest.rest)
+    (arrived_anew m all left.at_arrival left.flipped fits (rest.at_arrival.as_many ∙ fits.after_handlers) (ap (λ (s : PlaceList). s.count) rest.flipped))

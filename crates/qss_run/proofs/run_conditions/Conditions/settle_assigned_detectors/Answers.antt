@@ -1,9 +1,8 @@
 -- The conditions that read one more value before the tick are settled.
 use Rattle.qss_run.proofs.Common
-use Common.{[], ℕ, ◌+◌, ◌<◌, ◌∙◌, ◌≡◌, All, ap, AreSettledAlong, arith, conditions}
-use Common.{conditions_below, conditions_kept, conditions_many, discrete_count, get_or, length}
-use Common.{List, lists_more, readers_before, reading_conditions, subst, sym, take, take_all}
-use Common.{Values}
+use Common.{[], ℕ, ◌+◌, ◌∙◌, ◌≡◌, ap, AreSettledAlong, arith, conditions, conditions_below}
+use Common.{conditions_kept, conditions_many, discrete_count, get_or, length, List, lists_more}
+use Common.{readers_before, reading_conditions, subst, take, take_all, Values}
 use Rattle.qss_run.proofs.OwnConditions.{none_along, along_more, still_settles}
 use Rattle.qss_run.proofs.run_conditions.Conditions.settle_assigned_detectors.Goals as goal
 
@@ -26,7 +25,7 @@ settle_detectors_at-requires-clause-known c =
     let var : ℕ = get_or c.args.assigned.now c.loop-var.var-index 0 in
     let known = c.requires.assigned c.loop-var.var-index 0 c.loop-var-test.true in
     let many = ap (λ (v : Values). length v.d) c.work.view_is in
-    subst (All (λ place. place < length (conditions m))) (sym c.conditions_of-places.ensures)
+    rw c.conditions_of-places.ensures
     (conditions_below m at.uses.now c.requires.ready.moment.uses (var + c.len-discretes.result)
     (omega (arith, known.1, c.len-discretes.ensures, c.work.inside.d.ok.0, many, c.requires.ready.values.discretes)) (length (conditions m)) (omega arith))
 

@@ -1,7 +1,7 @@
 -- There is room for all that change.
 use Rattle.qss_run.proofs.Common.{arith}
 use Rattle.mu_num.proofs.RisingNumbers.{few_numbers}
-use Rattle.qss_run.proofs.condition_truths.list_fired_by_truths.Goals as goal
+use Rattle.qss_run.proofs.run_conditions.Conditions.list_fired.Goals as goal
 
 pub push_reserved-requires : goal.push_reserved-requires
 push_reserved-requires c =

@@ -1,7 +1,7 @@
 use Rattle.qss_run.proofs.Common
 use Common.{◌&&◌, ◌≡◌, ◌≤◌, detector_at, filter, flag_at, holds_at, not, take, vec_capacity}
 use Common.{vec_len}
-use Rattle.qss_run.proofs.condition_truths.list_fired_by_truths.Given as goal
+use Rattle.qss_run.proofs.run_conditions.Conditions.list_fired.Given as goal
 
 -- those so far
 abbrev pub invariant-loop-condition : goal.invariant-loop-condition
