@@ -13,11 +13,12 @@ use Rattle.qss_hand.specs.Values.{Values}
 use Rattle.qss_hand.specs.Works.{AreValuesOf}
 use Rattle.mu_num.specs.ListedPlaces.{is_listed, AreRisingBelow}
 use Rattle.mu_num.specs.Limits.{bits_of_state, AreStates}
+use Rattle.qss_run.specs.declared.run_conditions.ChangedConditions.{ChangedConditions}
 use Rattle.qss_run.specs.declared.run_conditions.Conditions.{Conditions}
 use Rattle.qss_run.specs.DueLists.{AreAlikeBut}
 use Rattle.qss_run.specs.DetectorUpdates.{DetectorStates, detector_states_of, IsSettled}
 use Rattle.qss_states.specs.Variables.{reads_moved, AreAssigned, AreAssignedFrom}
-use Rattle.qss_states.specs.StateLines.{states_with, line_at}
+use Rattle.qss_states.specs.StateLines.{states_at, states_with, line_at}
 
 -- flags that are set exactly at these indices
 abbrev pub flags_of : ℕ → List ℕ → List Bool
@@ -31,6 +32,11 @@ handling_of_fired m tick states discretes fired =
     (record { states = states; discretes = discretes; rows = []; overflow = None })
     m.clauses
     (flags_of (length (conditions m)) fired)
+
+-- the handlers of a tick at which these branches are due, from these discrete values and the states
+-- on the lines
+abbrev pub handling_at : ChangedConditions → List ℤ → List ℕ → HandlerState
+handling_at at discretes fired = handling_of_fired at.machine.now at.tick (states_at at.lines.now at.tick) discretes fired
 
 -- whether rows reinitialize a state
 abbrev pub is_reinitialized : List Row → ℕ → Bool

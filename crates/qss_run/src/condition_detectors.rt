@@ -284,7 +284,8 @@ impl Conditions {
         requires uses { at.now.uses.now ≡ uses_of at.now.machine.now }
         requires known { All (λ state. state < state_count at.now.machine.now) states.now }
         requires ready { CanUpdateDetectors at.now self.old agenda.old }
-        ensures { AreDetectorsUpdated at.now (readers_of at.now.machine.now states.now) self.old self.new agenda.old agenda.new }
+        ensures { AreDetectorsUpdated at.now (readers_of at.now.machine.now states.now) self.old
+            self.new agenda.old agenda.new }
     {
         for state in states {
             let places = at.uses.conditions_of(*state);

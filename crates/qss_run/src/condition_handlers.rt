@@ -7,7 +7,7 @@ ghost use Rattle.qss_run.specs.ConditionContexts.{CanHandle};
 ghost use Rattle.qss_run.specs.ConditionPlaces.{AreConditionsOf, AreBranchesAt};
 ghost use Rattle.qss_run.specs.DueLists.{AreAlikeBut, IsWithout, AreMovedOut, HasRoomFor, IsTakenFrom};
 ghost use Rattle.qss_run.specs.HandlerReads.{action_reads, fired_reads, AreArrived};
-ghost use Rattle.qss_run.specs.HandlerResults.{IsHandlerEffect, handling_from, flags_of, handling_of_fired, is_reinitialized};
+ghost use Rattle.qss_run.specs.HandlerResults.{IsHandlerEffect, handling_at, handling_from, flags_of, is_reinitialized};
 
 use crate::event_steps::{put_back_states, take_due_states};
 use crate::run_conditions::{BranchPlace, ChangedConditions, Conditions};
@@ -66,14 +66,7 @@ impl Conditions {
         self.list_fired(at.tick, at.changed, fired);
         self.read_changed(at.tick, at.changed);
         let branches = self.branches.as_slice();
-        handle_fired_conditions(
-            at.machine,
-            branches,
-            at.tick,
-            at.lines,
-            fired.as_slice(),
-            work,
-        )?;
+        handle_fired_conditions(at, branches, fired.as_slice(), work)?;
         let states = at.machine.states.as_slice().len() as u32;
         let log = work.log.as_slice();
         join_handler_reinitialized(agenda, at.tick, states, log, moved);
@@ -103,98 +96,86 @@ fn move_due_handler_states(
 /// it. Other states do not change, unless they are reinitialized. The error is the variable that
 /// overflows.
 pub(crate) fn handle_fired_conditions(
-    m: &Machine,
+    at: &ChangedConditions,
     branches: &[BranchPlace],
-    tick: u64,
-    lines: &[Integrator],
     fired: &[u32],
     work: &mut Work,
 ) -> Result<(), Over>
-    requires due { AreBranchesAt m.now branches.now fired.now }
-    requires lines { AreLinesAt m.now tick lines.now }
-    requires values { AreWithin m.now work.old.x work.old.d }
-    requires room { row_room m.now.clauses ≤ work.old.room }
-    ensures overflow { overflow_of result
-        ≡ (handling_of_fired m.now tick (states_at lines.now tick) work.old.d fired.now).overflow }
+    requires due { AreBranchesAt at.now.machine.now branches.now fired.now }
+    requires lines { AreLinesAt at.now.machine.now at.now.tick at.now.lines.now }
+    requires values { AreWithin at.now.machine.now work.old.x work.old.d }
+    requires room { row_room at.now.machine.now.clauses ≤ work.old.room }
+    ensures overflow { overflow_of result ≡ (handling_at at.now work.old.d fired.now).overflow }
     ensures work { overflow_of result ≡ None
-        → let h = handling_of_fired m.now tick (states_at lines.now tick) work.old.d fired.now in
+        → let h = handling_at at.now work.old.d fired.now in
         work.new
         ≡ record {
           x = work.new.x;
           d = h.discretes;
           pre = work.old.d;
-          tick = tick;
+          tick = at.now.tick;
           log = h.rows;
           room = work.old.room;
         } }
-    ensures fits { overflow_of result ≡ None → AreValuesOf m.now work.new }
+    ensures fits { overflow_of result ≡ None → AreValuesOf at.now.machine.now work.new }
     ensures many { overflow_of result ≡ None
-        → length
-        (handling_of_fired m.now tick (states_at lines.now tick) work.old.d
-        fired.now).states
-        ≡ state_count m.now }
+        → length (handling_at at.now work.old.d fired.now).states
+        ≡ state_count at.now.machine.now }
     ensures at_arrival { overflow_of result ≡ None
-        → (j : ℕ) → int_at work.old.x j ≡ int_at (states_at lines.now tick) j
-        → int_at work.new.x j
-        ≡ int_at
-        (handling_of_fired m.now tick (states_at lines.now tick) work.old.d
-        fired.now).states
-        j }
+        → (j : ℕ) → int_at work.old.x j ≡ int_at (states_at at.now.lines.now at.now.tick) j
+        → int_at work.new.x j ≡ int_at (handling_at at.now work.old.d fired.now).states j }
     ensures reinitialized { overflow_of result ≡ None
-        → let h = handling_of_fired m.now tick (states_at lines.now tick) work.old.d fired.now in
+        → let h = handling_at at.now work.old.d fired.now in
         (j : ℕ)
         → is_reinitialized h.rows j ≡ true
         → int_at work.new.x j ≡ int_at h.states j }
     ensures others { overflow_of result ≡ None
-        → let h = handling_of_fired m.now tick (states_at lines.now tick) work.old.d fired.now in
+        → let h = handling_at at.now work.old.d fired.now in
         (j : ℕ)
-        → fired_reads j m.now branches.now fired.now ≡ false
+        → fired_reads j at.now.machine.now branches.now fired.now ≡ false
         → is_reinitialized h.rows j ≡ false
         → int_at work.new.x j ≡ int_at work.old.x j }
 {
-    move_handler_work_states(m, branches, fired, tick, lines, work);
-    work.begin(tick);
-    run_fired_handlers(m, branches, fired, work)
+    move_handler_work_states(at, branches, fired, work);
+    work.begin(at.tick);
+    run_fired_handlers(at.machine, branches, fired, work)
 }
 
 // Moves the states that the statements of these branches read, in the values of handlers, to a
 // tick along their lines.
 fn move_handler_work_states(
-    m: &Machine,
+    at: &ChangedConditions,
     branches: &[BranchPlace],
     fired: &[u32],
-    tick: u64,
-    lines: &[Integrator],
     work: &mut Work,
 )
-    requires due { AreBranchesAt m.now branches.now fired.now }
-    requires may_arrive { MayArrive tick lines.now work.old.x }
+    requires due { AreBranchesAt at.now.machine.now branches.now fired.now }
+    requires may_arrive { MayArrive at.now.tick at.now.lines.now work.old.x }
     ensures work { work.new ≡ record work.old { x = work.new.x } }
-    ensures states { AreArrived (λ j. fired_reads j m.now branches.now fired.now)
-        (states_at lines.now tick) work.old.x work.new.x }
+    ensures states { AreArrived (λ j. fired_reads j at.now.machine.now branches.now fired.now)
+        (states_at at.now.lines.now at.now.tick) work.old.x work.new.x }
 {
-    move_fired_handler_states(m, branches, fired, tick, lines, work.x.as_mut_slice());
+    move_fired_handler_states(at, branches, fired, work.x.as_mut_slice());
 }
 
 // Moves the states that the statements of these branches read to a tick along their lines.
 fn move_fired_handler_states(
-    m: &Machine,
+    at: &ChangedConditions,
     branches: &[BranchPlace],
     fired: &[u32],
-    tick: u64,
-    lines: &[Integrator],
     x: &mut [i128],
 )
-    requires due { AreBranchesAt m.now branches.now fired.now }
-    requires may_arrive { MayArrive tick lines.now x.old }
-    ensures { AreArrived (λ j. fired_reads j m.now branches.now fired.now)
-        (states_at lines.now tick) x.old x.new }
+    requires due { AreBranchesAt at.now.machine.now branches.now fired.now }
+    requires may_arrive { MayArrive at.now.tick at.now.lines.now x.old }
+    ensures { AreArrived (λ j. fired_reads j at.now.machine.now branches.now fired.now)
+        (states_at at.now.lines.now at.now.tick) x.old x.new }
 {
     for place in fired {
-        let at = branches[*place as usize];
-        let choices = m.clauses.as_slice()[at.clause as usize].branches.as_slice();
-        let actions = choices[at.branch as usize].actions.as_slice();
-        move_states_handlers_read(actions, tick, lines, x);
+        let own = branches[*place as usize];
+        let clauses = at.machine.clauses.as_slice();
+        let choices = clauses[own.clause as usize].branches.as_slice();
+        let actions = choices[own.branch as usize].actions.as_slice();
+        move_states_handlers_read(actions, at.tick, at.lines, x);
     }
 }
 

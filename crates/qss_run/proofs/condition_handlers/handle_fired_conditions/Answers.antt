@@ -27,9 +27,9 @@ pub run_fired_handlers-requires-clause-fits : goal.run_fired_handlers-requires-c
 run_fired_handlers-requires-clause-fits c =
     let start : Values = c.args.work.now in
     let at_arrival : Values = c.move_handler_work_states.new.work in
-    let states = states_at c.args.lines.now c.args.tick in
-    let many : length start.x ≡ length states = c.requires.values.states ∙ sym (length-states_at c.args.lines.now c.args.tick ∙ c.requires.lines.up_to.as_many) in
-    let first : AreValuesOf c.args.m.now (at_first at_arrival.x c.args.tick start) = record {
+    let states = states_at c.args.at.now.lines.now c.args.at.now.tick in
+    let many : length start.x ≡ length states = c.requires.values.states ∙ sym (length-states_at c.args.at.now.lines.now c.args.at.now.tick ∙ c.requires.lines.up_to.as_many) in
+    let first : AreValuesOf c.args.at.now.machine.now (at_first at_arrival.x c.args.at.now.tick start) = record {
       states = c.move_handler_work_states.ensures.states.as_many ∙ c.requires.values.states;
       discretes = c.requires.values.discretes;
       before = c.requires.values.discretes;
@@ -38,19 +38,19 @@ run_fired_handlers-requires-clause-fits c =
       small_before = c.requires.values.small_discretes;
       in_time = c.requires.lines.up_to.in_time;
     } in
-    subst (AreValuesOf c.args.m.now) (sym (begins start at_arrival c.begin.new.self c.args.tick c.move_handler_work_states.ensures.work c.begin.ensures)) first
+    subst (AreValuesOf c.args.at.now.machine.now) (sym (begins start at_arrival c.begin.new.self c.args.at.now.tick c.move_handler_work_states.ensures.work c.begin.ensures)) first
 
 pub returns : goal.returns
 returns c =
-    let m = c.args.m.now in
+    let m = c.args.at.now.machine.now in
     let start : Values = c.args.work.now in
     let at_arrival : Values = c.move_handler_work_states.new.work in
     let after : Values = c.run_fired_handlers.new.w in
-    let tick = c.args.tick in
+    let tick = c.args.at.now.tick in
     let fired = c.args.fired.now in
     let flags : List Bool = flags_of (length c.args.branches.now) fired in
-    let states = states_at c.args.lines.now tick in
-    let many : length start.x ≡ length states = c.requires.values.states ∙ sym (length-states_at c.args.lines.now tick ∙ c.requires.lines.up_to.as_many) in
+    let states = states_at c.args.at.now.lines.now tick in
+    let many : length start.x ≡ length states = c.requires.values.states ∙ sym (length-states_at c.args.at.now.lines.now tick ∙ c.requires.lines.up_to.as_many) in
     let come = c.move_handler_work_states.ensures.states in
     let ideal : HandlerState = handling_of_fired m tick states start.d fired in
     let done : HandlerState = done_from m flags (at_first at_arrival.x tick start) in
