@@ -90,8 +90,7 @@ alike_then m reinitialized assigned changed old new noted kept at_arrival alike 
       | inl there ↦ noted.own place there out
       | inr none ↦
           let first : List ℕ = changed ++ touched_by m reinitialized in
-          let unchanged : is_listed changed place ≡ false =
-          not_first changed (touched_by m reinitialized) place (not_first first (touched_by m assigned) place (not_first (first ++ touched_by m assigned) (readers_before m assigned) place none)) in
+          let unchanged : is_listed changed place ≡ false = not_first changed (touched_by m reinitialized) place (not_first first (touched_by m assigned) place (not_first (first ++ touched_by m assigned) (readers_before m assigned) place none)) in
           ap (λ flags. flag_at flags place) at_arrival ∙ alike place unchanged ∙ sym (kept place none)
     ]
 

@@ -127,7 +127,8 @@ pub use Rattle.qss_run.specs.HandlerResults.{handling_of_fired, is_reinitialized
 pub use Rattle.qss_run.specs.RunSummaries.{end_level, end_sum, IsCountFrom, level_count}
 pub use Rattle.qss_run.specs.SpeedUpdates.{AreDetectorsUpdated, AreSlopesBefore, AreSpeedsUpdated}
 pub use Rattle.qss_run.specs.SpeedUpdates.{GoesOn, HasSpeed}
-pub use Rattle.qss_run.specs.Stores.{FitsMachine, HasDueRemovedFrom, IsStoreAt, snapshot_of}
+pub use Rattle.qss_run.specs.Stores.{CanStart, FitsMachine, HasDueRemovedFrom, IsStoreAt}
+pub use Rattle.qss_run.specs.Stores.{snapshot_of}
 pub use Rattle.qss_run.specs.TouchCounts.{MovesTouched, touches_at, touches_left}
 pub use Rattle.qss_run.specs.declared.run_conditions.BranchPlace.{BranchPlace}
 pub use Rattle.qss_run.specs.declared.run_conditions.Conditions.{Conditions}

@@ -52,8 +52,7 @@ module _ (rule : Rule) (m : Machine) (from : ℕ) (w : Snapshot) (silent : List 
       touches_from (level_by rule) m (m.last - from) from w ≡ touches_after m from w (silent ++ next ∷ []) None + touches_from (level_by rule) m (m.last - tick) tick next
   event_touches tick next is in_time stepped =
       let e : length silent + ((m.last - tick) + 1) ≡ m.last - from = omega (arith, is, in_time) in
-      let s : step (level_by rule) m (from + length silent + 1) (last_snapshot w silent) ≡ Ok next =
-      ap (λ t. step (level_by rule) m t (last_snapshot w silent)) (sym is) ∙ sym (named_step rule m tick (last_snapshot w silent) (Ok next) stepped) in
+      let s : step (level_by rule) m (from + length silent + 1) (last_snapshot w silent) ≡ Ok next = ap (λ t. step (level_by rule) m t (last_snapshot w silent)) (sym is) ∙ sym (named_step rule m tick (last_snapshot w silent) (Ok next) stepped) in
       omega (
         arith,
         skipped ((m.last - tick) + 1) e,
@@ -67,8 +66,7 @@ module _ (rule : Rule) (m : Machine) (from : ℕ) (w : Snapshot) (silent : List 
       touches_from (level_by rule) m (m.last - from) from w ≡ touches_after m from w silent (Some var)
   over_touches tick var is in_time stepped =
       let e : length silent + ((m.last - tick) + 1) ≡ m.last - from = omega (arith, is, in_time) in
-      let s : step (level_by rule) m (from + length silent + 1) (last_snapshot w silent) ≡ Err var =
-      ap (λ t. step (level_by rule) m t (last_snapshot w silent)) (sym is) ∙ sym (named_step rule m tick (last_snapshot w silent) (Err var) stepped) in
+      let s : step (level_by rule) m (from + length silent + 1) (last_snapshot w silent) ≡ Err var = ap (λ t. step (level_by rule) m t (last_snapshot w silent)) (sym is) ∙ sym (named_step rule m tick (last_snapshot w silent) (Err var) stepped) in
       omega (
         arith,
         skipped ((m.last - tick) + 1) e,
@@ -80,8 +78,7 @@ pub named_touches : (rule : Rule) (m : Machine) (from : ℕ) (w : Snapshot) (r0 
     IsNext (IsAllowedLevel (Some rule)) (at m from w r0 None) (at m to next r1 end) outcome → MovesTouched (IsAllowedLevel (Some rule)) (at m from w r0 None) (at m to next r1 end) outcome moves →
     moves + touches_left (level_by rule) (at m to next r1 end) ≤ touches_left (level_by rule) (at m from w r0 None)
 named_touches rule m from w r0 (Events tick) to next r1 end moves n few =
-    let left : touches_left (level_by rule) (at m to next r1 end) ≡ touches_from (level_by rule) m (m.last - tick) tick next =
-    ap (λ (e : Option Outcome). none_if_ended e (touches_from (level_by rule) m (m.last - to) to next)) n.2 ∙ ap (λ t. touches_from (level_by rule) m (m.last - t) t next) n.1.here in
+    let left : touches_left (level_by rule) (at m to next r1 end) ≡ touches_from (level_by rule) m (m.last - tick) tick next = ap (λ (e : Option Outcome). none_if_ended e (touches_from (level_by rule) m (m.last - to) to next)) n.2 ∙ ap (λ t. touches_from (level_by rule) m (m.last - t) t next) n.1.here in
     omega (arith, left, few.2, event_touches rule m from w few.0 few.1.leads tick next few.1.is_next n.1.in_time few.1.is_step)
 named_touches rule m from w r0 Done to next r1 end moves n few =
     let left : touches_left (level_by rule) (at m to next r1 end) ≡ 0 = ap (λ (e : Option Outcome). none_if_ended e (touches_from (level_by rule) m (m.last - to) to next)) n.2 in

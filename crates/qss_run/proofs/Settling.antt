@@ -43,11 +43,9 @@ module _ (m : Machine) (place : ℕ) (h : place < length (conditions m)) where
       let by_assigned : List ℕ = touched_by m assigned in
       let before : List ℕ = readers_before m assigned in
       let on : List ℕ → Bool = list_any (depends_on m condition) in
-      let last : is_listed before place ≡ list_any (λ var. condition_reads (var + discrete_count m) condition) assigned =
-      in_lists (λ var. reading_conditions m (var + discrete_count m)) (λ var. condition_reads (var + discrete_count m) condition) place (λ var. among_conditions m (var + discrete_count m) place h) assigned in
+      let last : is_listed before place ≡ list_any (λ var. condition_reads (var + discrete_count m) condition) assigned = in_lists (λ var. reading_conditions m (var + discrete_count m)) (λ var. condition_reads (var + discrete_count m) condition) place (λ var. among_conditions m (var + discrete_count m) place h) assigned in
       let two : is_listed (changed ++ by_reinitialized) place ≡ (is_listed changed place || on reinitialized) = in_two changed by_reinitialized place ∙ ap (λ b. is_listed changed place || b) (among_touched reinitialized) in
-      let three : is_listed ((changed ++ by_reinitialized) ++ by_assigned) place ≡ ((is_listed changed place || on reinitialized) || on assigned) =
-      in_two (changed ++ by_reinitialized) by_assigned place ∙ ap (λ b. b || is_listed by_assigned place) two ∙ ap (λ b. (is_listed changed place || on reinitialized) || b) (among_touched assigned) in
+      let three : is_listed ((changed ++ by_reinitialized) ++ by_assigned) place ≡ ((is_listed changed place || on reinitialized) || on assigned) = in_two (changed ++ by_reinitialized) by_assigned place ∙ ap (λ b. b || is_listed by_assigned place) two ∙ ap (λ b. (is_listed changed place || on reinitialized) || b) (among_touched assigned) in
       in_two ((changed ++ by_reinitialized) ++ by_assigned) before place ∙ ap (λ b. b || is_listed before place) three
       ∙ ap (λ b. ((is_listed changed place || on reinitialized) || on assigned) || b) last
 

@@ -175,15 +175,13 @@ module _ (m : Machine) (tick : ℕ) (slopes : List ℤ) (moved : List ℕ) (old 
       let mover = Any-from_list_any (λ i. row_reads i (row_at m state)) moved parts.1 in
       let j : ℕ = mover.1 in
       let Reads : ℕ → Type 0 = λ s. All (HasSpeed m slopes new) (reading_conditions m s) in
-      let of_mover : All (HasSpeed m slopes new) (readers_of m (reading_rows m j)) =
-      subst (λ i. All (HasSpeed m slopes new) (readers_of m (reading_rows m i))) mover.3 (each_part (HasSpeed m slopes new) (λ i. readers_of m (reading_rows m i)) moved speeds mover.0 j mover.2) in
+      let of_mover : All (HasSpeed m slopes new) (readers_of m (reading_rows m j)) = subst (λ i. All (HasSpeed m slopes new) (readers_of m (reading_rows m i))) mover.3 (each_part (HasSpeed m slopes new) (λ i. readers_of m (reading_rows m i)) moved speeds mover.0 j mover.2) in
       let of_rows : All Reads (reading_rows m j) = each_part (HasSpeed m slopes new) (reading_conditions m) (reading_rows m j) of_mover in
       let none : Condition = record { form = record { entries = []; time = pos 0; gamma = pos 0 }; rel = Less } in
       let of_state : Reads (0 + state) = of_place Reads (row_reads j) 0 m.rows state no_row of_rows (omega (arith, inside, m.has_rows.one_each)) mover.4 in
       let here : 0 + state ≡ state = omega arith in
       let of_conditions : All (HasSpeed m slopes new) (reading_conditions m state) = subst Reads here of_state in
-      let reads : condition_reads state (condition_at m place) ≡ true =
-      list_any_at (λ (other : Entry). other.var == state) entries found.0 entry found.2 (eqb-yes _ state (ap (λ (other : Entry). other.var) found.3)) in
+      let reads : condition_reads state (condition_at m place) ≡ true = list_any_at (λ (other : Entry). other.var == state) entries found.0 entry found.2 (eqb-yes _ state (ap (λ (other : Entry). other.var) found.3)) in
       let there : 0 + place ≡ place = omega arith in
       subst (HasSpeed m slopes new) there (of_place (HasSpeed m slopes new) (condition_reads state) 0 (conditions m) place none of_conditions h reads)
     where
@@ -219,8 +217,7 @@ module _ (m : Machine) (tick : ℕ) (slopes : List ℤ) (moved : List ℕ) (old 
       IsDetectorAt m tick x d before place (detector_at old place) (due_at due (state_count m + place)) → IsDetectorAt m tick x d slopes place (detector_at new place) (due_at next (state_count m + place))
   watched_again x d before place h was first =
       let on = going.each place (omega (arith, h, all)) in
-      let held : holds_at (detector_at old place) tick ≡ truth m (condition_at m place) x d tick =
-      ap (λ rel. compares rel (value_at (detector_at old place) tick)) first.own_rel ∙ ap (compares (condition_at m place).rel) first.here in
+      let held : holds_at (detector_at old place) tick ≡ truth m (condition_at m place) x d tick = ap (λ rel. compares rel (value_at (detector_at old place) tick)) first.own_rel ∙ ap (compares (condition_at m place).rel) first.here in
       record {
         not_later = on.not_later;
         here = on.here ∙ first.here;

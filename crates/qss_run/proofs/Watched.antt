@@ -12,8 +12,7 @@ pub watch_is : (m : Machine) (tick : ℕ) (x d slopes : List ℤ) (place : ℕ) 
 watch_is m tick x d slopes place condition detector found is own first =
     let value : ℤ = value_of m (condition_at m place).form x d d tick in
     let speed : ℤ = speed_of m (condition_at m place).form slopes in
-    let whole : detector ≡ record { rel = (condition_at m place).rel; tick = tick; value = value; speed = speed } =
-    is ∙ ap (λ (c : Condition). record { rel = c.rel; tick = tick; value = value_of m c.form x d d tick; speed = speed_of m c.form slopes }) own in
+    let whole : detector ≡ record { rel = (condition_at m place).rel; tick = tick; value = value; speed = speed } = is ∙ ap (λ (c : Condition). record { rel = c.rel; tick = tick; value = value_of m c.form x d d tick; speed = speed_of m c.form slopes }) own in
     let e : tick - tick ≡ 0 = omega arith in
     let own_rel : detector.rel ≡ (condition_at m place).rel = ap (λ (w : DetectorView). w.rel) whole in
     let own_tick : detector.tick ≡ tick = ap (λ (w : DetectorView). w.tick) whole in

@@ -1,17 +1,18 @@
 -- Defines the invariant of stores of a simulator, and their snapshots.
 use Rattle.std.specs.Prelude.{◌≡◌, ℕ, ◌+◌, ◌<◌, ◌≤◌, false, List, length, ℤ, map, Option, None}
-use Rattle.std.specs.Prelude.{vec_capacity}
+use Rattle.std.specs.Prelude.{position, vec_capacity}
 use Rattle.qss_machine.specs.declared.compiled_machine.Machine.{Machine}
-use Rattle.qss_machine.specs.Machines.{state_count, discrete_count, level_unit, slope_at}
+use Rattle.qss_machine.specs.Machines.{state_count, discrete_count, level_unit, quantum_of, slope_at}
 use Rattle.qss_machine.specs.Machines.{start_states, start_discretes}
 use Rattle.mu_num.specs.IndexedSums.{int_at, tabulate}
 use Rattle.mu_num.specs.Levels.{level_below}
+use Rattle.mu_num.specs.Limits.{AreLevels}
 use Rattle.qss_machine.specs.Handlers.{conditions}
-use Rattle.qss_machine.specs.Ticks.{Snapshot}
+use Rattle.qss_machine.specs.Ticks.{exceeds_row_limits, Snapshot}
 use Rattle.qss_machine.specs.Readers.{uses_of}
 use Rattle.qss_hand.specs.Works.{row_room}
 use Rattle.qss_sched.specs.Ranks.{due_at, HasNone}
-use Rattle.qss_quant.specs.IntegratorLines.{Line}
+use Rattle.qss_quant.specs.IntegratorLines.{IsLineWithinQuantum, Line}
 use Rattle.qss_events.specs.declared.event_outcome.Outcome.{Outcome}
 use Rattle.qss_run.specs.declared.run_start.Store.{Store}
 use Rattle.qss_states.specs.StateLines.{line_at, states_at, IsRestartedFrom}
@@ -90,11 +91,28 @@ pub record IsBlank (m : Machine) (s : Store) : Type 0 where
   pub no_dues : HasNone s.agenda
   pub not_rising : s.rising ≡ false
 
+-- lines of all states may start at these values and levels: they are within the limits, and each
+-- state is within the quantum of its level
+pub record CanStart (m : Machine) (x levels d : List ℤ) : Type 0 where
+  pub values : AreWithin m x d
+  pub one_each : length levels ≡ state_count m
+  pub small_levels : AreLevels levels
+  pub light : position (exceeds_row_limits m levels d) m.rows ≡ None
+  pub near : (j : ℕ) → j < state_count m →
+      IsLineWithinQuantum (level_unit m) (int_at x j) (int_at levels j)
+      (quantum_of m j (int_at levels j))
+
 -- the lines of all states start at tick 0, at their states and levels and the slopes of these
 -- levels and discrete values
 pub record AreAllScheduled (m : Machine) (x levels d slopes_new : List ℤ) (lines_new : List Line) (dues_new : List (Option ℕ)) : Type 0 where
   pub slopes : slopes_new ≡ tabulate (state_count m) (λ j. slope_at m j levels d)
   pub lines : (j : ℕ) → j < state_count m → IsRestartedFrom m 0 (int_at x j) (int_at levels j) (slope_at m j levels d) j (line_at lines_new j) (due_at dues_new j)
+
+-- the lines of all states of a store start at the values and levels of another one
+abbrev pub AreLinesStarted : Machine → Store → Store → Type 0
+AreLinesStarted m old new =
+    AreAllScheduled m old.work.x old.levels.items old.work.d new.slopes.items new.lines.items
+    new.agenda
 
 -- a tick of the run, and a store that represents it until the run has ended
 pub record IsSim (m : Machine) (tick : ℕ) (end : Option Outcome) (s : Store) : Type 0 where

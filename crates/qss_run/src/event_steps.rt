@@ -336,9 +336,8 @@ fn set_last_rows(m: &Machine, s: &mut Store)
     set_all_rows(
         RowKind::End,
         m.last,
-        s.work.x.as_slice(),
+        &s.work,
         s.levels.as_slice(),
-        s.work.d.as_slice(),
         &mut s.rows,
     );
 }
@@ -367,18 +366,20 @@ fn move_states_along_lines(lines: &[Integrator], tick: u64, x: &mut [i128])
 pub(crate) fn set_all_rows(
     kind: RowKind,
     tick: u64,
-    x: &[i128],
+    work: &Work,
     levels: &[i64],
-    d: &[i64],
     rows: &mut Vec<Row>,
 )
-    requires count_limit { length x.now + length d.now ≤ variable_limit }
-    requires same_length { length levels.now ≡ length x.now }
-    requires room { length x.now + length d.now ≤ vec_capacity rows.old }
+    requires count_limit { length work.now.x + length work.now.d ≤ variable_limit }
+    requires same_length { length levels.now ≡ length work.now.x }
+    requires room { length work.now.x + length work.now.d ≤ vec_capacity rows.old }
     ensures rows { rows.new.items
-        ≡ state_rows kind tick levels.now x.now ++ discrete_rows kind tick (length x.now) d.now }
+        ≡ state_rows kind tick levels.now work.now.x
+        ++ discrete_rows kind tick (length work.now.x) work.now.d }
     ensures room { vec_capacity rows.new ≡ vec_capacity rows.old }
 {
+    let x = work.x.as_slice();
+    let d = work.d.as_slice();
     rows.clear();
     add_state_rows(kind, tick, x, levels, rows);
     add_event_discrete_rows(kind, tick, x.len(), d, rows);

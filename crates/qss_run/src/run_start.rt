@@ -1,9 +1,9 @@
 //! The data of a simulator, and its store at tick 0.
 
-ghost use Rattle.std.specs.Prelude.{◌≡◌, ◌+◌, ◌<◌, ◌≤◌, ◌++◌, ℕ, IfOk, None, false, pos, length, map, position, vec_capacity};
-ghost use Rattle.qss_run.specs.Prelude.{level_below, int_at, variable_limit, IsLevel, AreLevels, IsState, IsSlope, state_count, level_unit, quantum_of, start_states, start_discretes, start_snapshot, exceeds_row_limits, conditions, truths, state_rows, discrete_rows, snapshot_rows, uses_of, IsLineWithinQuantum, due_at, HasNone, AreWithin, HasOneEach, IsDue};
+ghost use Rattle.std.specs.Prelude.{◌≡◌, ◌+◌, ◌<◌, ◌≤◌, ℕ, IfOk, None, false, pos, length, vec_capacity};
+ghost use Rattle.qss_run.specs.Prelude.{IsLevel, IsState, IsSlope, state_count, level_unit, quantum_of, start_snapshot, conditions, truths, snapshot_rows, uses_of, IsLineWithinQuantum, due_at, HasNone, HasOneEach, IsDue};
 ghost use Rattle.qss_run.specs.ConditionPlaces.{AreConditionsOf, AreDetectorsAt};
-ghost use Rattle.qss_run.specs.Stores.{snapshot_of, AreAllScheduled, IsStoreAt, IsBlank};
+ghost use Rattle.qss_run.specs.Stores.{snapshot_of, AreLinesStarted, CanStart, IsStoreAt, IsBlank};
 ghost use Rattle.qss_machine.specs.declared.machine_parts.RowKind.TheVariants as kind;
 
 use crate::event_steps::set_all_rows;
@@ -164,146 +164,99 @@ fn begin(m: &Machine, s: &mut Store)
     ensures snapshot { snapshot_of 0 s.new ≡ start_snapshot m.now }
     ensures rows { s.new.rows.items ≡ snapshot_rows kind.Start 0 (start_snapshot m.now) }
 {
-    start_lines_and_detectors(
-        m,
-        &s.work,
-        s.levels.as_slice(),
-        s.slopes.as_mut_slice(),
-        s.lines.as_mut_slice(),
-        &mut s.conditions,
-        &mut s.agenda,
-    );
+    start_lines_and_detectors(m, s);
     let work = &s.work;
     let d = work.d.as_slice();
     s.weights.start(m, s.levels.as_slice(), d);
-    start_run_rows(&s.work, s.levels.as_slice(), &mut s.rows);
+    set_all_rows(RowKind::Start, 0, &s.work, s.levels.as_slice(), &mut s.rows);
 }
 
 // Starts the lines of all states and the detectors of all conditions at tick 0.
-fn start_lines_and_detectors(
-    m: &Machine,
-    work: &Work,
-    levels: &[i64],
-    slopes: &mut [i128],
-    lines: &mut [Integrator],
-    condition_set: &mut Conditions,
-    agenda: &mut Agenda,
-)
-    requires fits { AreConditionsOf m.now condition_set.old }
-    requires states { work.now.x ≡ start_states m.now }
-    requires discretes { work.now.d ≡ start_discretes m.now }
-    requires levels { levels.now ≡ map (level_below (level_unit m.now)) (start_states m.now) }
-    requires one_each { HasOneEach m.now slopes.old lines.old agenda.old }
-    requires places { length agenda.old ≡ state_count m.now + length (conditions m.now) + 1 }
-    requires no_dues { HasNone agenda.old }
-    ensures set_out { AreAllScheduled m.now work.now.x levels.now work.now.d slopes.new lines.new
-        agenda.new }
-    ensures at_arrival { condition_set.new.at_arrival.items
-        ≡ condition_set.new.after_handlers.items }
-    ensures after_handlers { condition_set.new.after_handlers.items
-        ≡ truths m.now work.now.x work.now.d 0 }
-    ensures detectors { AreDetectorsAt m.now 0 work.now.x work.now.d slopes.new
-        condition_set.new.detectors.items
-        agenda.new }
-    ensures rising { due_at agenda.new (state_count m.now + length (conditions m.now)) ≡ None }
-    ensures fits { AreConditionsOf m.now condition_set.new }
-    ensures places { length agenda.new ≡ length agenda.old }
+fn start_lines_and_detectors(m: &Machine, s: &mut Store)
+    requires { IsBlank m.now s.old }
+    ensures set_out { AreLinesStarted m.now s.old s.new }
+    ensures at_arrival { s.new.conditions.at_arrival.items ≡ s.new.conditions.after_handlers.items }
+    ensures after_handlers { s.new.conditions.after_handlers.items
+        ≡ truths m.now s.old.work.x s.old.work.d 0 }
+    ensures detectors { AreDetectorsAt m.now 0 s.old.work.x s.old.work.d s.new.slopes.items
+        s.new.conditions.detectors.items s.new.agenda }
+    ensures rising { due_at s.new.agenda (state_count m.now + length (conditions m.now)) ≡ None }
+    ensures fits { AreConditionsOf m.now s.new.conditions }
+    ensures one_each { HasOneEach m.now s.new.slopes.items s.new.lines.items s.new.agenda }
+    ensures places { length s.new.agenda ≡ length s.old.agenda }
+    ensures rest { s.new
+        ≡ record s.old {
+          conditions = s.new.conditions;
+          lines = s.new.lines;
+          slopes = s.new.slopes;
+          agenda = s.new.agenda;
+        } }
 {
-    let x = work.x.as_slice();
-    let d = work.d.as_slice();
-    start_run_lines(m, x, levels, d, slopes, lines, agenda);
+    start_lines(m, s);
+    let work = &s.work;
     let start = ConditionValues {
         tick: 0,
-        states: x,
-        discretes: d,
-        slopes,
+        states: work.x.as_slice(),
+        discretes: work.d.as_slice(),
+        slopes: s.slopes.as_slice(),
     };
-    condition_set.set_all_detectors(m, &start, agenda);
-    let after_handlers = condition_set.after_handlers.as_slice();
-    condition_set
+    s.conditions.set_all_detectors(m, &start, &mut s.agenda);
+    let after_handlers = s.conditions.after_handlers.as_slice();
+    s.conditions
         .at_arrival
         .as_mut_slice()
         .copy_from_slice(after_handlers);
 }
 
-// Starts the lines of all states at tick 0, at the slopes of these levels and discrete values.
-fn start_run_lines(
-    m: &Machine,
-    x: &[i128],
-    levels: &[i64],
-    d: &[i64],
-    slopes: &mut [i128],
-    lines: &mut [Integrator],
-    agenda: &mut Agenda,
-)
-    requires values { AreWithin m.now x.now d.now }
-    requires levels { length levels.now ≡ state_count m.now }
-    requires one_each { HasOneEach m.now slopes.old lines.old agenda.old }
-    requires small_levels { AreLevels levels.now }
-    requires light { position (exceeds_row_limits m.now levels.now d.now) m.now.rows ≡ None }
-    requires near { (j : ℕ) → j < state_count m.now
-        → IsLineWithinQuantum (level_unit m.now) (int_at x.now j) (int_at levels.now j)
-        (quantum_of m.now j (int_at levels.now j)) }
-    ensures set_out { AreAllScheduled m.now x.now levels.now d.now slopes.new lines.new agenda.new }
-    ensures places { length agenda.new ≡ length agenda.old }
+// Starts the lines of all states at tick 0, at the slopes of the levels and discrete values.
+fn start_lines(m: &Machine, s: &mut Store)
+    requires ready { CanStart m.now s.old.work.x s.old.levels.items s.old.work.d }
+    requires one_each { HasOneEach m.now s.old.slopes.items s.old.lines.items s.old.agenda }
+    ensures set_out { AreLinesStarted m.now s.old s.new }
+    ensures one_each { HasOneEach m.now s.new.slopes.items s.new.lines.items s.new.agenda }
+    ensures places { length s.new.agenda ≡ length s.old.agenda }
     ensures others { (place : ℕ) → state_count m.now ≤ place
-        → due_at agenda.new place ≡ due_at agenda.old place }
+        → due_at s.new.agenda place ≡ due_at s.old.agenda place }
+    ensures rest { s.new
+        ≡ record s.old { lines = s.new.lines; slopes = s.new.slopes; agenda = s.new.agenda } }
 {
+    let work = &s.work;
+    let x = work.x.as_slice();
+    let d = work.d.as_slice();
+    let levels = s.levels.as_slice();
+    let slopes = s.slopes.as_mut_slice();
+    let lines = s.lines.as_mut_slice();
+    let agenda = &mut s.agenda;
     for j in 0..lines.len() {
         let slope = m.slope(j as u32, levels, d);
         slopes[j] = slope;
-        start_run_line(m, j as u32, x[j], slope, levels[j], &mut lines[j], agenda);
+        let here = Integrator {
+            tick: 0,
+            x: x[j],
+            slope,
+            level: levels[j],
+        };
+        start_line(m, j as u32, here, &mut lines[j], agenda);
     }
 }
 
-// Starts the line of state j at tick 0 at its slope, and schedules the tick at which it leaves its
+// Starts the line of state j at tick 0 as this one, and schedules the tick at which it leaves its
 // quantum.
-fn start_run_line(
-    m: &Machine,
-    j: u32,
-    x: i128,
-    slope: i128,
-    level: i64,
-    line: &mut Integrator,
-    agenda: &mut Agenda,
-)
+fn start_line(m: &Machine, j: u32, here: Integrator, line: &mut Integrator, agenda: &mut Agenda)
     requires state { j < state_count m.now }
     requires place { j < length agenda.old }
-    requires small_state { IsState x }
-    requires slope { IsSlope slope }
-    requires level { IsLevel level }
-    requires near { IsLineWithinQuantum (level_unit m.now) x level (quantum_of m.now j level) }
-    ensures line { line.new ≡ record { tick = 0; x = x; slope = slope; level = level } }
+    requires tick { here.tick ≡ 0 }
+    requires small_state { IsState here.x }
+    requires slope { IsSlope here.slope }
+    requires level { IsLevel here.level }
+    requires near { IsLineWithinQuantum (level_unit m.now) here.x here.level
+        (quantum_of m.now j here.level) }
+    ensures line { line.new ≡ here }
     ensures same_length { length agenda.new ≡ length agenda.old }
     ensures others { (place : ℕ) → (place ≡ j → ⊥)
         → due_at agenda.new place ≡ due_at agenda.old place }
     ensures due { IsDue m.now 0 j line.new (due_at agenda.new j) }
 {
-    *line = Integrator {
-        tick: 0,
-        x,
-        slope,
-        level,
-    };
+    *line = here;
     agenda.set(j, event_tick_leaving_level(m, j, line));
-}
-
-// Sets the start rows.
-fn start_run_rows(work: &Work, levels: &[i64], rows: &mut Vec<Row>)
-    requires count_limit { length work.now.x + length work.now.d ≤ variable_limit }
-    requires same_length { length levels.now ≡ length work.now.x }
-    requires room { length work.now.x + length work.now.d ≤ vec_capacity rows.old }
-    ensures rows { rows.new.items
-        ≡ state_rows kind.Start 0 levels.now work.now.x
-        ++ discrete_rows kind.Start 0 (length work.now.x) work.now.d }
-    ensures room { vec_capacity rows.new ≡ vec_capacity rows.old }
-{
-    set_all_rows(
-        RowKind::Start,
-        0,
-        work.x.as_slice(),
-        levels,
-        work.d.as_slice(),
-        rows,
-    );
 }

@@ -25,8 +25,7 @@ speed_of_one m form slopes entry one never =
 
 coefficient_small : (form : Form) (entry : Entry) → IsBounded form → form.entries ≡ entry ∷ [] → IsWithin 38 entry.coef
 coefficient_small form entry bounded one =
-    let sum : sum_by (λ (e : Entry). unsigned_abs e.coef) (entry ∷ []) + unsigned_abs form.time ≤ 2 ^ 38 =
-    subst (λ (es : List Entry). sum_by (λ (e : Entry). unsigned_abs e.coef) es + unsigned_abs form.time ≤ 2 ^ 38) one bounded.coefficients in
+    let sum : sum_by (λ (e : Entry). unsigned_abs e.coef) (entry ∷ []) + unsigned_abs form.time ≤ 2 ^ 38 = subst (λ (es : List Entry). sum_by (λ (e : Entry). unsigned_abs e.coef) es + unsigned_abs form.time ≤ 2 ^ 38) one bounded.coefficients in
     omega (arith, sum)
 
 -- the entry, and what is multiplied

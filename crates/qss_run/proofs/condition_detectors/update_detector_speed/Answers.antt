@@ -18,7 +18,6 @@ returns-clause-goes_on c =
     ∙ ap (λ (w : DetectorView). record { rel = w.rel; tick = w.tick; value = c.detector-2.inside.value; speed = c.args.speed }) c.move_to.ensures
     ∙ ap (λ z. record { rel = old.rel; tick = tick; value = z; speed = c.args.speed }) here in
     let other : old.speed ≢ c.args.speed = λ e. c.if-detector-speed.false (ap (of_z w128) (ap (λ (w : DetectorView). w.speed) c.detector.view_is ∙ e)) in
-    let held : due_at c.set-2.new.self c.args.place ≡ c.next_change.result =
-    ap (λ due. due_at due c.args.place) c.set-2.ensures ∙ get_or-set_same c.args.agenda.now c.args.place c.next_change.result None c.requires.place in
+    let held : due_at c.set-2.new.self c.args.place ≡ c.next_change.result = ap (λ due. due_at due c.args.place) c.set-2.ensures ∙ get_or-set_same c.args.agenda.now c.args.place c.next_change.result None c.requires.place in
     subst (GoesOn tick c.args.speed old c.set.new.self (due_at c.args.agenda.now c.args.place)) (sym held)
     (goes_on_turned tick c.args.speed old c.set.new.self (due_at c.args.agenda.now c.args.place) c.next_change.result other is c.next_change.ensures)

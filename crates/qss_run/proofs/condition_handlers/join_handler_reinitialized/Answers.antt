@@ -10,16 +10,14 @@ take_due_states-requires-clause-has c = record { room = c.requires.has.room; pla
 pub returns-clause-each : goal.returns-clause-each
 returns-clause-each c =
     let back = c.put_back_states.ensures in
-    let given : AreGiven c.args.tick c.args.log.now c.put_back_states.new.agenda c.schedule_handler_reinitialized.new.agenda =
-    record { as_many = c.schedule_handler_reinitialized.ensures.same_length; given = c.schedule_handler_reinitialized.ensures.given; others = c.schedule_handler_reinitialized.ensures.others } in
+    let given : AreGiven c.args.tick c.args.log.now c.put_back_states.new.agenda c.schedule_handler_reinitialized.new.agenda = record { as_many = c.schedule_handler_reinitialized.ensures.same_length; given = c.schedule_handler_reinitialized.ensures.given; others = c.schedule_handler_reinitialized.ensures.others } in
     joined c.args.states c.args.tick c.args.log.now c.args.moved.now.items c.take_due_states.new.moved.items c.args.agenda.now c.put_back_states.new.agenda c.schedule_handler_reinitialized.new.agenda c.take_due_states.new.agenda
     c.requires.taken.later c.requires.known c.requires.moved back.same_length (search rules) (search rules) given c.take_due_states.ensures.due c.take_due_states.ensures.out.without
 
 pub returns-clause-out : goal.returns-clause-out
 returns-clause-out c =
     let back = c.put_back_states.ensures in
-    let given : AreGiven c.args.tick c.args.log.now c.put_back_states.new.agenda c.schedule_handler_reinitialized.new.agenda =
-    record { as_many = c.schedule_handler_reinitialized.ensures.same_length; given = c.schedule_handler_reinitialized.ensures.given; others = c.schedule_handler_reinitialized.ensures.others } in
+    let given : AreGiven c.args.tick c.args.log.now c.put_back_states.new.agenda c.schedule_handler_reinitialized.new.agenda = record { as_many = c.schedule_handler_reinitialized.ensures.same_length; given = c.schedule_handler_reinitialized.ensures.given; others = c.schedule_handler_reinitialized.ensures.others } in
     record {
       without = joined_without c.args.states c.args.tick c.args.log.now c.args.moved.now.items c.take_due_states.new.moved.items c.args.agenda.now c.put_back_states.new.agenda c.schedule_handler_reinitialized.new.agenda c.take_due_states.new.agenda
           c.requires.taken.later c.requires.known c.requires.moved back.same_length (search rules) (search rules) given c.take_due_states.ensures.due c.take_due_states.ensures.out.without;

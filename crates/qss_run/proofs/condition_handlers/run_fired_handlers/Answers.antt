@@ -47,8 +47,7 @@ loop-place-preserved c =
           let turn : HandlerState = run_branch m v.tick v.pre at.clause at.branch (handling_of v) actions in
           let values : c.if-at-next.w ≡ values_after v turn = w.w-is ∙ w.fire.ensures.values in
           let calm : None ≡ turn.overflow = ap overflow_of (sym w.in_ok-fire.was) ∙ w.fire.ensures.overflow in
-          let after : handling_of c.if-at-next.w ≡ run_branch m w0.tick w0.pre at.clause at.branch (handling_of v) actions =
-          ap handling_of values ∙ whole turn (sym calm) ∙ same_turn m w0 v at.clause at.branch actions inv.same_tick inv.same_before in
+          let after : handling_of c.if-at-next.w ≡ run_branch m w0.tick w0.pre at.clause at.branch (handling_of v) actions = ap handling_of values ∙ whole turn (sym calm) ∙ same_turn m w0 v at.clause at.branch actions inv.same_tick inv.same_before in
           let next : c.if-at-next.next ≡ at.clause + 1 = w.next-is in
           let order : c.loop-place.next ≤ at.clause = w.if-at-next.true in
           record {
@@ -122,8 +121,7 @@ returns c =
     let count : ℕ = length c.args.branches.now in
     let none = λ (place : ℕ) (low : first_place m.clauses c.loop-place.next ≤ place).
     no_flag count c.loop-place.place-index (first_place m.clauses c.loop-place.next) place fired inv.passed low (λ k later inside. absurd (omega (arith, later, inside, c.loop-place-test.false))) in
-    let all : handling_of v ≡ run_clauses m w0.tick w0.pre 0 (handling_of w0) m.clauses (flags_of count fired) =
-    sym (inv.so_far ∙ fires_no_more m w0.tick w0.pre (flags_of count fired) c.loop-place.next (handling_of v) refl inv.known none) in
+    let all : handling_of v ≡ run_clauses m w0.tick w0.pre 0 (handling_of w0) m.clauses (flags_of count fired) = sym (inv.so_far ∙ fires_no_more m w0.tick w0.pre (flags_of count fired) c.loop-place.next (handling_of v) refl inv.known none) in
     record {
       values = all_done w0 v (run_clauses m w0.tick w0.pre 0 (handling_of w0) m.clauses (flags_of count fired)) all inv.same_tick inv.same_before inv.same_room;
       overflow = ap (λ (h : HandlerState). h.overflow) all;

@@ -131,6 +131,5 @@ returns-clause-counted g c =
     let w0 = snapshot_of c.args.from c.args.s.now in
     let before = c.loop-tick.invariant.are_silent in
     let end : c.loop-tick.tick ≡ m.last = omega (arith, c.loop-tick.invariant.in_time, c.loop-tick-test.false) in
-    let there : AreEventFree Rule m c.args.from w0 before.0 m.last (snapshot_of m.last c.loop-tick.s) =
-    subst (λ t. AreEventFree Rule m c.args.from w0 before.0 t (snapshot_of t c.loop-tick.s)) end before.1 in
+    let there : AreEventFree Rule m c.args.from w0 before.0 m.last (snapshot_of m.last c.loop-tick.s) = subst (λ t. AreEventFree Rule m c.args.from w0 before.0 t (snapshot_of t c.loop-tick.s)) end before.1 in
     (before.0, subst (AreEventFree Rule m c.args.from w0 before.0 m.last) (sym c.set_last_rows.ensures.snapshot) there, omega (arith, before.2))

@@ -31,8 +31,7 @@ returns c =
     let nothing : (place t : ℕ) → due_at s.agenda place ≡ Some t → tick + k + 1 ≤ t = λ place t due. let least : next ≤ t = c.earliest_due_tick-next.ensures.none_before place t due in omega (arith, e, least, later) in
     let left : Conditions = c.copy_settled.new.self in
     let at_arrival : Vec Bool Global = left.at_arrival in
-    let is : at_arrival.items ≡ arrived_then k s.conditions.at_arrival.items s.conditions.after_handlers.items =
-    c.copy_settled.ensures.at_arrival ∙ arrived_if tick next k s.conditions.at_arrival.items s.conditions.after_handlers.items e later in
+    let is : at_arrival.items ≡ arrived_then k s.conditions.at_arrival.items s.conditions.after_handlers.items = c.copy_settled.ensures.at_arrival ∙ arrived_if tick next k s.conditions.at_arrival.items s.conditions.after_handlers.items e later in
     let flipped : PlaceList = left.flipped in
     let rest : left ≡ record s.conditions { at_arrival = at_arrival; flipped = flipped } = c.copy_settled.ensures.rest in
     let snapshot = world_then m tick k s at_arrival flipped c.requires.stands is in

@@ -30,8 +30,7 @@ loop-clause-preserved c =
     ap length c.as_slice-count.ensures
     ∙ ap (λ (xs : List ClauseInfo). length (get_or xs i c.index-clauses-clause.result).branches) c.as_slice-clauses.ensures
     ∙ ap width_of (get_or_default m.clauses i c.index-clauses-clause.result (record { branches = [] }) h) in
-    let added : c.add_condition_branches.new.found.items ≡ c.loop-clause.found.items ++ map (place_of i) (range_with_len 0 (width_of (clause_at m i))) =
-    c.in_ok-add_condition_branches.ensures ∙ ap (λ n. c.loop-clause.found.items ++ map (place_of i) (range_with_len 0 n)) own in
+    let added : c.add_condition_branches.new.found.items ≡ c.loop-clause.found.items ++ map (place_of i) (range_with_len 0 (width_of (clause_at m i))) = c.in_ok-add_condition_branches.ensures ∙ ap (λ n. c.loop-clause.found.items ++ map (place_of i) (range_with_len 0 n)) own in
     record {
       as_many = count_more m i c.loop-clause.found.items c.add_condition_branches.new.found.items h inv.as_many added;
       each = branches_more m i c.loop-clause.found.items c.add_condition_branches.new.found.items h inv.as_many added inv.each;

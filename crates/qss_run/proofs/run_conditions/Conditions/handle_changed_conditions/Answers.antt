@@ -4,7 +4,7 @@ use Common.{ℕ, ℤ, ◌<◌, ◌||◌, ◌∙◌, ◌≡◌, All, all_within, 
 use Common.{AreRisingBelow, arith, assigned_of, clash, Conditions, conditions, detector_at, Err}
 use Common.{first_exceeding, flag_at, HandlerState, handling_from, handling_of_fired, holds_at}
 use Common.{is_listed, is_reinitialized, is_some, IsHandlerEffect, IsWithin, IsWritten, length}
-use Common.{line_at, List, None, overflow_of, PlaceList, pos, Result, Row, rules, state_at}
+use Common.{line_at, List, None, overflow_of, PlaceList, pos, refl, Result, Row, rules, state_at}
 use Common.{state_count, states_at, subst, sym, true, Values}
 use Rattle.qss_hand.specs.declared.handler_statements.Over.{Over}
 use Rattle.qss_run.proofs.Arrivals.{lists_flipped, may_be_read, fired_numbers, read_on_arrival}
@@ -31,49 +31,34 @@ move_due_handler_states-requires c =
       small = values.small_states;
     }
 
-pub returns-in_err-move_due_handler_states-clause-overflow : goal.returns-in_err-move_due_handler_states-clause-overflow
-returns-in_err-move_due_handler_states-clause-overflow c =
+pub returns-in_err-move_due_handler_states : goal.returns-in_err-move_due_handler_states
+returns-in_err-move_due_handler_states c =
     let all : Conditions = c.args.self.now in
-    let given : c.from_residual.result ≡ Err c.in_err-move_due_handler_states.field-0.0 =
-    search rules in
+    let given : c.from_residual.result ≡ Err c.in_err-move_due_handler_states.field-0.0 = search rules in
     let over : overflow_of c.from_residual.result ≡ overflow_of c.move_due_handler_states.result = ap overflow_of given ∙ ap overflow_of (sym c.in_err-move_due_handler_states.was) in
-    over_early c.args.at.now.machine.now c.args.at.now.tick (states_at c.args.at.now.lines.now c.args.at.now.tick) c.args.work.now.d all.at_arrival.items all.after_handlers.items
-    (overflow_of c.from_residual.result) (ap is_some (ap overflow_of given)) (over ∙ c.move_due_handler_states.ensures.at_arrival.over_is)
-
-pub returns-in_err-move_due_handler_states-clause-handled : goal.returns-in_err-move_due_handler_states-clause-handled
-returns-in_err-move_due_handler_states-clause-handled c none =
-    unless_over c.from_residual.result c.in_err-move_due_handler_states.field-0.0 (search rules) none
-
-pub returns-in_err-move_due_handler_states-clause-at_arrival : goal.returns-in_err-move_due_handler_states-clause-at_arrival
-returns-in_err-move_due_handler_states-clause-at_arrival c none =
-    unless_over c.from_residual.result c.in_err-move_due_handler_states.field-0.0 (search rules) none
-
-pub returns-in_err-move_due_handler_states-clause-alike : goal.returns-in_err-move_due_handler_states-clause-alike
-returns-in_err-move_due_handler_states-clause-alike c none =
-    unless_over c.from_residual.result c.in_err-move_due_handler_states.field-0.0 (search rules) none
-
-pub returns-in_err-move_due_handler_states-clause-none_apart : goal.returns-in_err-move_due_handler_states-clause-none_apart
-returns-in_err-move_due_handler_states-clause-none_apart c none =
-    unless_over c.from_residual.result c.in_err-move_due_handler_states.field-0.0 (search rules) none
-
-pub returns-in_err-move_due_handler_states-clause-fits : goal.returns-in_err-move_due_handler_states-clause-fits
-returns-in_err-move_due_handler_states-clause-fits c none =
-    unless_over c.from_residual.result c.in_err-move_due_handler_states.field-0.0 (search rules) none
-
-pub returns-in_err-move_due_handler_states-clause-without : goal.returns-in_err-move_due_handler_states-clause-without
-returns-in_err-move_due_handler_states-clause-without c none =
-    unless_over c.from_residual.result c.in_err-move_due_handler_states.field-0.0 (search rules) none
+    record {
+      overflow = over_early c.args.at.now.machine.now c.args.at.now.tick (states_at c.args.at.now.lines.now c.args.at.now.tick) c.args.work.now.d all.at_arrival.items all.after_handlers.items
+          (overflow_of c.from_residual.result) (ap is_some (ap overflow_of given)) (over ∙ c.move_due_handler_states.ensures.at_arrival.over_is);
+      handled = unless_over c.from_residual.result _ given;
+      at_arrival = unless_over c.from_residual.result _ given;
+      alike = unless_over c.from_residual.result _ given;
+      none_apart = unless_over c.from_residual.result _ given;
+      rest = refl;
+      fits = unless_over c.from_residual.result _ given;
+      without = unless_over c.from_residual.result _ given;
+      fired_room = refl;
+      moved_room = refl;
+      assigned_room = refl;
+    }
 
 pub list_fired-requires-clause-read : goal.list_fired-requires-clause-read
 list_fired-requires-clause-read c =
-    let calm : first_exceeding 88 (states_at c.args.at.now.lines.now c.args.at.now.tick) ≡ None =
-    sym c.move_due_handler_states.ensures.at_arrival.over_is ∙ ap overflow_of c.in_ok-move_due_handler_states.was in
+    let calm : first_exceeding 88 (states_at c.args.at.now.lines.now c.args.at.now.tick) ≡ None = sym c.move_due_handler_states.ensures.at_arrival.over_is ∙ ap overflow_of c.in_ok-move_due_handler_states.was in
     may_be_read c.args.at.now c.args.self.now c.args.work.now.d c.requires.ready.known calm c.requires.ready.lines.up_to.in_time
 
 pub read_changed-requires-clause-read : goal.read_changed-requires-clause-read
 read_changed-requires-clause-read c =
-    let calm : first_exceeding 88 (states_at c.args.at.now.lines.now c.args.at.now.tick) ≡ None =
-    sym c.move_due_handler_states.ensures.at_arrival.over_is ∙ ap overflow_of c.in_ok-move_due_handler_states.was in
+    let calm : first_exceeding 88 (states_at c.args.at.now.lines.now c.args.at.now.tick) ≡ None = sym c.move_due_handler_states.ensures.at_arrival.over_is ∙ ap overflow_of c.in_ok-move_due_handler_states.was in
     may_be_read c.args.at.now c.args.self.now c.args.work.now.d c.requires.ready.known calm c.requires.ready.lines.up_to.in_time
 
 pub list_fired-requires-clause-flipped : goal.list_fired-requires-clause-flipped
@@ -99,8 +84,7 @@ pub handle_fired_conditions-requires-clause-lines : goal.handle_fired_conditions
 handle_fired_conditions-requires-clause-lines c =
     let ready = c.requires.ready in
     let x : List ℤ = states_at c.args.at.now.lines.now c.args.at.now.tick in
-    let calm : first_exceeding 88 x ≡ None =
-    sym c.move_due_handler_states.ensures.at_arrival.over_is ∙ ap overflow_of c.in_ok-move_due_handler_states.was in
+    let calm : first_exceeding 88 x ≡ None = sym c.move_due_handler_states.ensures.at_arrival.over_is ∙ ap overflow_of c.in_ok-move_due_handler_states.was in
     record { up_to = ready.lines.up_to; small = all_within 88 x calm }
 
 pub handle_fired_conditions-requires-clause-values : goal.handle_fired_conditions-requires-clause-values
@@ -114,45 +98,32 @@ handle_fired_conditions-requires-clause-values c =
       small_discretes = subst (All (IsWithin 43)) (sym of_d) values.small_discretes;
     }
 
-pub returns-in_err-handle_fired_conditions-clause-overflow : goal.returns-in_err-handle_fired_conditions-clause-overflow
-returns-in_err-handle_fired_conditions-clause-overflow c =
+pub returns-in_err-handle_fired_conditions : goal.returns-in_err-handle_fired_conditions
+returns-in_err-handle_fired_conditions c =
     let all : Conditions = c.args.self.now in
     let ready = c.requires.ready in
     let m = c.args.at.now.machine.now in
     let tick = c.args.at.now.tick in
     let x : List ℤ = states_at c.args.at.now.lines.now tick in
-    let calm : first_exceeding 88 x ≡ None =
-    sym c.move_due_handler_states.ensures.at_arrival.over_is ∙ ap overflow_of c.in_ok-move_due_handler_states.was in
+    let calm : first_exceeding 88 x ≡ None = sym c.move_due_handler_states.ensures.at_arrival.over_is ∙ ap overflow_of c.in_ok-move_due_handler_states.was in
     let same : handling_of_fired m tick x c.move_due_handler_states.new.work.d c.as_slice-2.result.now ≡ handling_from m tick x c.args.work.now.d all.at_arrival.items all.after_handlers.items =
     read_handling c.args.at.now all c.args.work.now.d ready.known c.read_changed.new.self.at_arrival.items c.read_changed.ensures.at_arrival
     c.move_due_handler_states.new.work.d c.as_slice-2.result.now calm (ap (λ (v : Values). v.d) c.move_due_handler_states.ensures.work) (c.as_slice-2.ensures.value ∙ c.list_fired.ensures.fired) in
-    let given : c.from_residual-in_err-handle_fired_conditions.result ≡ Err c.in_err-handle_fired_conditions.field-0.0 =
-    search rules in
-    ap overflow_of given ∙ ap overflow_of (sym c.in_err-handle_fired_conditions.was) ∙ c.handle_fired_conditions.ensures.overflow ∙ ap (λ (h : HandlerState). h.overflow) same
-
-pub returns-in_err-handle_fired_conditions-clause-handled : goal.returns-in_err-handle_fired_conditions-clause-handled
-returns-in_err-handle_fired_conditions-clause-handled c none =
-    unless_over c.from_residual-in_err-handle_fired_conditions.result c.in_err-handle_fired_conditions.field-0.0 (search rules) none
-
-pub returns-in_err-handle_fired_conditions-clause-at_arrival : goal.returns-in_err-handle_fired_conditions-clause-at_arrival
-returns-in_err-handle_fired_conditions-clause-at_arrival c none =
-    unless_over c.from_residual-in_err-handle_fired_conditions.result c.in_err-handle_fired_conditions.field-0.0 (search rules) none
-
-pub returns-in_err-handle_fired_conditions-clause-alike : goal.returns-in_err-handle_fired_conditions-clause-alike
-returns-in_err-handle_fired_conditions-clause-alike c none =
-    unless_over c.from_residual-in_err-handle_fired_conditions.result c.in_err-handle_fired_conditions.field-0.0 (search rules) none
-
-pub returns-in_err-handle_fired_conditions-clause-none_apart : goal.returns-in_err-handle_fired_conditions-clause-none_apart
-returns-in_err-handle_fired_conditions-clause-none_apart c none =
-    unless_over c.from_residual-in_err-handle_fired_conditions.result c.in_err-handle_fired_conditions.field-0.0 (search rules) none
-
-pub returns-in_err-handle_fired_conditions-clause-fits : goal.returns-in_err-handle_fired_conditions-clause-fits
-returns-in_err-handle_fired_conditions-clause-fits c none =
-    unless_over c.from_residual-in_err-handle_fired_conditions.result c.in_err-handle_fired_conditions.field-0.0 (search rules) none
-
-pub returns-in_err-handle_fired_conditions-clause-without : goal.returns-in_err-handle_fired_conditions-clause-without
-returns-in_err-handle_fired_conditions-clause-without c none =
-    unless_over c.from_residual-in_err-handle_fired_conditions.result c.in_err-handle_fired_conditions.field-0.0 (search rules) none
+    let result = c.from_residual-in_err-handle_fired_conditions.result in
+    let given : result ≡ Err c.in_err-handle_fired_conditions.field-0.0 = search rules in
+    record {
+      overflow = ap overflow_of given ∙ ap overflow_of (sym c.in_err-handle_fired_conditions.was) ∙ c.handle_fired_conditions.ensures.overflow ∙ ap (λ (h : HandlerState). h.overflow) same;
+      handled = unless_over result _ given;
+      at_arrival = unless_over result _ given;
+      alike = unless_over result _ given;
+      none_apart = unless_over result _ given;
+      rest = c.read_changed.ensures.rest;
+      fits = unless_over result _ given;
+      without = unless_over result _ given;
+      fired_room = c.list_fired.ensures.room;
+      moved_room = refl;
+      assigned_room = refl;
+    }
 
 pub join_handler_reinitialized-requires-clause-moved : goal.join_handler_reinitialized-requires-clause-moved
 join_handler_reinitialized-requires-clause-moved c = subst (λ n. AreRisingBelow n c.args.moved.now.items) (sym (ap length c.as_slice-3.ensures)) c.requires.ready.lines.numbers
@@ -164,16 +135,13 @@ join_handler_reinitialized-requires-clause-known c =
     let tick = c.args.at.now.tick in
     let lines = c.args.at.now.lines.now in
     let x : List ℤ = states_at lines tick in
-    let calm : first_exceeding 88 x ≡ None =
-    sym c.move_due_handler_states.ensures.at_arrival.over_is ∙ ap overflow_of c.in_ok-move_due_handler_states.was in
+    let calm : first_exceeding 88 x ≡ None = sym c.move_due_handler_states.ensures.at_arrival.over_is ∙ ap overflow_of c.in_ok-move_due_handler_states.was in
     let begun : Values = c.move_due_handler_states.new.work in
-    let came : IsWritten (pos 0) (λ j z. z ≡ state_at (line_at lines j) tick) c.args.moved.now.items c.args.work.now.x begun.x =
-    subst (λ these. IsWritten (pos 0) (λ j z. z ≡ state_at (line_at lines j) tick) these c.args.work.now.x begun.x) c.as_slice.ensures.value c.move_due_handler_states.ensures.at_arrival.at_arrival in
+    let came : IsWritten (pos 0) (λ j z. z ≡ state_at (line_at lines j) tick) c.args.moved.now.items c.args.work.now.x begun.x = subst (λ these. IsWritten (pos 0) (λ j z. z ≡ state_at (line_at lines j) tick) these c.args.work.now.x begun.x) c.as_slice.ensures.value c.move_due_handler_states.ensures.at_arrival.at_arrival in
     let none : overflow_of c.handle_fired_conditions.result ≡ None =
     ap overflow_of c.in_ok-handle_fired_conditions.was in
     let done : HandlerState = handling_of_fired m tick x c.move_due_handler_states.new.work.d c.as_slice-2.result.now in
-    let log : c.as_slice-log.result.now ≡ done.rows =
-    c.as_slice-log.ensures.value ∙ ap (λ (v : Values). v.log) c.work.view_is ∙ ap (λ (v : Values). v.log) (c.handle_fired_conditions.ensures.work none) in
+    let log : c.as_slice-log.result.now ≡ done.rows = c.as_slice-log.ensures.value ∙ ap (λ (v : Values). v.log) c.work.view_is ∙ ap (λ (v : Values). v.log) (c.handle_fired_conditions.ensures.work none) in
     λ j e. subst (λ n. j < n) (sym (ap length c.as_slice-3.ensures))
     (known_states m tick lines c.args.moved.now.items c.as_slice-2.result.now c.args.work.now begun c.handle_fired_conditions.new.work ready.lines.up_to.as_many calm came j (subst (λ rows. is_reinitialized rows j ≡ true) log e))
 
@@ -184,8 +152,7 @@ list_handler_assigned-requires c =
     let none : overflow_of c.handle_fired_conditions.result ≡ None =
     ap overflow_of c.in_ok-handle_fired_conditions.was in
     let done : HandlerState = handling_of_fired c.args.at.now.machine.now tick x c.move_due_handler_states.new.work.d c.as_slice-2.result.now in
-    let log : c.as_slice-log.result.now ≡ done.rows =
-    c.as_slice-log.ensures.value ∙ ap (λ (v : Values). v.log) c.work.view_is ∙ ap (λ (v : Values). v.log) (c.handle_fired_conditions.ensures.work none) in
+    let log : c.as_slice-log.result.now ≡ done.rows = c.as_slice-log.ensures.value ∙ ap (λ (v : Values). v.log) c.work.view_is ∙ ap (λ (v : Values). v.log) (c.handle_fired_conditions.ensures.work none) in
     omega (arith, ap length log, rows_fired c.args.at.now.machine.now tick x c.move_due_handler_states.new.work.d c.as_slice-2.result.now, c.requires.assigned_room)
 
 pub returns-clause-overflow : goal.returns-clause-overflow
@@ -195,8 +162,7 @@ returns-clause-overflow c =
     let m = c.args.at.now.machine.now in
     let tick = c.args.at.now.tick in
     let x : List ℤ = states_at c.args.at.now.lines.now tick in
-    let calm : first_exceeding 88 x ≡ None =
-    sym c.move_due_handler_states.ensures.at_arrival.over_is ∙ ap overflow_of c.in_ok-move_due_handler_states.was in
+    let calm : first_exceeding 88 x ≡ None = sym c.move_due_handler_states.ensures.at_arrival.over_is ∙ ap overflow_of c.in_ok-move_due_handler_states.was in
     let same : handling_of_fired m tick x c.move_due_handler_states.new.work.d c.as_slice-2.result.now ≡ handling_from m tick x c.args.work.now.d all.at_arrival.items all.after_handlers.items =
     read_handling c.args.at.now all c.args.work.now.d ready.known c.read_changed.new.self.at_arrival.items c.read_changed.ensures.at_arrival
     c.move_due_handler_states.new.work.d c.as_slice-2.result.now calm (ap (λ (v : Values). v.d) c.move_due_handler_states.ensures.work) (c.as_slice-2.ensures.value ∙ c.list_fired.ensures.fired) in
@@ -212,19 +178,16 @@ returns-clause-handled c =
     let tick = c.args.at.now.tick in
     let lines = c.args.at.now.lines.now in
     let x : List ℤ = states_at lines tick in
-    let calm : first_exceeding 88 x ≡ None =
-    sym c.move_due_handler_states.ensures.at_arrival.over_is ∙ ap overflow_of c.in_ok-move_due_handler_states.was in
+    let calm : first_exceeding 88 x ≡ None = sym c.move_due_handler_states.ensures.at_arrival.over_is ∙ ap overflow_of c.in_ok-move_due_handler_states.was in
     let same : handling_of_fired m tick x c.move_due_handler_states.new.work.d c.as_slice-2.result.now ≡ handling_from m tick x c.args.work.now.d all.at_arrival.items all.after_handlers.items =
     read_handling c.args.at.now all c.args.work.now.d ready.known c.read_changed.new.self.at_arrival.items c.read_changed.ensures.at_arrival
     c.move_due_handler_states.new.work.d c.as_slice-2.result.now calm (ap (λ (v : Values). v.d) c.move_due_handler_states.ensures.work) (c.as_slice-2.ensures.value ∙ c.list_fired.ensures.fired) in
     let begun : Values = c.move_due_handler_states.new.work in
-    let came : IsWritten (pos 0) (λ j z. z ≡ state_at (line_at lines j) tick) c.args.moved.now.items c.args.work.now.x begun.x =
-    subst (λ these. IsWritten (pos 0) (λ j z. z ≡ state_at (line_at lines j) tick) these c.args.work.now.x begun.x) c.as_slice.ensures.value c.move_due_handler_states.ensures.at_arrival.at_arrival in
+    let came : IsWritten (pos 0) (λ j z. z ≡ state_at (line_at lines j) tick) c.args.moved.now.items c.args.work.now.x begun.x = subst (λ these. IsWritten (pos 0) (λ j z. z ≡ state_at (line_at lines j) tick) these c.args.work.now.x begun.x) c.as_slice.ensures.value c.move_due_handler_states.ensures.at_arrival.at_arrival in
     let none : overflow_of c.handle_fired_conditions.result ≡ None =
     ap overflow_of c.in_ok-handle_fired_conditions.was in
     let done : HandlerState = handling_of_fired m tick x c.move_due_handler_states.new.work.d c.as_slice-2.result.now in
-    let log : c.as_slice-log.result.now ≡ done.rows =
-    c.as_slice-log.ensures.value ∙ ap (λ (v : Values). v.log) c.work.view_is ∙ ap (λ (v : Values). v.log) (c.handle_fired_conditions.ensures.work none) in
+    let log : c.as_slice-log.result.now ≡ done.rows = c.as_slice-log.ensures.value ∙ ap (λ (v : Values). v.log) c.work.view_is ∙ ap (λ (v : Values). v.log) (c.handle_fired_conditions.ensures.work none) in
     let did = c.handle_fired_conditions.ensures in
     let listed : c.list_handler_assigned.new.assigned.items ≡ assigned_of done.rows = c.list_handler_assigned.ensures.assigned ∙ ap assigned_of log in
     λ e. subst (IsHandlerEffect m tick lines c.args.moved.now.items c.join_handler_reinitialized.new.moved.items c.list_handler_assigned.new.assigned.items c.args.work.now c.handle_fired_conditions.new.work) same

@@ -22,8 +22,7 @@ returns-clause-after_handlers c =
     let fits = c.requires.allowed.fits in
     let detector : DetectorView = c.detector_at_values-detector.result in
     let own : c.condition-condition.result.now ≡ condition_at m place = c.condition-condition.ensures.value in
-    let dues : c.set.new.self ≡ set c.args.agenda.now (state_count m + place) c.next_change.result =
-    c.set.ensures ∙ ap (λ n. set c.args.agenda.now (n + place) c.next_change.result) c.requires.allowed.point.slopes.as_many in
+    let dues : c.set.new.self ≡ set c.args.agenda.now (state_count m + place) c.next_change.result = c.set.ensures ∙ ap (λ n. set c.args.agenda.now (n + place) c.next_change.result) c.requires.allowed.point.slopes.as_many in
     let detectors = with_items_is all.detectors (set c.as_mut_slice-detectors.result.now place detector) (length-set c.as_mut_slice-detectors.result.now place detector ∙ c.as_mut_slice-detectors.ensures.len)
     ∙ ap (λ ws. set ws place detector) c.as_mut_slice-detectors.ensures.value in
     let after_handlers = with_items_is all.after_handlers (set c.as_mut_slice-after_handlers.result.now place c.truth-holds.result)
@@ -63,8 +62,7 @@ returns-clause-flipped c other =
     let place = c.args.place in
     let all : Conditions = c.args.self.now in
     let own : c.condition-condition.result.now ≡ condition_at m place = c.condition-condition.ensures.value in
-    let holds : c.truth-holds.result ≡ truth m (condition_at m place) at.states.now at.discretes.now at.tick =
-    c.truth-holds.ensures ∙ ap (λ (w : DetectorView). compares w.rel w.value) c.detector_at_values-detector.ensures ∙ ap (λ (condition : Condition). truth m condition at.states.now at.discretes.now at.tick) own in
+    let holds : c.truth-holds.result ≡ truth m (condition_at m place) at.states.now at.discretes.now at.tick = c.truth-holds.ensures ∙ ap (λ (w : DetectorView). compares w.rel w.value) c.detector_at_values-detector.ensures ∙ ap (λ (condition : Condition). truth m condition at.states.now at.discretes.now at.tick) own in
     c.mark_changed_detector.ensures.places other
     ∙ ap (λ flags. is_listed all.flipped.places other || (place == other && differ c.truth-holds.result (flag_at flags place))) c.as_slice-at_arrival.ensures.value
     ∙ ap (λ (b : Bool). is_listed all.flipped.places other || (place == other && differ b (flag_at all.at_arrival.items place))) holds

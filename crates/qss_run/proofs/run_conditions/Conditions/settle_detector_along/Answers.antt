@@ -20,8 +20,7 @@ settle_detector-requires-clause-allowed c =
     let read = c.move_work_states_read.ensures in
     let left : Values = c.move_work_states_read.new.work in
     let x : c.as_slice.result.now ≡ left.x = c.as_slice.ensures.value ∙ ap (λ (v : Values). v.x) c.work.view_is in
-    let d : c.as_slice-2.result.now ≡ c.args.work.now.d =
-    c.as_slice-2.ensures.value ∙ ap (λ (v : Values). v.d) c.work.view_is ∙ ap (λ (v : Values). v.d) read.work in
+    let d : c.as_slice-2.result.now ≡ c.args.work.now.d = c.as_slice-2.ensures.value ∙ ap (λ (v : Values). v.d) c.work.view_is ∙ ap (λ (v : Values). v.d) read.work in
     let many : length c.args.work.now.x ≡ length full = ready.values.states ∙ sym ready.moment.lines.up_to.as_many ∙ sym (length-states_at at.lines.now at.tick) in
     record {
       fits = ready.fits;

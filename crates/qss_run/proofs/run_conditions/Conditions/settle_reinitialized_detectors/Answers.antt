@@ -40,15 +40,13 @@ loop-index-preserved c =
     AreSettledAlong at (touched_by m (reinitialized_of (take (i + 1) log))) c.args.self.now all c.args.agenda.now due c.args.work.now work in
     elim c.if-is_handler_reinitialization.branch [
       | then-is_handler_reinitialization w ↦
-          let list : touched_by m (reinitialized_of (take (i + 1) log)) ≡ touched_by m past ++ touched_of m row.var =
-          ap (touched_by m) (reinitialized_more log i no_row inside (reinits ∙ w.if-is_handler_reinitialization.true)) ∙ touched_more m past row.var in
+          let list : touched_by m (reinitialized_of (take (i + 1) log)) ≡ touched_by m past ++ touched_of m row.var = ap (touched_by m) (reinitialized_more log i no_row inside (reinits ∙ w.if-is_handler_reinitialization.true)) ∙ touched_more m past row.var in
           subst (λ work. Done work c.if-is_handler_reinitialization.self c.if-is_handler_reinitialization.agenda) (sym w.work-is)
           (subst (λ all. Done w.settle_touched_detectors_of.new.work all c.if-is_handler_reinitialization.agenda) (sym w.self-is)
           (subst (Done w.settle_touched_detectors_of.new.work w.settle_touched_detectors_of.new.self) (sym w.agenda-is)
           (along_more at (touched_by m past) (touched_of m row.var) _ _ _ _ _ _ _ _ _ _ _ c.loop-index.invariant (ap (λ (rows : List Row). touched_of m (get_or rows i no_row).var) read) list w.settle_touched_detectors_of.ensures)))
       | else-is_handler_reinitialization w ↦
-          let list : touched_by m (reinitialized_of (take (i + 1) log)) ≡ touched_by m past =
-          ap (touched_by m) (reinitialized_same log i no_row inside (reinits ∙ w.if-is_handler_reinitialization.false)) in
+          let list : touched_by m (reinitialized_of (take (i + 1) log)) ≡ touched_by m past = ap (touched_by m) (reinitialized_same log i no_row inside (reinits ∙ w.if-is_handler_reinitialization.false)) in
           subst (λ work. Done work c.if-is_handler_reinitialization.self c.if-is_handler_reinitialization.agenda) (sym w.work-is)
           (subst (λ all. Done c.loop-index.work all c.if-is_handler_reinitialization.agenda) (sym w.self-is)
           (subst (Done c.loop-index.work c.loop-index.self) (sym w.agenda-is)

@@ -24,8 +24,7 @@ returns c =
     let own : c.condition-condition.result.now ≡ condition_at m place = c.condition-condition.ensures.value in
     let speed = to_z-of_z w128 c.detector_speed_at-speed.result fits ∙ c.detector_speed_at-speed.ensures.value ∙ ap (λ (condition : Condition). speed_of m condition.form c.args.at.now.slopes.now) own in
     let held : c.as_mut_slice-detectors.result.now ≡ all.detectors.items = c.as_mut_slice-detectors.ensures.value in
-    let read : get_or c.as_mut_slice-detectors.result.now place c.index-detectors-place.result ≡ detector_at all.detectors.items place =
-    ap (λ ws. get_or ws place c.index-detectors-place.result) held ∙ get_or_default all.detectors.items place c.index-detectors-place.result no_detector inside in
+    let read : get_or c.as_mut_slice-detectors.result.now place c.index-detectors-place.result ≡ detector_at all.detectors.items place = ap (λ ws. get_or ws place c.index-detectors-place.result) held ∙ get_or_default all.detectors.items place c.index-detectors-place.result no_detector inside in
     let detectors : (with_items all.detectors (set c.as_mut_slice-detectors.result.now place c.update_detector_speed.new.detector)).items ≡ set all.detectors.items place c.update_detector_speed.new.detector =
     with_items_is all.detectors (set c.as_mut_slice-detectors.result.now place c.update_detector_speed.new.detector)
     (length-set c.as_mut_slice-detectors.result.now place c.update_detector_speed.new.detector ∙ c.as_mut_slice-detectors.ensures.len) ∙ ap (λ ws. set ws place c.update_detector_speed.new.detector) held in
@@ -40,8 +39,7 @@ returns c =
     going_on_at m c.args.at.now.tick c.args.at.now.slopes.now all.detectors.items c.args.agenda.now c.update_detector_speed.new.agenda place c.update_detector_speed.new.detector inside ready.small.later c.update_detector_speed.ensures.same.as_many
     (λ other ne. c.update_detector_speed.ensures.same.others other (λ e. ne (omega (arith, e, n))))
     (turned (state_count m + place) (omega (arith, n))) in
-    let own_speed : HasSpeed m c.args.at.now.slopes.now (set all.detectors.items place c.update_detector_speed.new.detector) place =
-    ap (λ (w : DetectorView). w.speed) (get_or-set_same all.detectors.items place c.update_detector_speed.new.detector no_detector inside) ∙ c.update_detector_speed.ensures.speed ∙ speed in
+    let own_speed : HasSpeed m c.args.at.now.slopes.now (set all.detectors.items place c.update_detector_speed.new.detector) place = ap (λ (w : DetectorView). w.speed) (get_or-set_same all.detectors.items place c.update_detector_speed.new.detector no_detector inside) ∙ c.update_detector_speed.ensures.speed ∙ speed in
     record {
       goes_on = subst (λ ws. AreSpeedsUpdated m c.args.at.now.tick c.args.at.now.slopes.now all.detectors.items ws c.args.agenda.now c.update_detector_speed.new.agenda) (sym detectors) going;
       speeds = subst (λ ws. All (HasSpeed m c.args.at.now.slopes.now ws) (place ∷ [])) (sym detectors)

@@ -37,8 +37,7 @@ returns c =
     let m = c.args.at.now.machine.now in
     let detectors = c.loop-state.self.detectors.items in
     let done = c.loop-state.invariant in
-    let all : flat_map (λ j. readers_of m (reading_rows m j)) (take c.loop-state.state-index c.args.moved.now) ≡ flat_map (λ j. readers_of m (reading_rows m j)) c.args.moved.now =
-    ap (flat_map (λ j. readers_of m (reading_rows m j))) (take_all c.loop-state.state-index c.args.moved.now c.loop-state-test.false) in
+    let all : flat_map (λ j. readers_of m (reading_rows m j)) (take c.loop-state.state-index c.args.moved.now) ≡ flat_map (λ j. readers_of m (reading_rows m j)) c.args.moved.now = ap (flat_map (λ j. readers_of m (reading_rows m j))) (take_all c.loop-state.state-index c.args.moved.now c.loop-state-test.false) in
     record {
       detectors = watched_again m c.args.at.now.tick c.args.at.now.slopes.now c.args.moved.now c.args.self.now.detectors.items detectors c.args.agenda.now c.loop-state.agenda done.goes_on
           c.requires.ready.slopes_of.as_many c.requires.ready.fits.detectors (subst (All (HasSpeed m c.args.at.now.slopes.now detectors)) all done.speeds);
