@@ -214,7 +214,8 @@ impl Conditions {
     /// Settles the conditions that the handlers affect. These are the changed ones, those that read
     /// a reinitialized state, an assigned variable or its value before the tick, and those that
     /// read a state whose row reads such a variable. Of the states in `work` it writes only those
-    /// that these conditions read.
+    /// that these conditions read. It is not inlined, so that the code of event steps stays small.
+    #[inline(never)]
     pub fn settle_detectors_after_handlers(
         &mut self,
         at: &ConditionContext,
@@ -295,7 +296,9 @@ impl Conditions {
 
     /// Sets the speeds of the detectors of the conditions that read a state whose row reads a moved
     /// state, at a tick. All detectors that were valid for the old slopes are then valid for the
-    /// new ones, and their next changes are scheduled.
+    /// new ones, and their next changes are scheduled. It is not inlined, so that the code of event
+    /// steps stays small.
+    #[inline(never)]
     pub fn update_detectors_of(&mut self, at: &ConditionContext, moved: &[u32], agenda: &mut Agenda)
         requires { CanUpdateReaderDetectors at.now moved.now self.old agenda.old }
         ensures { AreReaderDetectorsUpdated at.now moved.now self.old self.new agenda.old agenda.new }
