@@ -94,7 +94,9 @@ impl Conditions {
         self.settle_detector(at.machine, &point, place, agenda);
     }
 
-    // Settles the conditions at these indices.
+    // Settles the conditions at these indices. It is not inlined, so that the code of event steps
+    // stays small.
+    #[inline(never)]
     fn settle_detectors_at(
         &mut self,
         at: &ConditionContext,
@@ -131,7 +133,9 @@ impl Conditions {
         }
     }
 
-    // Settles the conditions that read this variable, or a state whose row reads it.
+    // Settles the conditions that read this variable, or a state whose row reads it. It is not
+    // inlined, so that the code of event steps stays small.
+    #[inline(never)]
     fn settle_touched_detectors_of(
         &mut self,
         at: &ConditionContext,
@@ -214,8 +218,7 @@ impl Conditions {
     /// Settles the conditions that the handlers affect. These are the changed ones, those that read
     /// a reinitialized state, an assigned variable or its value before the tick, and those that
     /// read a state whose row reads such a variable. Of the states in `work` it writes only those
-    /// that these conditions read. It is not inlined, so that the code of event steps stays small.
-    #[inline(never)]
+    /// that these conditions read.
     pub fn settle_detectors_after_handlers(
         &mut self,
         at: &ConditionContext,
