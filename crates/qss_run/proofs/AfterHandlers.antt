@@ -23,17 +23,6 @@ int_at-states_with lines t moved x j h = int_at-tabulate (length lines) (λ i. i
 pub other_state : (lines : List Line) (t : ℕ) (moved : List ℕ) (x : List ℤ) (j : ℕ) → j < length lines → is_listed moved j ≡ false → int_at (states_with lines t moved x) j ≡ state_at (line_at lines j) t
 other_state lines t moved x j h none = int_at-states_with lines t moved x j h ∙ if-false (is_listed moved j) (int_at x j) (state_at (line_at lines j) t) none
 
--- states and slopes from slices of what a store keeps
-pub same_states : (lines now_lines : List Line) (t : ℕ) (moved now_moved : List ℕ) (x now_x : List ℤ) → now_lines ≡ lines → now_moved ≡ moved → now_x ≡ x →
-    states_with now_lines t now_moved now_x ≡ states_with lines t moved x
-same_states lines now_lines t moved now_moved x now_x of_lines of_moved of_x =
-    ap (λ ls. states_with ls t now_moved now_x) of_lines ∙ ap (λ js. states_with lines t js now_x) of_moved ∙ ap (states_with lines t moved) of_x
-
-pub same_slopes : (m : Machine) (levels now_levels d now_d : List ℤ) → now_levels ≡ levels → now_d ≡ d →
-    tabulate (state_count m) (λ j. slope_at m j now_levels now_d) ≡ tabulate (state_count m) (λ j. slope_at m j levels d)
-same_slopes m levels now_levels d now_d of_levels of_d =
-    ap (λ l. tabulate (state_count m) (λ j. slope_at m j l now_d)) of_levels ∙ ap (λ e. tabulate (state_count m) (λ j. slope_at m j levels e)) of_d
-
 -- snapshots of the same lists
 pub same_worlds : (v w : Snapshot) → v.states ≡ w.states → v.levels ≡ w.levels → v.discretes ≡ w.discretes → v.at_arrival ≡ w.at_arrival → v.after_handlers ≡ w.after_handlers → v ≡ w
 same_worlds v w states levels discretes at_arrival after_handlers =

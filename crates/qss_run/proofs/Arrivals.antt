@@ -99,18 +99,18 @@ module _ (after_handlers at_arrival : List Bool) (looked : List ℕ) (holds : �
 
 -- where no state exceeds its limit on arrival, detectors that are valid there have values within
 -- the limit
-small_then : (at : ChangedConditions) (all : Conditions) (d : List ℤ) → KnowsArrival at all d → All (IsWithin 88) (states_at at.lines.now at.tick) → AreSmallAt at.tick all.detectors.items
+small_then : (at : ChangedConditions) (all : Conditions) (d : List ℤ) → KnowsArrival at all d → All (IsWithin 88) (states_at at.states.now.lines.items at.tick) → AreSmallAt at.tick all.detectors.items
 small_then at all d known small = record {
   later = λ place h. (known.watched place (omega (arith, h, known.fits.detectors))).0;
   small = λ place h. (known.watched place (omega (arith, h, known.fits.detectors))).1 small;
 }
 
 -- and truths may be read from what conditions keep
-pub may_be_read : (at : ChangedConditions) (all : Conditions) (d : List ℤ) → KnowsArrival at all d → first_exceeding 88 (states_at at.lines.now at.tick) ≡ None → at.tick < 2 ^ 32 → MayBeRead at.tick all at.changed.now
+pub may_be_read : (at : ChangedConditions) (all : Conditions) (d : List ℤ) → KnowsArrival at all d → first_exceeding 88 (states_at at.states.now.lines.items at.tick) ≡ None → at.tick < 2 ^ 32 → MayBeRead at.tick all at.changed.now
 may_be_read at all d known calm in_time = record {
   as_many = known.fits.detectors ∙ sym known.fits.after_handlers;
   numbers = subst (λ n. AreRisingBelow n at.changed.now) (sym known.fits.after_handlers) known.changed;
-  small = small_then at all d known (all_within 88 (states_at at.lines.now at.tick) calm);
+  small = small_then at all d known (all_within 88 (states_at at.states.now.lines.items at.tick) calm);
   in_time = omega (arith, in_time);
 }
 
@@ -131,22 +131,22 @@ module _ (at : ChangedConditions) (all : Conditions) (d : List ℤ) (known : Kno
   many_arrived : length all.at_arrival.items ≡ length all.after_handlers.items
   many_arrived = known.fits.at_arrival ∙ sym known.fits.after_handlers
 
-  own_truth : (place : ℕ) → place < length all.after_handlers.items → holds_there place ≡ truth at.machine.now (condition_at at.machine.now place) (states_at at.lines.now at.tick) d at.tick
+  own_truth : (place : ℕ) → place < length all.after_handlers.items → holds_there place ≡ truth at.machine.now (condition_at at.machine.now place) (states_at at.states.now.lines.items at.tick) d at.tick
   own_truth place h = (known.watched place (omega (arith, h, known.fits.after_handlers))).2
 
   other_truth : (place : ℕ) → place < length all.after_handlers.items → is_listed at.changed.now place ≡ false →
-      (truth at.machine.now (condition_at at.machine.now place) (states_at at.lines.now at.tick) d at.tick ≡ flag_at all.after_handlers.items place) × (became_true all.at_arrival.items all.after_handlers.items place ≡ false)
+      (truth at.machine.now (condition_at at.machine.now place) (states_at at.states.now.lines.items at.tick) d at.tick ≡ flag_at all.after_handlers.items place) × (became_true all.at_arrival.items all.after_handlers.items place ≡ false)
   other_truth place h none = known.others place (omega (arith, h, known.fits.after_handlers)) none
 
-  pub read_on_arrival : now ≡ truths at.machine.now (states_at at.lines.now at.tick) d at.tick
+  pub read_on_arrival : now ≡ truths at.machine.now (states_at at.states.now.lines.items at.tick) d at.tick
   read_on_arrival =
-      truths_on_arrival all.after_handlers.items all.at_arrival.items at.changed.now holds_there now many_arrived read at.machine.now at.tick (states_at at.lines.now at.tick) d known.fits.after_handlers own_truth other_truth
+      truths_on_arrival all.after_handlers.items all.at_arrival.items at.changed.now holds_there now many_arrived read at.machine.now at.tick (states_at at.states.now.lines.items at.tick) d known.fits.after_handlers own_truth other_truth
 
-  pub read_handling : (begun : List ℤ) (fired : List ℕ) → first_exceeding 88 (states_at at.lines.now at.tick) ≡ None → begun ≡ d → fired ≡ fired_of holds_there all.at_arrival.items all.after_handlers.items at.changed.now →
-      handling_of_fired at.machine.now at.tick (states_at at.lines.now at.tick) begun fired
-      ≡ handling_from at.machine.now at.tick (states_at at.lines.now at.tick) d all.at_arrival.items all.after_handlers.items
+  pub read_handling : (begun : List ℤ) (fired : List ℕ) → first_exceeding 88 (states_at at.states.now.lines.items at.tick) ≡ None → begun ≡ d → fired ≡ fired_of holds_there all.at_arrival.items all.after_handlers.items at.changed.now →
+      handling_of_fired at.machine.now at.tick (states_at at.states.now.lines.items at.tick) begun fired
+      ≡ handling_from at.machine.now at.tick (states_at at.states.now.lines.items at.tick) d all.at_arrival.items all.after_handlers.items
   read_handling begun fired calm same are =
-      fired_handling all.after_handlers.items all.at_arrival.items at.changed.now holds_there now many_arrived read at.machine.now at.tick (states_at at.lines.now at.tick) d known.fits.after_handlers own_truth other_truth begun fired calm same are
+      fired_handling all.after_handlers.items all.at_arrival.items at.changed.now holds_there now many_arrived read at.machine.now at.tick (states_at at.states.now.lines.items at.tick) d known.fits.after_handlers own_truth other_truth begun fired calm same are
 
 -- the branches that fired have room for their rows
 pub rows_fired : (m : Machine) (tick : ℕ) (x d : List ℤ) (fired : List ℕ) → length (handling_of_fired m tick x d fired).rows ≤ row_room m.clauses

@@ -113,8 +113,9 @@ pub use Rattle.qss_states.specs.LineReplacements.{goes_from, replaced_lines_from
 pub use Rattle.qss_states.specs.RowSums.{AreSumsBefore}
 pub use Rattle.qss_states.specs.StateLines.{AreLinesAt, IsRestartedFrom, line_at, states_at}
 pub use Rattle.qss_states.specs.StateLines.{states_with}
-pub use Rattle.qss_states.specs.Variables.{AreAssignedFrom, AreWithin, reads_moved}
+pub use Rattle.qss_states.specs.Variables.{reads_moved}
 pub use Rattle.qss_states.specs.declared.row_sum_changes.RowSum.TheVariants.{Slope}
+pub use Rattle.qss_states.specs.declared.states.States.{States}
 pub use Rattle.qss_run.specs.ConditionPlaces.{AreBranches, AreConditionsOf, detector_at, IsBranchOf}
 pub use Rattle.qss_run.specs.ConditionPlaces.{IsDetectorAt, ListsFlipped}
 pub use Rattle.qss_run.specs.DetectorUpdates.{AreSettled, AreSettledAlong, detector_states_of}

@@ -2,8 +2,8 @@
 use Rattle.qss_run.proofs.Common
 use Common.{[], ℕ, ℤ, ◌*◌, ◌++◌, ◌+◌, ◌<◌, ◌^◌, ◌∙◌, ◌≡◌, ◌≤◌, ap, append-nil, arith}
 use Common.{discrete_count, Done, end_sum, Events, Floor, ints, IsCountFrom, last_snapshot}
-use Common.{level_by, level_count, List, Machine, None, Outcome, Over, refl, Row, rows_left}
-use Common.{RunView, snapshot_rows, state_count, subst, sym}
+use Common.{level_by, level_count, List, Machine, None, Outcome, Over, Row, rows_left, RunView}
+use Common.{snapshot_rows, state_count, subst, sym}
 use Rattle.qss_machine.specs.Runs.{run_rows}
 use Rattle.qss_machine.specs.Ticks.{start_snapshot}
 use Rattle.qss_rows.specs.RowTexts.{name_of}
@@ -30,9 +30,6 @@ pub record IsCounting (first_view now : RunView) (levels : ℕ) : Type 0 where
   pub end : end_of now.tick (remaining_run Floor now) ≡ end_of first_view.tick (remaining_run Floor first_view)
   pub few : levels ≤ now.tick * 2 ^ 64
   pub in_time : now.tick ≤ now.machine.last
-
-pub counts_none : (first_view : RunView) → first_view.end ≡ None → first_view.tick ≡ 0 → IsCounting first_view first_view 0
-counts_none first_view unended zero = record { machine = refl; unended = unended; counted = omega arith; summed = refl; end = refl; few = omega arith; in_time = omega (arith, zero) }
 
 module _ (first_view now new : RunView) (levels more : ℕ) (c : IsCounting first_view now levels) (ahead : left now ≡ new.rows ++ left new) (is : more ≡ level_count new.rows) where
   count_parts : level_count (left now) ≡ level_count new.rows + level_count (left new)

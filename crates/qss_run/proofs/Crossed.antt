@@ -33,7 +33,7 @@ module _ (m : Machine) (tick : ℕ) (agenda : List (Option ℕ)) (s : Store) (ta
   abbrev before : Store
   before = record s { agenda = agenda }
 
-  for : IsScheduleOf m tick (snapshot_of tick s) (line_at s.lines.items) (detector_at s.conditions.detectors.items) (due_at agenda)
+  for : IsScheduleOf m tick (snapshot_of tick s) (line_at s.states.lines.items) (detector_at s.conditions.detectors.items) (due_at agenda)
   for = taken.stands.stands_for
 
   nothing : HasNoEventBefore (tick + 1) (due_at agenda)
@@ -90,21 +90,21 @@ module _ (m : Machine) (tick : ℕ) (agenda : List (Option ℕ)) (s : Store) (ta
   -- ---- conditions on arrival
 
   held_then : (place : ℕ) → place < length (conditions m) →
-      value_at (detector_at s.conditions.detectors.items place) (tick + 1) ≡ value_of m (condition_at m place).form (states_at s.lines.items (tick + 1)) s.work.d s.work.d (tick + 1)
+      value_at (detector_at s.conditions.detectors.items place) (tick + 1) ≡ value_of m (condition_at m place).form (states_at s.states.lines.items (tick + 1)) s.work.d s.work.d (tick + 1)
   held_then place h =
-      watch_value_at m tick (snapshot_of tick s) (line_at s.lines.items) (detector_at s.conditions.detectors.items) (due_at agenda) for place 1 h
+      watch_value_at m tick (snapshot_of tick s) (line_at s.states.lines.items) (detector_at s.conditions.detectors.items) (due_at agenda) for place 1 h
       ∙ ap (λ x. value_of m (condition_at m place).form x s.work.d s.work.d (tick + 1)) (sym (at_arrival m tick agenda s taken in_time ∙ moved_is m (snapshot_of tick s)))
 
   -- one that does not change is as after the last handlers
   pub flag_same : (place : ℕ) → place < length (conditions m) → is_listed s.changed.items place ≡ false →
-      truth m (condition_at m place) (states_at s.lines.items (tick + 1)) s.work.d (tick + 1) ≡ flag_at s.conditions.after_handlers.items place
+      truth m (condition_at m place) (states_at s.states.lines.items (tick + 1)) s.work.d (tick + 1) ≡ flag_at s.conditions.after_handlers.items place
   flag_same place h none =
       ap (λ x. truth m (condition_at m place) x s.work.d (tick + 1)) (at_arrival m tick agenda s taken in_time ∙ moved_is m (snapshot_of tick s))
-      ∙ flag_still m tick (snapshot_of tick s) (line_at s.lines.items) (detector_at s.conditions.detectors.items) (due_at agenda) (tick + 1) 1 place for (omega arith) (omega arith) in_limit h (later_change place h none)
+      ∙ flag_still m tick (snapshot_of tick s) (line_at s.states.lines.items) (detector_at s.conditions.detectors.items) (due_at agenda) (tick + 1) 1 place for (omega arith) (omega arith) in_limit h (later_change place h none)
 
   -- and one that is not looked at did not become true through them
   pub rest_as_before : (place : ℕ) → place < length (conditions m) → is_listed s.changed.items place ≡ false →
-      (truth m (condition_at m place) (states_at s.lines.items (tick + 1)) s.work.d (tick + 1) ≡ flag_at s.conditions.after_handlers.items place) × (became_true s.conditions.at_arrival.items s.conditions.after_handlers.items place ≡ false)
+      (truth m (condition_at m place) (states_at s.states.lines.items (tick + 1)) s.work.d (tick + 1) ≡ flag_at s.conditions.after_handlers.items place) × (became_true s.conditions.at_arrival.items s.conditions.after_handlers.items place ≡ false)
   rest_as_before place h none = (
     flag_same place h none,
     elim (cases_Bool (became_true s.conditions.at_arrival.items s.conditions.after_handlers.items place)) [
@@ -117,12 +117,12 @@ module _ (m : Machine) (tick : ℕ) (agenda : List (Option ℕ)) (s : Store) (ta
   -- its limit
   pub watched_then : (place : ℕ) → place < length (conditions m) →
       ((detector_at s.conditions.detectors.items place).tick ≤ tick + 1)
-      × (All (IsWithin 88) (states_at s.lines.items (tick + 1)) → IsSmall (value_at (detector_at s.conditions.detectors.items place) (tick + 1)))
-      × (holds_at (detector_at s.conditions.detectors.items place) (tick + 1) ≡ truth m (condition_at m place) (states_at s.lines.items (tick + 1)) s.work.d (tick + 1))
+      × (All (IsWithin 88) (states_at s.states.lines.items (tick + 1)) → IsSmall (value_at (detector_at s.conditions.detectors.items place) (tick + 1)))
+      × (holds_at (detector_at s.conditions.detectors.items place) (tick + 1) ≡ truth m (condition_at m place) (states_at s.states.lines.items (tick + 1)) s.work.d (tick + 1))
   watched_then place h = (
     omega (arith, (for.detectors place h).not_later),
     λ small. subst IsSmall (sym (held_then place h))
-        (value_small m (condition_at m place).form (states_at s.lines.items (tick + 1)) s.work.d (tick + 1)
+        (value_small m (condition_at m place).form (states_at s.states.lines.items (tick + 1)) s.work.d (tick + 1)
         (condition_bounded m s.conditions.branches.items taken.stands.fits.own_conditions.branches place (omega (arith, h, taken.stands.fits.own_conditions.branches.as_many))) small taken.stands.fits.values.small_discretes
         (omega (arith, in_time, m.has_units.last_tick))),
     ap (λ r. compares r (value_at (detector_at s.conditions.detectors.items place) (tick + 1))) (for.detectors place h).own_rel ∙ ap (compares (condition_at m place).rel) (held_then place h),
@@ -130,7 +130,7 @@ module _ (m : Machine) (tick : ℕ) (agenda : List (Option ℕ)) (s : Store) (ta
 
   -- the detector of one that does not change is valid as before, at the states on arrival
   pub watched_still : (place : ℕ) → place < length (conditions m) → is_listed s.changed.items place ≡ false →
-      IsDetectorAt m (tick + 1) (states_at s.lines.items (tick + 1)) s.work.d s.slopes.items place (detector_at s.conditions.detectors.items place) (due_at s.agenda (state_count m + place))
+      IsDetectorAt m (tick + 1) (states_at s.states.lines.items (tick + 1)) s.work.d s.states.slopes.items place (detector_at s.conditions.detectors.items place) (due_at s.agenda (state_count m + place))
   watched_still place h none =
       let v = for.detectors place h in
       let change : IsChange (tick + 1) (flag_at s.conditions.after_handlers.items place) (detector_at s.conditions.detectors.items place) (due_at agenda (state_count m + place)) =
@@ -147,7 +147,7 @@ module _ (m : Machine) (tick : ℕ) (agenda : List (Option ℕ)) (s : Store) (ta
 
   -- ---- after the handlers
 
-  module _ (moved assigned : List ℕ) (new : Values) (h : HandlerState) (is : IsHandlerEffect m (tick + 1) s.lines.items s.moved.items moved assigned s.work new h) where
+  module _ (moved assigned : List ℕ) (new : Values) (h : HandlerState) (is : IsHandlerEffect m (tick + 1) s.states.lines.items s.moved.items moved assigned s.work new h) where
     -- a state that did not move was not due
     rest : (j : ℕ) → is_listed moved j ≡ false → is_listed s.moved.items j ≡ false
     rest j none =
@@ -159,36 +159,36 @@ module _ (m : Machine) (tick : ℕ) (agenda : List (Option ℕ)) (s : Store) (ta
         let found = index_of moved j (is.moves j ∙ or_right (is_listed s.moved.items j) (is_reinitialized h.rows j) e) in
         omega (arith, is.numbers.below found.0 0 found.1, found.2)
 
-    line_known : (j : ℕ) → j < state_count m → j < length s.lines.items
+    line_known : (j : ℕ) → j < state_count m → j < length s.states.lines.items
     line_known j inside = omega (arith, inside, taken.stands.fits.lines)
 
-    pub moved_to : AreMovedTo m moved new.x s.levels.items h.states
+    pub moved_to : AreMovedTo m moved new.x s.states.levels.items h.states
     moved_to = record {
-      as_many = ap length is.own_states ∙ length-states_with s.lines.items (tick + 1) moved new.x ∙ taken.stands.fits.lines;
+      as_many = ap length is.own_states ∙ length-states_with s.states.lines.items (tick + 1) moved new.x ∙ taken.stands.fits.lines;
       own = λ j among.
           let found = index_of moved j among in
           let inside : j < state_count m = omega (arith, is.numbers.below found.0 0 found.1, found.2) in
-          ap (λ xs. int_at xs j) is.own_states ∙ int_at-states_with s.lines.items (tick + 1) moved new.x j (line_known j inside)
-          ∙ if-true (is_listed moved j) (int_at new.x j) (state_at (line_at s.lines.items j) (tick + 1)) among;
+          ap (λ xs. int_at xs j) is.own_states ∙ int_at-states_with s.states.lines.items (tick + 1) moved new.x j (line_known j inside)
+          ∙ if-true (is_listed moved j) (int_at new.x j) (state_at (line_at s.states.lines.items j) (tick + 1)) among;
       near = λ j inside none.
-          subst (λ x. is_within_quantum m j x (int_at s.levels.items j) ≡ true)
-          (sym (ap (λ xs. int_at xs j) is.own_states ∙ other_state s.lines.items (tick + 1) moved new.x j (line_known j inside) none))
+          subst (λ x. is_within_quantum m j x (int_at s.states.levels.items j) ≡ true)
+          (sym (ap (λ xs. int_at xs j) is.own_states ∙ other_state s.states.lines.items (tick + 1) moved new.x j (line_known j inside) none))
           (rest_near m tick agenda s taken in_time j inside (rest j none));
     }
 
-    module _ (name : Option Rule) (levels : List ℤ) (allowed : AreNextLevels (IsAllowedLevel name) m h.states s.levels.items levels) where
-      pub near_after : (j : ℕ) → j < state_count m → IsLineWithinQuantum (level_unit m) (int_at (states_with s.lines.items (tick + 1) moved new.x) j) (int_at levels j) (quantum_of m j (int_at levels j))
+    module _ (name : Option Rule) (levels : List ℤ) (allowed : AreNextLevels (IsAllowedLevel name) m h.states s.states.levels.items levels) where
+      pub near_after : (j : ℕ) → j < state_count m → IsLineWithinQuantum (level_unit m) (int_at (states_with s.states.lines.items (tick + 1) moved new.x) j) (int_at levels j) (quantum_of m j (int_at levels j))
       near_after j inside =
           subst (λ xs. IsLineWithinQuantum (level_unit m) (int_at xs j) (int_at levels j) (quantum_of m j (int_at levels j))) is.own_states
-          (next_is_near name m j (int_at h.states j) (int_at s.levels.items j) (int_at levels j) inside (allowed.each j inside))
+          (next_is_near name m j (int_at h.states j) (int_at s.states.levels.items j) (int_at levels j) inside (allowed.each j inside))
 
       -- a line of another state that is at its level keeps its due tick
       pub due_after : (after : List (Option ℕ)) → IsWithout moved s.agenda after → (j : ℕ) → j < state_count m → is_listed moved j ≡ false →
-          (line_at s.lines.items j).level ≡ int_at levels j → IsDue m (tick + 1) j (line_at s.lines.items j) (due_at after j)
+          (line_at s.states.lines.items j).level ≡ int_at levels j → IsDue m (tick + 1) j (line_at s.states.lines.items j) (due_at after j)
       due_after after without j inside none own =
-          subst (IsDue m (tick + 1) j (line_at s.lines.items j)) (sym (without.others j none ∙ taken.without.other_states j inside (rest j none)))
-          (due_stays m tick before taken.stands j (state_at (line_at s.lines.items j) (tick + 1)) (int_at levels j) inside
-          (subst (λ x. IsLineWithinQuantum (level_unit m) x (int_at levels j) (quantum_of m j (int_at levels j))) (other_state s.lines.items (tick + 1) moved new.x j (line_known j inside) none)
+          subst (IsDue m (tick + 1) j (line_at s.states.lines.items j)) (sym (without.others j none ∙ taken.without.other_states j inside (rest j none)))
+          (due_stays m tick before taken.stands j (state_at (line_at s.states.lines.items j) (tick + 1)) (int_at levels j) inside
+          (subst (λ x. IsLineWithinQuantum (level_unit m) x (int_at levels j) (quantum_of m j (int_at levels j))) (other_state s.states.lines.items (tick + 1) moved new.x j (line_known j inside) none)
           (near_after j inside))
           refl own)
 

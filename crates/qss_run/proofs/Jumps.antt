@@ -27,7 +27,7 @@ dues_later m tick s stands place t e = elim (cases_lt place n) [ inl below ↦ l
     n : ℕ
     n = state_count m
 
-    for : IsScheduleOf m tick (snapshot_of tick s) (line_at s.lines.items) (detector_at s.conditions.detectors.items) (due_at s.agenda)
+    for : IsScheduleOf m tick (snapshot_of tick s) (line_at s.states.lines.items) (detector_at s.conditions.detectors.items) (due_at s.agenda)
     for = stands.stands_for
 
     count : ℕ
@@ -57,13 +57,13 @@ next_later m tick s next last stands before at_most reached =
     elim (cases_lt next last) [ inl below ↦ dues_later m tick s stands (reached below).0 next (reached below).1 | inr past ↦ omega (arith, before, past) ]
 
 -- the states by then
-states_later : (m : Machine) (tick : ℕ) (s : Store) → IsStoreAt m tick s → (k : ℕ) → states_at s.lines.items (tick + k) ≡ states_after m (snapshot_of tick s) k
+states_later : (m : Machine) (tick : ℕ) (s : Store) → IsStoreAt m tick s → (k : ℕ) → states_at s.states.lines.items (tick + k) ≡ states_after m (snapshot_of tick s) k
 states_later m tick s stands k =
-    ap (λ n. tabulate n (λ j. state_at (line_at s.lines.items j) (tick + k))) stands.fits.lines
+    ap (λ n. tabulate n (λ j. state_at (line_at s.states.lines.items j) (tick + k))) stands.fits.lines
     ∙ tabulate-same (pos 0) (state_count m) _ _
     (λ j h.
-    line_state_at m tick (snapshot_of tick s) (line_at s.lines.items) (detector_at s.conditions.detectors.items) (due_at s.agenda) stands.stands_for j k h
-    ∙ int_at-tabulate (state_count m) (λ i. int_at (snapshot_of tick s).states i +ℤ pos k *ℤ slope_at m i s.levels.items s.work.d) j h)
+    line_state_at m tick (snapshot_of tick s) (line_at s.states.lines.items) (detector_at s.conditions.detectors.items) (due_at s.agenda) stands.stands_for j k h
+    ∙ int_at-tabulate (state_count m) (λ i. int_at (snapshot_of tick s).states i +ℤ pos k *ℤ slope_at m i s.states.levels.items s.work.d) j h)
 
 -- a store with other truths on arrival
 abbrev pub with_arrived : Store → Vec Bool Global → PlaceList → Store
@@ -74,10 +74,10 @@ pub world_then : (m : Machine) (tick ticks : ℕ) (s : Store) (at_arrival : Vec 
 world_then m tick zero s at_arrival flipped stands is =
     let e : tick + 0 ≡ tick = omega arith in
     ap (λ t. snapshot_of t (with_arrived s at_arrival flipped)) e
-    ∙ ap (λ (a : List Bool). record { states = states_at s.lines.items tick; levels = s.levels.items; discretes = s.work.d; at_arrival = a; after_handlers = s.conditions.after_handlers.items }) is
+    ∙ ap (λ (a : List Bool). record { states = states_at s.states.lines.items tick; levels = s.states.levels.items; discretes = s.work.d; at_arrival = a; after_handlers = s.conditions.after_handlers.items }) is
 world_then m tick (suc ticks) s at_arrival flipped stands is =
-    ap (λ (x : List ℤ). record { states = x; levels = s.levels.items; discretes = s.work.d; at_arrival = at_arrival.items; after_handlers = s.conditions.after_handlers.items }) (states_later m tick s stands (suc ticks))
-    ∙ ap (λ (a : List Bool). record { states = states_after m (snapshot_of tick s) (suc ticks); levels = s.levels.items; discretes = s.work.d; at_arrival = a; after_handlers = s.conditions.after_handlers.items }) is
+    ap (λ (x : List ℤ). record { states = x; levels = s.states.levels.items; discretes = s.work.d; at_arrival = at_arrival.items; after_handlers = s.conditions.after_handlers.items }) (states_later m tick s stands (suc ticks))
+    ∙ ap (λ (a : List Bool). record { states = states_after m (snapshot_of tick s) (suc ticks); levels = s.states.levels.items; discretes = s.work.d; at_arrival = a; after_handlers = s.conditions.after_handlers.items }) is
 
 pub fits_then : (m : Machine) (s : Store) (at_arrival : Vec Bool Global) (flipped : PlaceList) → FitsMachine m s → length at_arrival.items ≡ length (conditions m) →
     flipped.count ≡ s.conditions.flipped.count → FitsMachine m (with_arrived s at_arrival flipped)
@@ -106,7 +106,7 @@ pub stands_then : (m : Machine) (tick ticks : ℕ) (s : Store) (at_arrival : Vec
     flipped.count ≡ s.conditions.flipped.count → AreAlikeBut flipped.places at_arrival.items s.conditions.after_handlers.items → IsStoreAt m (tick + ticks) (with_arrived s at_arrival flipped)
 stands_then m tick ticks s at_arrival flipped stands before nothing is count alike = record {
   fits = fits_then m s at_arrival flipped stands.fits (ap length is ∙ many ticks) count;
-  stands_for = subst (λ v. IsScheduleOf m (tick + ticks) v (line_at s.lines.items) (detector_at s.conditions.detectors.items) (due_at s.agenda)) (sym (world_then m tick ticks s at_arrival flipped stands is)) (still ticks before nothing);
+  stands_for = subst (λ v. IsScheduleOf m (tick + ticks) v (line_at s.states.lines.items) (detector_at s.conditions.detectors.items) (due_at s.agenda)) (sym (world_then m tick ticks s at_arrival flipped stands is)) (still ticks before nothing);
   own_slopes = stands.own_slopes;
   own_weights = stands.own_weights;
   rising = risen ticks before nothing is;
@@ -124,7 +124,7 @@ stands_then m tick ticks s at_arrival flipped stands before nothing is count ali
     none_risen : (k : ℕ) → tick + suc k < m.last → ((place t : ℕ) → due_at s.agenda place ≡ Some t → tick + suc k + 1 ≤ t) → s.rising ≡ false
     none_risen k before nothing =
         stands.rising
-        ∙ none_rises m tick (snapshot_of tick s) (line_at s.lines.items) (detector_at s.conditions.detectors.items) (due_at s.agenda) (tick + suc k) stands.stands_for (omega arith)
+        ∙ none_rises m tick (snapshot_of tick s) (line_at s.states.lines.items) (detector_at s.conditions.detectors.items) (due_at s.agenda) (tick + suc k) stands.stands_for (omega arith)
         (λ t e. omega (arith, nothing _ t e))
 
     risen : (k : ℕ) → tick + k < m.last → ((place t : ℕ) → due_at s.agenda place ≡ Some t → tick + k + 1 ≤ t) → at_arrival.items ≡ arrived_then k s.conditions.at_arrival.items s.conditions.after_handlers.items →
@@ -134,12 +134,12 @@ stands_then m tick ticks s at_arrival flipped stands before nothing is count ali
         none_risen k before nothing ∙ sym (ap (λ a. list_any (λ flag. flag) (firing_flags s.conditions.after_handlers.items a s.conditions.after_handlers.items)) is ∙ settled_twice s.conditions.after_handlers.items)
 
     still : (k : ℕ) → tick + k < m.last → ((place t : ℕ) → due_at s.agenda place ≡ Some t → tick + k + 1 ≤ t) →
-        IsScheduleOf m (tick + k) (snapshot_after m (snapshot_of tick s) k) (line_at s.lines.items) (detector_at s.conditions.detectors.items) (due_at s.agenda)
+        IsScheduleOf m (tick + k) (snapshot_after m (snapshot_of tick s) k) (line_at s.states.lines.items) (detector_at s.conditions.detectors.items) (due_at s.agenda)
     still zero before nothing =
         let e : tick ≡ tick + 0 = omega arith in
-        subst (λ t. IsScheduleOf m t (snapshot_of tick s) (line_at s.lines.items) (detector_at s.conditions.detectors.items) (due_at s.agenda)) e stands.stands_for
+        subst (λ t. IsScheduleOf m t (snapshot_of tick s) (line_at s.states.lines.items) (detector_at s.conditions.detectors.items) (due_at s.agenda)) e stands.stands_for
     still (suc k) before nothing =
-        stands_still m tick (snapshot_of tick s) (line_at s.lines.items) (detector_at s.conditions.detectors.items) (due_at s.agenda) (tick + suc k) (suc k) stands.stands_for (omega arith)
+        stands_still m tick (snapshot_of tick s) (line_at s.states.lines.items) (detector_at s.conditions.detectors.items) (due_at s.agenda) (tick + suc k) (suc k) stands.stands_for (omega arith)
         (omega (arith, before, m.has_units.last_tick)) (λ place t e. omega (arith, nothing place t e)) (omega arith)
 
 pub silent_then : (Rule : ℤ → ℤ → ℤ → ℤ → Type 0) (m : Machine) (tick ticks : ℕ) (s : Store) → IsStoreAt m tick s → tick + ticks < m.last →
@@ -147,6 +147,6 @@ pub silent_then : (Rule : ℤ → ℤ → ℤ → ℤ → Type 0) (m : Machine) 
     AreEventFree Rule m tick (snapshot_of tick s) (quiet_worlds m (snapshot_of tick s) ticks) (tick + ticks) (snapshot_after m (snapshot_of tick s) ticks)
 silent_then Rule m tick zero s stands before nothing = record { leads = tt; as_many = refl; reached = refl }
 silent_then Rule m tick (suc k) s stands before nothing =
-    let quiet = silence m tick (snapshot_of tick s) (line_at s.lines.items) (detector_at s.conditions.detectors.items) (due_at s.agenda) (tick + suc k) stands.stands_for (omega arith)
+    let quiet = silence m tick (snapshot_of tick s) (line_at s.states.lines.items) (detector_at s.conditions.detectors.items) (due_at s.agenda) (tick + suc k) stands.stands_for (omega arith)
     (omega (arith, before, m.has_units.last_tick)) (λ place t e. omega (arith, nothing place t e)) in
     quiet_leads Rule m tick (snapshot_of tick s) (suc k) stands.stands_for.left quiet.0 (λ t positive below. quiet.1 t positive (omega (arith, below)))

@@ -27,41 +27,41 @@ first_one P from (Some m) (Some n) s t =
     ap (λ k. Some k) same
 
 module _ (m : Machine) (tick : ℕ) (agenda : List (Option ℕ)) (s : Store) (taken : HasDueRemovedFrom m tick agenda s) (in_time : tick < m.last) (moved assigned : List ℕ) (new : Values) (h : HandlerState)
-    (is : IsHandlerEffect m (tick + 1) s.lines.items s.moved.items moved assigned s.work new h) (is_h : h ≡ handlers_at m (tick + 1) (snapshot_of tick s)) where
+    (is : IsHandlerEffect m (tick + 1) s.states.lines.items s.moved.items moved assigned s.work new h) (is_h : h ≡ handlers_at m (tick + 1) (snapshot_of tick s)) where
   -- a state that is not reinitialized is on its line
-  arrived_so : (j : ℕ) → j < state_count m → is_reinitialized h.rows j ≡ false → state_at (line_at s.lines.items j) (tick + 1) ≡ int_at h.states j
+  arrived_so : (j : ℕ) → j < state_count m → is_reinitialized h.rows j ≡ false → state_at (line_at s.states.lines.items j) (tick + 1) ≡ int_at h.states j
   arrived_so j inside none =
-      sym (int_at-states_at s.lines.items (tick + 1) j (omega (arith, inside, taken.stands.fits.lines)))
+      sym (int_at-states_at s.states.lines.items (tick + 1) j (omega (arith, inside, taken.stands.fits.lines)))
       ∙ ap (λ xs. int_at xs j) (at_arrival m tick agenda s taken in_time)
       ∙ sym (kept_state m (tick + 1) (snapshot_of tick s) j (sym (ap (λ (k : HandlerState). is_reinitialized k.rows j) is_h) ∙ none))
       ∙ ap (λ (k : HandlerState). int_at k.states j) (sym is_h)
 
   -- where the handlers do nothing each moved state has left its quantum
-  pub have_left : new.log ≡ [] → HaveLeft m moved new.x s.levels.items
+  pub have_left : new.log ≡ [] → HaveLeft m moved new.x s.states.levels.items
   have_left idle j among =
       let inside : j < state_count m = moved_inside (state_count m) moved is.numbers j among in
       let none : is_reinitialized h.rows j ≡ false = ap (λ (rows : List Row). is_reinitialized rows j) (sym (ap (λ (v : Values). v.log) is.values) ∙ idle) in
       let due : is_listed s.moved.items j ≡ true = elim (or_cases (is_listed s.moved.items j) (is_reinitialized h.rows j) (sym (is.moves j) ∙ among)) [ inl own ↦ own | inr other ↦ absurd (cc) ] in
-      subst (λ z. HasLeft m j z (int_at s.levels.items j)) (arrived_so j inside none ∙ (moved_to m tick agenda s taken in_time moved assigned new h is).own j among) (due_left m tick agenda s taken in_time j due)
+      subst (λ z. HasLeft m j z (int_at s.states.levels.items j)) (arrived_so j inside none ∙ (moved_to m tick agenda s taken in_time moved assigned new h is).own j among) (due_left m tick agenda s taken in_time j due)
 
-  module _ (name : Option Rule) (levels : List ℤ) (allowed : AreNextLevels (IsAllowedLevel name) m h.states s.levels.items levels) (next : Snapshot) (same_levels : next.levels ≡ levels)
+  module _ (name : Option Rule) (levels : List ℤ) (allowed : AreNextLevels (IsAllowedLevel name) m h.states s.states.levels.items levels) (next : Snapshot) (same_levels : next.levels ≡ levels)
       (j : ℕ) (inside : j < state_count m) (still : IsUntouched m (tick + 1) (snapshot_of tick s) next j) where
     not_reinitialized : is_reinitialized h.rows j ≡ false
     not_reinitialized = ap (λ (k : HandlerState). is_reinitialized k.rows j) is_h ∙ still.own
 
-    pub on_line : state_at (line_at s.lines.items j) (tick + 1) ≡ int_at (states_with s.lines.items (tick + 1) moved new.x) j
+    pub on_line : state_at (line_at s.states.lines.items j) (tick + 1) ≡ int_at (states_with s.states.lines.items (tick + 1) moved new.x) j
     on_line = arrived_so j inside not_reinitialized ∙ ap (λ xs. int_at xs j) is.own_states
 
-    own_level : int_at s.levels.items j ≡ int_at levels j
+    own_level : int_at s.states.levels.items j ≡ int_at levels j
     own_level = level_stays m (snapshot_of tick s) next j inside still.level ∙ ap (λ l. int_at l j) same_levels
 
     -- it was not due
     pub not_due : is_listed s.moved.items j ≡ false
     not_due = elim (cases_Bool (is_listed s.moved.items j)) [
       | inl among ↦
-          let left : HasLeft m j (state_at (line_at s.lines.items j) (tick + 1)) (int_at s.levels.items j) = due_left m tick agenda s taken in_time j among in
-          let near : IsLineWithinQuantum (level_unit m) (state_at (line_at s.lines.items j) (tick + 1)) (int_at s.levels.items j) (quantum_of m j (int_at s.levels.items j)) =
-          subst (λ l. IsLineWithinQuantum (level_unit m) (state_at (line_at s.lines.items j) (tick + 1)) l (quantum_of m j l)) (sym own_level)
+          let left : HasLeft m j (state_at (line_at s.states.lines.items j) (tick + 1)) (int_at s.states.levels.items j) = due_left m tick agenda s taken in_time j among in
+          let near : IsLineWithinQuantum (level_unit m) (state_at (line_at s.states.lines.items j) (tick + 1)) (int_at s.states.levels.items j) (quantum_of m j (int_at s.states.levels.items j)) =
+          subst (λ l. IsLineWithinQuantum (level_unit m) (state_at (line_at s.states.lines.items j) (tick + 1)) l (quantum_of m j l)) (sym own_level)
           (subst (λ x. IsLineWithinQuantum (level_unit m) x (int_at levels j) (quantum_of m j (int_at levels j))) (sym on_line) (near_after m tick agenda s taken in_time moved assigned new h is name levels allowed j inside)) in
           absurd (omega (arith, ints, left, near))
       | inr none ↦ none
@@ -71,9 +71,9 @@ module _ (m : Machine) (tick : ℕ) (agenda : List (Option ℕ)) (s : Store) (ta
     not_among = is.moves j ∙ or_from (is_listed s.moved.items j) (is_reinitialized h.rows j) not_due not_reinitialized
 
     -- its due tick is the only one of its line
-    pub same_due : (after last : List (Option ℕ)) → IsWithout moved s.agenda after → (line : Line) → line ≡ line_at s.lines.items j → IsDue m (tick + 1) j line (due_at last j) → due_at last j ≡ due_at s.agenda j
+    pub same_due : (after last : List (Option ℕ)) → IsWithout moved s.agenda after → (line : Line) → line ≡ line_at s.states.lines.items j → IsDue m (tick + 1) j line (due_at last j) → due_at last j ≡ due_at s.agenda j
     same_due after last without line same found =
-        first_one (LeavesAt m j (line_at s.lines.items j)) (tick + 1) (due_at last j) (due_at s.agenda j)
+        first_one (LeavesAt m j (line_at s.states.lines.items j)) (tick + 1) (due_at last j) (due_at s.agenda j)
         (subst (λ (l : Line). IsDue m (tick + 1) j l (due_at last j)) same found)
-        (subst (IsDue m (tick + 1) j (line_at s.lines.items j)) (without.others j not_among)
+        (subst (IsDue m (tick + 1) j (line_at s.states.lines.items j)) (without.others j not_among)
         (due_after m tick agenda s taken in_time moved assigned new h is name levels allowed after without j inside not_among ((taken.stands.stands_for.lines j inside).own_level ∙ own_level)))

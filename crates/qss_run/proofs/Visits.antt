@@ -1,7 +1,7 @@
 -- A store after one tick.
 use Rattle.qss_run.proofs.Common
 use Common.{[], ℕ, ℤ, ◌*ℤ◌, ◌+ℤ◌, ◌+◌, ◌<◌, ◌∙◌, ◌≡◌, ◌≢◌, All, ap, AreAlikeBut, AreNextLevels}
-use Common.{AreWeights, arith, Bool, Condition, condition_at, conditions, detector_at, due_at}
+use Common.{AreWeights, arith, Condition, condition_at, conditions, detector_at, due_at}
 use Common.{exceeds_row_limits, false, first_exceeding, FitsMachine, flag_at, from_later}
 use Common.{get_or-map, get_or_default, Global, handlers_at, HandlerState, handling_from}
 use Common.{if◌then◌else◌, int_at, int_at-tabulate, ints, is_some, IsChange, IsDetectorAt, IsDue}
@@ -20,35 +20,26 @@ use Rattle.mu_num.proofs.Tables.{tabulate-int_at}
 
 module _ (m : Machine) (tick : ℕ) (s : Store) (stands : IsStoreAt m tick s) where
   -- lines lead to the states of the next tick
-  pub arrives : states_at s.lines.items (tick + 1) ≡ moved_states m (snapshot_of tick s)
+  pub arrives : states_at s.states.lines.items (tick + 1) ≡ moved_states m (snapshot_of tick s)
   arrives =
-      ap (λ n. tabulate n (λ j. state_at (line_at s.lines.items j) (tick + 1))) stands.fits.lines
+      ap (λ n. tabulate n (λ j. state_at (line_at s.states.lines.items j) (tick + 1))) stands.fits.lines
       ∙ tabulate-same (pos 0) (state_count m) _ _
       (λ j h.
-      line_state_at m tick (snapshot_of tick s) (line_at s.lines.items) (detector_at s.conditions.detectors.items) (due_at s.agenda) stands.stands_for j 1 h
-      ∙ int_at-tabulate (state_count m) (λ i. int_at (snapshot_of tick s).states i +ℤ pos 1 *ℤ slope_at m i s.levels.items s.work.d) j h
-      ∙ sym (int_at-tabulate (state_count m) (λ i. int_at (snapshot_of tick s).states i +ℤ pos 1 *ℤ slope_at m i s.levels.items s.work.d) j h)
+      line_state_at m tick (snapshot_of tick s) (line_at s.states.lines.items) (detector_at s.conditions.detectors.items) (due_at s.agenda) stands.stands_for j 1 h
+      ∙ int_at-tabulate (state_count m) (λ i. int_at (snapshot_of tick s).states i +ℤ pos 1 *ℤ slope_at m i s.states.levels.items s.work.d) j h
+      ∙ sym (int_at-tabulate (state_count m) (λ i. int_at (snapshot_of tick s).states i +ℤ pos 1 *ℤ slope_at m i s.states.levels.items s.work.d) j h)
       ∙ ap (λ xs. int_at xs j) (sym (moved_is m (snapshot_of tick s)))
-      ∙ int_at-tabulate (state_count m) (λ i. int_at (snapshot_of tick s).states i +ℤ slope_at m i s.levels.items s.work.d) j h)
+      ∙ int_at-tabulate (state_count m) (λ i. int_at (snapshot_of tick s).states i +ℤ slope_at m i s.states.levels.items s.work.d) j h)
 
   -- and the handlers then do what they do at that tick
-  pub handles : handling_from m (tick + 1) (states_at s.lines.items (tick + 1)) s.work.d s.conditions.at_arrival.items s.conditions.after_handlers.items ≡ handlers_at m (tick + 1) (snapshot_of tick s)
+  pub handles : handling_from m (tick + 1) (states_at s.states.lines.items (tick + 1)) s.work.d s.conditions.at_arrival.items s.conditions.after_handlers.items ≡ handlers_at m (tick + 1) (snapshot_of tick s)
   handles = ap (λ x. handling_from m (tick + 1) x s.work.d s.conditions.at_arrival.items s.conditions.after_handlers.items) arrives
-
-  -- from slices of what the store keeps too
-  pub handles_from : (lines : List Line) (at_arrival after_handlers : List Bool) → lines ≡ s.lines.items → at_arrival ≡ s.conditions.at_arrival.items → after_handlers ≡ s.conditions.after_handlers.items →
-      handling_from m (tick + 1) (states_at lines (tick + 1)) s.work.d at_arrival after_handlers ≡ handlers_at m (tick + 1) (snapshot_of tick s)
-  handles_from lines at_arrival after_handlers of_lines of_arrived of_settled =
-      ap (λ l. handling_from m (tick + 1) (states_at l (tick + 1)) s.work.d at_arrival after_handlers) of_lines
-      ∙ ap (λ a. handling_from m (tick + 1) (states_at s.lines.items (tick + 1)) s.work.d a after_handlers) of_arrived
-      ∙ ap (λ b. handling_from m (tick + 1) (states_at s.lines.items (tick + 1)) s.work.d s.conditions.at_arrival.items b) of_settled
-      ∙ handles
 
   -- a line that goes on as before keeps its due tick, since its state is near its level
   pub due_stays : (j : ℕ) (state level : ℤ) → j < state_count m → IsLineWithinQuantum (level_unit m) state level (quantum_of m j level) →
-      state_at (line_at s.lines.items j) (tick + 1) ≡ state → (line_at s.lines.items j).level ≡ level → IsDue m (tick + 1) j (line_at s.lines.items j) (due_at s.agenda j)
+      state_at (line_at s.states.lines.items j) (tick + 1) ≡ state → (line_at s.states.lines.items j).level ≡ level → IsDue m (tick + 1) j (line_at s.states.lines.items j) (due_at s.agenda j)
   due_stays j state level h near here own =
-      let line : Line = line_at s.lines.items j in
+      let line : Line = line_at s.states.lines.items j in
       let first : IsDue m tick j line (due_at s.agenda j) = stands.stands_for.dues j h in
       let still : IsLineWithinQuantum (level_unit m) (state_at line (tick + 1)) line.level (quantum_of m j line.level) =
       subst (λ x. IsLineWithinQuantum (level_unit m) x line.level (quantum_of m j line.level)) (sym here)
@@ -56,28 +47,28 @@ module _ (m : Machine) (tick : ℕ) (s : Store) (stands : IsStoreAt m tick s) wh
       from_later (λ t. IsAway (level_unit m) (state_at line t) line.level (quantum_of m j line.level)) tick (tick + 1) (due_at s.agenda j) (omega arith)
       (λ u e. later u (due_at s.agenda j) e first still) first
     where
-      later : (u : ℕ) (found : Option ℕ) → found ≡ Some u → IsDue m tick j (line_at s.lines.items j) found →
-          IsLineWithinQuantum (level_unit m) (state_at (line_at s.lines.items j) (tick + 1)) (line_at s.lines.items j).level (quantum_of m j (line_at s.lines.items j).level) → tick + 1 < u
+      later : (u : ℕ) (found : Option ℕ) → found ≡ Some u → IsDue m tick j (line_at s.states.lines.items j) found →
+          IsLineWithinQuantum (level_unit m) (state_at (line_at s.states.lines.items j) (tick + 1)) (line_at s.states.lines.items j).level (quantum_of m j (line_at s.states.lines.items j).level) → tick + 1 < u
       later u None e first still = absurd (cc)
       later u (Some v) e first still =
           let same : v ≡ u = cc in
           let ne : v ≢ tick + 1 = λ q.
-          let away = subst (λ t. IsAway (level_unit m) (state_at (line_at s.lines.items j) t) (line_at s.lines.items j).level (quantum_of m j (line_at s.lines.items j).level)) q first.holds in
+          let away = subst (λ t. IsAway (level_unit m) (state_at (line_at s.states.lines.items j) t) (line_at s.states.lines.items j).level (quantum_of m j (line_at s.states.lines.items j).level)) q first.holds in
           omega (arith, ints, away, still) in
           omega (arith, first.later, same, ne)
 
 -- ---- the store is valid again
 
-pub stands_again : (m : Machine) (t : ℕ) (s : Store) (x : List ℤ) → length x ≡ state_count m → FitsMachine m s → ((j : ℕ) → j < state_count m → IsWithin 43 (int_at s.levels.items j)) →
-    position (exceeds_row_limits m s.levels.items s.work.d) m.rows ≡ None →
-    s.slopes.items ≡ slopes_of m (snapshot_of t s) →
-    AreWeights m s.levels.items s.work.d s.weights →
-    ((j : ℕ) → j < state_count m → IsRestartedFrom m t (int_at x j) (int_at s.levels.items j) (slope_at m j s.levels.items s.work.d) j (line_at s.lines.items j) (due_at s.agenda j)) →
+pub stands_again : (m : Machine) (t : ℕ) (s : Store) (x : List ℤ) → length x ≡ state_count m → FitsMachine m s → ((j : ℕ) → j < state_count m → IsWithin 43 (int_at s.states.levels.items j)) →
+    position (exceeds_row_limits m s.states.levels.items s.work.d) m.rows ≡ None →
+    s.states.slopes.items ≡ slopes_of m (snapshot_of t s) →
+    AreWeights m s.states.levels.items s.work.d s.states.weights →
+    ((j : ℕ) → j < state_count m → IsRestartedFrom m t (int_at x j) (int_at s.states.levels.items j) (slope_at m j s.states.levels.items s.work.d) j (line_at s.states.lines.items j) (due_at s.agenda j)) →
     s.conditions.after_handlers.items ≡ truths m x s.work.d t →
-    ((place : ℕ) → place < length (conditions m) → IsDetectorAt m t x s.work.d s.slopes.items place (detector_at s.conditions.detectors.items place) (due_at s.agenda (state_count m + place))) →
+    ((place : ℕ) → place < length (conditions m) → IsDetectorAt m t x s.work.d s.states.slopes.items place (detector_at s.conditions.detectors.items place) (due_at s.agenda (state_count m + place))) →
     s.rising ≡ rises (snapshot_of t s) →
     due_at s.agenda (state_count m + length (conditions m)) ≡ (if s.rising then Some (t + 1) else None) →
-    AreAlikeBut s.conditions.flipped.places s.conditions.at_arrival.items s.conditions.after_handlers.items → (states_at s.lines.items t ≡ x) × IsStoreAt m t s
+    AreAlikeBut s.conditions.flipped.places s.conditions.at_arrival.items s.conditions.after_handlers.items → (states_at s.states.lines.items t ≡ x) × IsStoreAt m t s
 stands_again m t s x many fits small light slopes weights goes_on after_handlers watched risen rising alike = (
   states,
   record {
@@ -90,9 +81,9 @@ stands_again m t s x many fits small light slopes weights goes_on after_handlers
   },
 )
   where
-    states : states_at s.lines.items t ≡ x
+    states : states_at s.states.lines.items t ≡ x
     states =
-        ap (λ n. tabulate n (λ j. state_at (line_at s.lines.items j) t)) fits.lines
+        ap (λ n. tabulate n (λ j. state_at (line_at s.states.lines.items j) t)) fits.lines
         ∙ tabulate-same (pos 0) (state_count m) _ (int_at x) (λ j h. (goes_on j h).here)
         ∙ sym (tabulate-int_at x (state_count m) many)
 
@@ -105,10 +96,10 @@ stands_again m t s x many fits small light slopes weights goes_on after_handlers
         let test = λ (c : Condition). truth m c x s.work.d t in
         sym (ap (λ flags. flag_at flags place) after_handlers ∙ get_or-map test (conditions m) place none false h)
 
-    for : IsScheduleOf m t (snapshot_of t s) (line_at s.lines.items) (detector_at s.conditions.detectors.items) (due_at s.agenda)
+    for : IsScheduleOf m t (snapshot_of t s) (line_at s.states.lines.items) (detector_at s.conditions.detectors.items) (due_at s.agenda)
     for = record {
       left = record { one_each = fits.levels; small_levels = small; light = light };
-      states = length-map-range_with_len (λ j. state_at (line_at s.lines.items j) t) 0 (length s.lines.items) ∙ fits.lines;
+      states = length-map-range_with_len (λ j. state_at (line_at s.states.lines.items j) t) 0 (length s.states.lines.items) ∙ fits.lines;
       after_handlers = after_handlers ∙ ap (λ y. truths m y s.work.d t) (sym states);
       lines = λ j h. record {
         not_later = (goes_on j h).not_later;
@@ -225,6 +216,6 @@ late Rule m tick w next h levels None some is calm allowed e = absurd (cc)
 late Rule m tick w next h levels (Some var) some is calm allowed e = overflows_late Rule m tick w next h levels var is calm allowed e
 
 -- the levels are small
-pub levels_small : (m : Machine) (tick : ℕ) (s : Store) → IsStoreAt m tick s → All (IsWithin 43) s.levels.items
+pub levels_small : (m : Machine) (tick : ℕ) (s : Store) → IsStoreAt m tick s → All (IsWithin 43) s.states.levels.items
 levels_small m tick s stands k z h =
-    subst (IsWithin 43) (get_or_default s.levels.items k (pos 0) z h) (stands.stands_for.left.small_levels k (omega (arith, h, stands.fits.levels)))
+    subst (IsWithin 43) (get_or_default s.states.levels.items k (pos 0) z h) (stands.stands_for.left.small_levels k (omega (arith, h, stands.fits.levels)))

@@ -80,11 +80,11 @@ pub record KnowsArrival (at : ChangedConditions) (all : Conditions) (d : List �
   pub changed : AreRisingBelow (length (conditions at.machine.now)) at.changed.now
   pub watched : (place : ℕ) → place < length (conditions at.machine.now) →
       ((detector_at all.detectors.items place).tick ≤ at.tick)
-      × (AreStates (states_at at.lines.now at.tick) → IsSmall (value_at (detector_at all.detectors.items place) at.tick))
-      × (holds_at (detector_at all.detectors.items place) at.tick ≡ truth at.machine.now (condition_at at.machine.now place) (states_at at.lines.now at.tick) d at.tick)
+      × (AreStates (states_at at.states.now.lines.items at.tick) → IsSmall (value_at (detector_at all.detectors.items place) at.tick))
+      × (holds_at (detector_at all.detectors.items place) at.tick ≡ truth at.machine.now (condition_at at.machine.now place) (states_at at.states.now.lines.items at.tick) d at.tick)
   pub alike : KnowsApart all
   pub others : (place : ℕ) → place < length (conditions at.machine.now) → is_listed at.changed.now place ≡ false →
-      (truth at.machine.now (condition_at at.machine.now place) (states_at at.lines.now at.tick) d at.tick ≡ flag_at all.after_handlers.items place)
+      (truth at.machine.now (condition_at at.machine.now place) (states_at at.states.now.lines.items at.tick) d at.tick ≡ flag_at all.after_handlers.items place)
       × (became_true all.at_arrival.items all.after_handlers.items place ≡ false)
 
 -- conditions that became true may be scheduled: the event queue has indices for n states, all
@@ -98,7 +98,7 @@ pub record CanMakeDue (n : ℕ) (all : Conditions) (due : List (Option ℕ)) : T
 -- are within the limit on their lines
 pub record CanHandle (at : ChangedConditions) (all : Conditions) (due : List ℕ) (work : Values) (dues : List (Option ℕ)) : Type 0 where
   pub known : KnowsArrival at all work.d
-  pub lines : AreLinesWithDue at.machine.now at.tick at.lines.now due
+  pub lines : AreLinesWithDue at.machine.now at.tick at.states.now.lines.items due
   pub values : AreWithin at.machine.now work.x work.d
   pub places : state_count at.machine.now ≤ length dues
   pub taken : IsTakenFrom at.tick due dues

@@ -30,21 +30,21 @@ pub record CanContinueAfterHandlers (m : Machine) (tick : ℕ) (s : Store) : Typ
   pub fits : FitsMachine m s
   pub in_time : tick < tick_limit
   pub assigned : AreAssignedFrom m s.assigned.items s.work.pre s.work.d
-  pub states : AreStatesLeft m tick s.lines.items s.moved.items s.work
-  pub after_handlers : AreSettledBut m tick (states_at s.lines.items tick) s.work.pre s.slopes.items s.changed.items s.conditions s.agenda
-  pub small_levels : AreLevels s.levels.items
-  pub levels : AreLevelsFor m (states_with s.lines.items tick s.moved.items s.work.x) s.levels.items s.work.d
-  pub weights : AreWeights m s.levels.items s.work.d s.weights
-  pub held : HeldBefore m tick s.moved.items s.levels.items s.work.pre s.slopes.items s.lines.items s.agenda
+  pub states : AreStatesLeft m tick s.states.lines.items s.moved.items s.work
+  pub after_handlers : AreSettledBut m tick (states_at s.states.lines.items tick) s.work.pre s.states.slopes.items s.changed.items s.conditions s.agenda
+  pub small_levels : AreLevels s.states.levels.items
+  pub levels : AreLevelsFor m (states_with s.states.lines.items tick s.moved.items s.work.x) s.states.levels.items s.work.d
+  pub weights : AreWeights m s.states.levels.items s.work.d s.states.weights
+  pub held : HeldBefore m tick s.moved.items s.states.levels.items s.work.pre s.states.slopes.items s.states.lines.items s.agenda
   pub behind : due_at s.agenda (state_count m + length (conditions m)) ≡ None
 
 -- the snapshot of a store after it continued from a tick after its handlers
 abbrev pub snapshot_left : Machine → ℕ → Store → Snapshot
 snapshot_left m tick s =
-    let states : List ℤ = states_with s.lines.items tick s.moved.items s.work.x in
+    let states : List ℤ = states_with s.states.lines.items tick s.moved.items s.work.x in
     record {
       states = states;
-      levels = s.levels.items;
+      levels = s.states.levels.items;
       discretes = s.work.d;
       at_arrival = s.conditions.at_arrival.items;
       after_handlers = truths m states s.work.d tick;
@@ -57,7 +57,7 @@ snapshot_after step s = snapshot_unless (overflow_of step.ran) (snapshot_of step
 -- the conditions of a store were settled up to a tick, at other values and slopes before
 abbrev pub HadDetectors : Machine → ℕ → Store → Type 0
 HadDetectors m tick s =
-    (x pre before : List ℤ) × AreDetectorsUpTo m tick s.moved.items (reinitialized_of s.work.log) s.assigned.items s.changed.items x (states_at s.lines.items tick) pre s.work.d before s.slopes.items
+    (x pre before : List ℤ) × AreDetectorsUpTo m tick s.moved.items (reinitialized_of s.work.log) s.assigned.items s.changed.items x (states_at s.states.lines.items tick) pre s.work.d before s.states.slopes.items
     (detector_states_of s.conditions s.agenda)
 
 -- only detectors, settled truths, the event queue, and states in the values of handlers change

@@ -36,7 +36,7 @@ handling_of_fired m tick states discretes fired =
 -- the handlers of a tick at which these branches are due, from these discrete values and the states
 -- on the lines
 abbrev pub handling_at : ChangedConditions → List ℤ → List ℕ → HandlerState
-handling_at at discretes fired = handling_of_fired at.machine.now at.tick (states_at at.lines.now at.tick) discretes fired
+handling_at at discretes fired = handling_of_fired at.machine.now at.tick (states_at at.states.now.lines.items at.tick) discretes fired
 
 -- whether rows reinitialize a state
 abbrev pub is_reinitialized : List Row → ℕ → Bool

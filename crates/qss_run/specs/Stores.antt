@@ -25,8 +25,8 @@ use Rattle.qss_events.specs.Schedules.{slopes_of, rises, IsScheduleOf}
 -- the snapshot at a tick
 abbrev pub snapshot_of : ℕ → Store → Snapshot
 snapshot_of tick s = record {
-  states = states_at s.lines.items tick;
-  levels = s.levels.items;
+  states = states_at s.states.lines.items tick;
+  levels = s.states.levels.items;
   discretes = s.work.d;
   at_arrival = s.conditions.at_arrival.items;
   after_handlers = s.conditions.after_handlers.items;
@@ -45,10 +45,10 @@ pub record HasRoom (m : Machine) (s : Store) : Type 0 where
 pub record FitsMachine (m : Machine) (s : Store) : Type 0 where
   pub own_conditions : AreConditionsOf m s.conditions
   pub uses : s.uses ≡ uses_of m
-  pub lines : length s.lines.items ≡ state_count m
-  pub levels : length s.levels.items ≡ state_count m
-  pub slopes : length s.slopes.items ≡ state_count m
-  pub weights : length s.weights.of_rows.items ≡ state_count m
+  pub lines : length s.states.lines.items ≡ state_count m
+  pub levels : length s.states.levels.items ≡ state_count m
+  pub slopes : length s.states.slopes.items ≡ state_count m
+  pub weights : length s.states.weights.of_rows.items ≡ state_count m
   pub places : length s.agenda ≡ state_count m + length (conditions m) + 1
   pub values : AreWithin m s.work.x s.work.d
   pub before : length s.work.pre ≡ discrete_count m
@@ -58,9 +58,9 @@ pub record FitsMachine (m : Machine) (s : Store) : Type 0 where
 -- absolute row sums if needed, and the conditions that the handlers changed
 pub record IsStoreAt (m : Machine) (tick : ℕ) (s : Store) : Type 0 where
   pub fits : FitsMachine m s
-  pub stands_for : IsScheduleOf m tick (snapshot_of tick s) (line_at s.lines.items) (detector_at s.conditions.detectors.items) (due_at s.agenda)
-  pub own_slopes : s.slopes.items ≡ slopes_of m (snapshot_of tick s)
-  pub own_weights : AreWeights m s.levels.items s.work.d s.weights
+  pub stands_for : IsScheduleOf m tick (snapshot_of tick s) (line_at s.states.lines.items) (detector_at s.conditions.detectors.items) (due_at s.agenda)
+  pub own_slopes : s.states.slopes.items ≡ slopes_of m (snapshot_of tick s)
+  pub own_weights : AreWeights m s.states.levels.items s.work.d s.states.weights
   pub rising : s.rising ≡ rises (snapshot_of tick s)
   pub alike : KnowsApart s.conditions
 
@@ -87,7 +87,7 @@ pub record IsBlank (m : Machine) (s : Store) : Type 0 where
   pub fits : FitsMachine m s
   pub states : s.work.x ≡ start_states m
   pub discretes : s.work.d ≡ start_discretes m
-  pub levels : s.levels.items ≡ map (level_below (level_unit m)) (start_states m)
+  pub levels : s.states.levels.items ≡ map (level_below (level_unit m)) (start_states m)
   pub no_dues : HasNone s.agenda
   pub not_rising : s.rising ≡ false
 
@@ -111,8 +111,8 @@ pub record AreAllScheduled (m : Machine) (x levels d slopes_new : List ℤ) (lin
 -- the lines of all states of a store start at the values and levels of another one
 abbrev pub AreLinesStarted : Machine → Store → Store → Type 0
 AreLinesStarted m old new =
-    AreAllScheduled m old.work.x old.levels.items old.work.d new.slopes.items new.lines.items
-    new.agenda
+    AreAllScheduled m old.work.x old.states.levels.items old.work.d new.states.slopes.items
+    new.states.lines.items new.agenda
 
 -- a tick of the run, and a store that represents it until the run has ended
 pub record IsSim (m : Machine) (tick : ℕ) (end : Option Outcome) (s : Store) : Type 0 where

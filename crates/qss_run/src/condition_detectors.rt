@@ -325,15 +325,16 @@ pub(crate) fn update_detectors_after_handlers(m: &Machine, tick: u64, s: &mut St
         → j < state_count m.now }
     requires assigned { AreDiscretes m.now s.old.assigned.items }
     requires changed { AreRisingBelow (length (conditions m.now)) s.old.changed.items }
-    requires lines { AreLinesAt m.now tick s.old.lines.items }
-    requires slopes { AreSlopesOf m.now s.old.slopes.items }
+    requires lines { AreLinesAt m.now tick s.old.states.lines.items }
+    requires slopes { AreSlopesOf m.now s.old.states.slopes.items }
     requires before { HadDetectors m.now tick s.old }
     ensures after_handlers { s.new.conditions.after_handlers.items
-        ≡ truths m.now (states_at s.old.lines.items tick) s.old.work.d tick }
-    ensures detectors { AreDetectorsAt m.now tick (states_at s.old.lines.items tick) s.old.work.d
-        s.old.slopes.items s.new.conditions.detectors.items s.new.agenda }
+        ≡ truths m.now (states_at s.old.states.lines.items tick) s.old.work.d tick }
+    ensures detectors { AreDetectorsAt m.now tick (states_at s.old.states.lines.items tick)
+        s.old.work.d s.old.states.slopes.items s.new.conditions.detectors.items s.new.agenda }
     ensures kept { OthersAreKept m.now (reinitialized_of s.old.work.log) s.old.assigned.items
-        s.old.changed.items s.old.slopes.items (detector_states_of s.old.conditions s.old.agenda)
+        s.old.changed.items s.old.states.slopes.items
+        (detector_states_of s.old.conditions s.old.agenda)
         (detector_states_of s.new.conditions s.new.agenda) }
     ensures unread { OthersAreUnread m.now (reinitialized_of s.old.work.log) s.old.assigned.items
         s.old.changed.items s.old.work.x s.new.work.x }
@@ -354,8 +355,8 @@ pub(crate) fn update_detectors_after_handlers(m: &Machine, tick: u64, s: &mut St
         machine: m,
         uses: &s.uses,
         tick,
-        lines: s.lines.as_slice(),
-        slopes: s.slopes.as_slice(),
+        lines: s.states.lines.as_slice(),
+        slopes: s.states.slopes.as_slice(),
     };
     s.conditions.settle_detectors_after_handlers(
         &at,

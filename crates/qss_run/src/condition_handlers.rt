@@ -15,7 +15,7 @@ use qss_hand::{Over, Work, fire};
 use qss_machine::{Action, Form, Machine, Row, RowKind};
 use qss_quant::Integrator;
 use qss_sched::Agenda;
-use qss_states::move_requantized_within_limit;
+use qss_states::States;
 
 impl Conditions {
     /// Runs the handlers of a tick. These states are due, and these conditions change or became
@@ -38,19 +38,20 @@ impl Conditions {
         requires moved_room { state_count at.now.machine.now ≤ vec_capacity moved.old }
         requires assigned_room { row_room at.now.machine.now.clauses ≤ vec_capacity assigned.old }
         ensures overflow { overflow_of result
-            ≡ (handling_from at.now.machine.now at.now.tick (states_at at.now.lines.now at.now.tick)
+            ≡ (handling_from at.now.machine.now at.now.tick
+            (states_at at.now.states.now.lines.items at.now.tick)
             work.old.d self.old.at_arrival.items self.old.after_handlers.items).overflow }
         ensures handled { overflow_of result ≡ None
-            → IsHandlerEffect at.now.machine.now at.now.tick at.now.lines.now moved.old.items
-            moved.new.items assigned.new.items
+            → IsHandlerEffect at.now.machine.now at.now.tick at.now.states.now.lines.items
+            moved.old.items moved.new.items assigned.new.items
             work.old work.new
             (handling_from at.now.machine.now at.now.tick
-            (states_at at.now.lines.now at.now.tick)
+            (states_at at.now.states.now.lines.items at.now.tick)
             work.old.d self.old.at_arrival.items self.old.after_handlers.items) }
         ensures at_arrival { overflow_of result ≡ None
             → self.new.at_arrival.items
             ≡ truths at.now.machine.now
-            (states_at at.now.lines.now at.now.tick) work.old.d at.now.tick }
+            (states_at at.now.states.now.lines.items at.now.tick) work.old.d at.now.tick }
         ensures alike { overflow_of result ≡ None
             → AreAlikeBut at.now.changed.now self.new.at_arrival.items self.new.after_handlers.items }
         ensures none_apart { overflow_of result ≡ None → self.new.flipped.places ≡ [] }
@@ -62,7 +63,7 @@ impl Conditions {
         ensures moved_room { vec_capacity moved.new ≡ vec_capacity moved.old }
         ensures assigned_room { vec_capacity assigned.new ≡ vec_capacity assigned.old }
     {
-        move_due_handler_states(at.lines, at.tick, moved.as_slice(), work)?;
+        move_due_handler_states(at.states, at.tick, moved.as_slice(), work)?;
         self.list_fired(at.tick, at.changed, fired);
         self.read_changed(at.tick, at.changed);
         let branches = self.branches.as_slice();
@@ -78,17 +79,17 @@ impl Conditions {
 // Moves the due states, in the values of handlers, to a tick along their lines. The error is
 // the least state that exceeds its limit there.
 fn move_due_handler_states(
-    lines: &[Integrator],
+    states: &States,
     tick: u64,
     moved: &[u32],
     work: &mut Work,
 ) -> Result<(), Over>
-    requires { CanArriveWithin tick lines.now moved.now work.old.x }
-    ensures at_arrival { HaveArrivedWithin tick lines.now moved.now work.old.x work.new.x
-        (overflow_of result) }
+    requires { CanArriveWithin tick states.now.lines.items moved.now work.old.x }
+    ensures at_arrival { HaveArrivedWithin tick states.now.lines.items moved.now work.old.x
+        work.new.x (overflow_of result) }
     ensures work { work.new ≡ record work.old { x = work.new.x } }
 {
-    move_requantized_within_limit(lines, tick, moved, work.x.as_mut_slice())
+    states.arrive(tick, moved, work.x.as_mut_slice())
 }
 
 /// Runs the handlers of a tick at which these branches are due. It moves the states that the
@@ -102,7 +103,7 @@ pub(crate) fn handle_fired_conditions(
     work: &mut Work,
 ) -> Result<(), Over>
     requires due { AreBranchesAt at.now.machine.now branches.now fired.now }
-    requires lines { AreLinesAt at.now.machine.now at.now.tick at.now.lines.now }
+    requires lines { AreLinesAt at.now.machine.now at.now.tick at.now.states.now.lines.items }
     requires values { AreWithin at.now.machine.now work.old.x work.old.d }
     requires room { row_room at.now.machine.now.clauses ≤ work.old.room }
     ensures overflow { overflow_of result ≡ (handling_at at.now work.old.d fired.now).overflow }
@@ -122,7 +123,8 @@ pub(crate) fn handle_fired_conditions(
         → length (handling_at at.now work.old.d fired.now).states
         ≡ state_count at.now.machine.now }
     ensures at_arrival { overflow_of result ≡ None
-        → (j : ℕ) → int_at work.old.x j ≡ int_at (states_at at.now.lines.now at.now.tick) j
+        → (j : ℕ) → int_at work.old.x j
+        ≡ int_at (states_at at.now.states.now.lines.items at.now.tick) j
         → int_at work.new.x j ≡ int_at (handling_at at.now work.old.d fired.now).states j }
     ensures reinitialized { overflow_of result ≡ None
         → let h = handling_at at.now work.old.d fired.now in
@@ -150,10 +152,10 @@ fn move_handler_work_states(
     work: &mut Work,
 )
     requires due { AreBranchesAt at.now.machine.now branches.now fired.now }
-    requires may_arrive { MayArrive at.now.tick at.now.lines.now work.old.x }
+    requires may_arrive { MayArrive at.now.tick at.now.states.now.lines.items work.old.x }
     ensures work { work.new ≡ record work.old { x = work.new.x } }
     ensures states { AreArrived (λ j. fired_reads j at.now.machine.now branches.now fired.now)
-        (states_at at.now.lines.now at.now.tick) work.old.x work.new.x }
+        (states_at at.now.states.now.lines.items at.now.tick) work.old.x work.new.x }
 {
     move_fired_handler_states(at, branches, fired, work.x.as_mut_slice());
 }
@@ -166,16 +168,17 @@ fn move_fired_handler_states(
     x: &mut [i128],
 )
     requires due { AreBranchesAt at.now.machine.now branches.now fired.now }
-    requires may_arrive { MayArrive at.now.tick at.now.lines.now x.old }
+    requires may_arrive { MayArrive at.now.tick at.now.states.now.lines.items x.old }
     ensures { AreArrived (λ j. fired_reads j at.now.machine.now branches.now fired.now)
-        (states_at at.now.lines.now at.now.tick) x.old x.new }
+        (states_at at.now.states.now.lines.items at.now.tick) x.old x.new }
 {
+    let lines = at.states.lines.as_slice();
     for place in fired {
         let own = branches[*place as usize];
         let clauses = at.machine.clauses.as_slice();
         let choices = clauses[own.clause as usize].branches.as_slice();
         let actions = choices[own.branch as usize].actions.as_slice();
-        move_states_handlers_read(actions, at.tick, at.lines, x);
+        move_states_handlers_read(actions, at.tick, lines, x);
     }
 }
 

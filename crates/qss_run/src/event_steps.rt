@@ -14,10 +14,7 @@ use qss_hand::{Over, Work};
 use qss_machine::{Machine, Row, RowKind};
 use qss_quant::{Integrator, Quantizer, Steps};
 use qss_sched::Agenda;
-use qss_states::{
-    HandlerArrival, HandlerResult, NewLevels, requantize_after_handlers,
-    update_slopes_after_handlers,
-};
+use qss_states::HandlerArrival;
 use std::sync::ledger::Ledger;
 
 /// An event step: its tick and its result. The error is the variable that overflows.
@@ -155,10 +152,10 @@ pub(crate) fn run_event<L: Ledger>(
     ensures kept { overflow_of result ≡ None → (j : ℕ) → j < state_count m.now
         → is_touched m.now (tick + 1) (snapshot_of tick s.old) (snapshot_of (tick + 1) s.new) j
         ≡ false
-        → (line_at s.new.lines.items j ≡ line_at s.old.lines.items j)
+        → (line_at s.new.states.lines.items j ≡ line_at s.old.states.lines.items j)
         × (due_at s.new.agenda j ≡ due_at s.old.agenda j) }
 {
-    let states = s.lines.len() as u32;
+    let states = s.states.lines.len() as u32;
     let conditions = s.conditions.branches.len() as u32;
     s.conditions
         .make_risen_due(s.rising, tick + 1, states, &mut s.agenda);
@@ -216,14 +213,14 @@ pub(crate) fn run_due_event<L: Ledger>(
     ensures kept { overflow_of result ≡ None → (j : ℕ) → j < state_count m.now
         → is_touched m.now (tick + 1) (snapshot_of tick s.old) (snapshot_of (tick + 1) s.new) j
         ≡ false
-        → (line_at s.new.lines.items j ≡ line_at s.old.lines.items j)
+        → (line_at s.new.states.lines.items j ≡ line_at s.old.states.lines.items j)
         × (due_at s.new.agenda j ≡ due_at s.old.agenda j)
         × (is_listed s.old.moved.items j ≡ false) }
 {
     let at = ChangedConditions {
         machine: m,
         tick: tick + 1,
-        lines: s.lines.as_slice(),
+        states: &s.states,
         changed: s.changed.as_slice(),
     };
     s.conditions.handle_changed_conditions(
@@ -238,18 +235,11 @@ pub(crate) fn run_due_event<L: Ledger>(
         machine: m,
         uses: &s.uses,
         tick: tick + 1,
-        lines: s.lines.as_slice(),
         moved: s.moved.as_slice(),
         assigned: s.assigned.as_slice(),
         work: &s.work,
     };
-    requantize_after_handlers(
-        &handled,
-        q,
-        s.levels.as_mut_slice(),
-        &mut s.weights,
-        &mut s.rows,
-    )?;
+    s.states.requantize(&handled, q, &mut s.rows)?;
     continue_after_handlers(m, tick + 1, s, steps);
     Ok(())
 }
@@ -263,41 +253,29 @@ fn continue_after_handlers<L: Ledger>(m: &Machine, tick: u64, s: &mut Store, ste
     ensures rows { s.new.rows ≡ s.old.rows }
     ensures kept { (j : ℕ) → j < state_count m.now
         → goes_from tick
-        (int_at (states_with s.old.lines.items tick s.old.moved.items s.old.work.x) j)
-        (int_at s.old.levels.items j) (slope_at m.now j s.old.levels.items s.old.work.d)
-        (line_at s.old.lines.items j) ≡ true
-        → line_at s.new.lines.items j ≡ line_at s.old.lines.items j }
+        (int_at (states_with s.old.states.lines.items tick s.old.moved.items s.old.work.x) j)
+        (int_at s.old.states.levels.items j)
+        (slope_at m.now j s.old.states.levels.items s.old.work.d)
+        (line_at s.old.states.lines.items j) ≡ true
+        → line_at s.new.states.lines.items j ≡ line_at s.old.states.lines.items j }
     ensures counted { steps.new
         ≡ steps.old
         + replaced_lines_from (state_count m.now) tick
-        (states_with s.old.lines.items tick s.old.moved.items s.old.work.x)
-        s.old.levels.items
+        (states_with s.old.states.lines.items tick s.old.moved.items s.old.work.x)
+        s.old.states.levels.items
         (tabulate (state_count m.now)
-        (λ j. slope_at m.now j s.old.levels.items s.old.work.d))
-        s.old.lines.items }
+        (λ j. slope_at m.now j s.old.states.levels.items s.old.work.d))
+        s.old.states.lines.items }
 {
-    let work = &s.work;
-    let at = NewLevels {
+    let handled = HandlerArrival {
         machine: m,
         uses: &s.uses,
         tick,
         moved: s.moved.as_slice(),
-        levels: s.levels.as_slice(),
-    };
-    let handled = HandlerResult {
         assigned: s.assigned.as_slice(),
-        states: work.x.as_slice(),
-        before: work.pre.as_slice(),
-        discretes: work.d.as_slice(),
+        work: &s.work,
     };
-    update_slopes_after_handlers(
-        &at,
-        &handled,
-        s.slopes.as_mut_slice(),
-        s.lines.as_mut_slice(),
-        &mut s.agenda,
-        steps,
-    );
+    s.states.continue_lines(&handled, &mut s.agenda, steps);
     update_detectors_after_handlers(m, tick, s);
     schedule_next_if_risen(tick, s);
 }
@@ -307,22 +285,23 @@ fn continue_after_handlers<L: Ledger>(m: &Machine, tick: u64, s: &mut Store, ste
 fn schedule_next_if_risen(tick: u64, s: &mut Store)
     requires flipped { ListsFlipped s.old.conditions }
     requires places { length s.old.agenda
-        ≡ length s.old.lines.items + length s.old.conditions.branches.items + 1 }
-    requires count_limit { length s.old.lines.items + length s.old.conditions.branches.items < 2 ^ 32 }
+        ≡ length s.old.states.lines.items + length s.old.conditions.branches.items + 1 }
+    requires count_limit { length s.old.states.lines.items
+        + length s.old.conditions.branches.items < 2 ^ 32 }
     requires none_due { due_at s.old.agenda
-        (length s.old.lines.items + length s.old.conditions.branches.items) ≡ None }
+        (length s.old.states.lines.items + length s.old.conditions.branches.items) ≡ None }
     requires tick_limit { tick < tick_limit }
     ensures rising { s.new.rising ≡ has_risen s.old.conditions }
     ensures own { due_at s.new.agenda
-        (length s.old.lines.items + length s.old.conditions.branches.items)
+        (length s.old.states.lines.items + length s.old.conditions.branches.items)
         ≡ (if s.new.rising then Some (tick + 1) else None) }
     ensures others { (place : ℕ)
-        → place < length s.old.lines.items + length s.old.conditions.branches.items
+        → place < length s.old.states.lines.items + length s.old.conditions.branches.items
         → due_at s.new.agenda place ≡ due_at s.old.agenda place }
     ensures same_length { length s.new.agenda ≡ length s.old.agenda }
     ensures same { s.new ≡ record s.old { rising = s.new.rising; agenda = s.new.agenda } }
 {
-    let place = (s.lines.len() + s.conditions.branches.len()) as u32;
+    let place = (s.states.lines.len() + s.conditions.branches.len()) as u32;
     s.rising = s.conditions.schedule_risen(tick, place, &mut s.agenda);
 }
 
@@ -332,12 +311,12 @@ fn set_last_rows(m: &Machine, s: &mut Store)
     ensures rows { s.new.rows.items ≡ snapshot_rows kind.End m.now.last (snapshot_of m.now.last s.old) }
     ensures snapshot { snapshot_of m.now.last s.new ≡ snapshot_of m.now.last s.old }
 {
-    move_work_states(s.lines.as_slice(), m.last, &mut s.work);
+    move_work_states(s.states.lines.as_slice(), m.last, &mut s.work);
     set_all_rows(
         RowKind::End,
         m.last,
         &s.work,
-        s.levels.as_slice(),
+        s.states.levels.as_slice(),
         &mut s.rows,
     );
 }

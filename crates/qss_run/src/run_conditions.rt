@@ -9,6 +9,7 @@ use qss_cross::Detector;
 use qss_machine::{Condition, Machine, Rel, Uses};
 use qss_quant::Integrator;
 use qss_sched::{PlaceSet, repeat_value};
+use qss_states::States;
 use std::alloc::{AllocError, Global};
 
 /// A branch of a clause. Both are indices from 0.
@@ -65,13 +66,13 @@ pub struct ConditionValues<'a> {
     pub slopes: &'a [i128],
 }
 
-/// A machine at a tick at which conditions are evaluated: the lines of the states, and the indices
-/// of these conditions (increasing).
+/// A machine at a tick at which conditions are evaluated: the states, and the indices of these
+/// conditions (increasing).
 #[derive(Clone, Copy)]
 pub struct ChangedConditions<'a> {
     pub machine: &'a Machine,
     pub tick: u64,
-    pub lines: &'a [Integrator],
+    pub states: &'a States,
     pub changed: &'a [u32],
 }
 

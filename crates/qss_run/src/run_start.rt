@@ -13,23 +13,19 @@ use qss_hand::Work;
 use qss_machine::{Machine, Row, RowKind, Uses};
 use qss_quant::Integrator;
 use qss_sched::{Agenda, repeat_value};
-use qss_states::Weights;
+use qss_states::{States, Weights};
 use std::alloc::{AllocError, Global};
 
-/// The data of a simulator. For each state: its line, its level and its slope. `weights`: the
-/// absolute row sums, or a bound up to which no row exceeds its limits. `uses`: the rows and
-/// conditions that read each variable. `agenda`: the event queue, with an index for each state,
-/// then for each condition, then one for conditions that became true during the handlers (`rising`:
-/// whether one did). Buffers for one tick: `moved` (due and reinitialized states), `changed`
-/// (conditions to be evaluated), `fired` (due branches), `assigned` (discrete variables).
+/// The data of a simulator. `uses`: the rows and conditions that read each variable. `agenda`: the
+/// event queue, with an index for each state, then for each condition, then one for conditions that
+/// became true during the handlers (`rising`: whether one did). Buffers for one tick: `moved` (due
+/// and reinitialized states), `changed` (conditions to be evaluated), `fired` (due branches),
+/// `assigned` (discrete variables).
 #[derive(Drop)]
 pub(crate) struct Store {
     pub conditions: Conditions,
     pub uses: Uses,
-    pub lines: Vec<Integrator>,
-    pub levels: Vec<i64>,
-    pub slopes: Vec<i128>,
-    pub weights: Weights,
+    pub states: States,
     pub moved: Vec<u32>,
     pub changed: Vec<u32>,
     pub fired: Vec<u32>,
@@ -72,13 +68,15 @@ fn blank_run_store(alloc: Global, m: &Machine) -> Result<Store, AllocError>
     Ok(Store {
         conditions: condition_set,
         uses,
-        lines,
-        levels,
-        slopes,
-        weights: Weights {
-            bound: 0,
-            kept: false,
-            of_rows,
+        states: States {
+            lines,
+            levels,
+            slopes,
+            weights: Weights {
+                bound: 0,
+                kept: false,
+                of_rows,
+            },
         },
         moved,
         changed,
@@ -167,8 +165,14 @@ fn begin(m: &Machine, s: &mut Store)
     start_lines_and_detectors(m, s);
     let work = &s.work;
     let d = work.d.as_slice();
-    s.weights.start(m, s.levels.as_slice(), d);
-    set_all_rows(RowKind::Start, 0, &s.work, s.levels.as_slice(), &mut s.rows);
+    s.states.weights.start(m, s.states.levels.as_slice(), d);
+    set_all_rows(
+        RowKind::Start,
+        0,
+        &s.work,
+        s.states.levels.as_slice(),
+        &mut s.rows,
+    );
 }
 
 // Starts the lines of all states and the detectors of all conditions at tick 0.
@@ -178,17 +182,20 @@ fn start_lines_and_detectors(m: &Machine, s: &mut Store)
     ensures at_arrival { s.new.conditions.at_arrival.items ≡ s.new.conditions.after_handlers.items }
     ensures after_handlers { s.new.conditions.after_handlers.items
         ≡ truths m.now s.old.work.x s.old.work.d 0 }
-    ensures detectors { AreDetectorsAt m.now 0 s.old.work.x s.old.work.d s.new.slopes.items
+    ensures detectors { AreDetectorsAt m.now 0 s.old.work.x s.old.work.d s.new.states.slopes.items
         s.new.conditions.detectors.items s.new.agenda }
     ensures rising { due_at s.new.agenda (state_count m.now + length (conditions m.now)) ≡ None }
     ensures fits { AreConditionsOf m.now s.new.conditions }
-    ensures one_each { HasOneEach m.now s.new.slopes.items s.new.lines.items s.new.agenda }
+    ensures one_each { HasOneEach m.now s.new.states.slopes.items s.new.states.lines.items
+        s.new.agenda }
     ensures places { length s.new.agenda ≡ length s.old.agenda }
     ensures rest { s.new
         ≡ record s.old {
           conditions = s.new.conditions;
-          lines = s.new.lines;
-          slopes = s.new.slopes;
+          states = record s.old.states {
+            lines = s.new.states.lines;
+            slopes = s.new.states.slopes;
+          };
           agenda = s.new.agenda;
         } }
 {
@@ -198,7 +205,7 @@ fn start_lines_and_detectors(m: &Machine, s: &mut Store)
         tick: 0,
         states: work.x.as_slice(),
         discretes: work.d.as_slice(),
-        slopes: s.slopes.as_slice(),
+        slopes: s.states.slopes.as_slice(),
     };
     s.conditions.set_all_detectors(m, &start, &mut s.agenda);
     let after_handlers = s.conditions.after_handlers.as_slice();
@@ -210,22 +217,30 @@ fn start_lines_and_detectors(m: &Machine, s: &mut Store)
 
 // Starts the lines of all states at tick 0, at the slopes of the levels and discrete values.
 fn start_lines(m: &Machine, s: &mut Store)
-    requires ready { CanStart m.now s.old.work.x s.old.levels.items s.old.work.d }
-    requires one_each { HasOneEach m.now s.old.slopes.items s.old.lines.items s.old.agenda }
+    requires ready { CanStart m.now s.old.work.x s.old.states.levels.items s.old.work.d }
+    requires one_each { HasOneEach m.now s.old.states.slopes.items s.old.states.lines.items
+        s.old.agenda }
     ensures set_out { AreLinesStarted m.now s.old s.new }
-    ensures one_each { HasOneEach m.now s.new.slopes.items s.new.lines.items s.new.agenda }
+    ensures one_each { HasOneEach m.now s.new.states.slopes.items s.new.states.lines.items
+        s.new.agenda }
     ensures places { length s.new.agenda ≡ length s.old.agenda }
     ensures others { (place : ℕ) → state_count m.now ≤ place
         → due_at s.new.agenda place ≡ due_at s.old.agenda place }
     ensures rest { s.new
-        ≡ record s.old { lines = s.new.lines; slopes = s.new.slopes; agenda = s.new.agenda } }
+        ≡ record s.old {
+          states = record s.old.states {
+            lines = s.new.states.lines;
+            slopes = s.new.states.slopes;
+          };
+          agenda = s.new.agenda;
+        } }
 {
     let work = &s.work;
     let x = work.x.as_slice();
     let d = work.d.as_slice();
-    let levels = s.levels.as_slice();
-    let slopes = s.slopes.as_mut_slice();
-    let lines = s.lines.as_mut_slice();
+    let levels = s.states.levels.as_slice();
+    let slopes = s.states.slopes.as_mut_slice();
+    let lines = s.states.lines.as_mut_slice();
     let agenda = &mut s.agenda;
     for j in 0..lines.len() {
         let slope = m.slope(j as u32, levels, d);

@@ -1,16 +1,15 @@
 -- Names from outside the lemmas of this crate that several of its proofs cite, passed on from one place.
 pub use Rattle.std.proofs.Common.{[], ℕ, ℤ, ◌*ℤ◌, ◌*◌, ◌++◌, ◌+ℤ◌, ◌+◌, ◌-ℤ◌, ◌-◌, ◌<◌, ◌==◌, ◌^◌}
-pub use Rattle.std.proofs.Common.{◌∙◌, ◌∷◌, ◌≡◌, ◌≢◌, ◌≤ℤ◌, ◌≤◌, ◌⊎◌, ap, append-nil, append_assoc}
-pub use Rattle.std.proofs.Common.{ap₂, arith, below_more, Bool, count_by, eqb, false, flat_map}
-pub use Rattle.std.proofs.Common.{get_or, inl, inr, length, List, not, pos, refl, rules, set, subst}
-pub use Rattle.std.proofs.Common.{sym, take, true}
-pub use Rattle.std.proofs.Math.IntN.{pos-*ℤ-pos, zero-*ℤ}
+pub use Rattle.std.proofs.Common.{◌∙◌, ◌∷◌, ◌≡◌, ◌≢◌, ◌≤◌, ◌⊎◌, ap, append-nil, append_assoc, ap₂}
+pub use Rattle.std.proofs.Common.{arith, below_more, Bool, count_by, eqb, false, flat_map, get_or}
+pub use Rattle.std.proofs.Common.{inl, inr, length, List, not, pos, refl, rules, set, subst, sym}
+pub use Rattle.std.proofs.Common.{take, true}
 pub use Rattle.std.proofs.lemmas.Bool.{and_parts, cases_Bool, cases_eq, cases_lt, eqb-false}
 pub use Rattle.std.proofs.lemmas.Bool.{iff_false, or_cases, or_parts}
 pub use Rattle.std.proofs.lemmas.Bool.Decides.{Decides-int_eq, nat_tests}
-pub use Rattle.std.proofs.lemmas.Int.{ints, to_z-of_z, unsigned_abs-mul}
+pub use Rattle.std.proofs.lemmas.Int.{ints, to_z-of_z}
 pub use Rattle.std.proofs.lemmas.List.{get_or-set_other, get_or-set_same, get_or_default}
-pub use Rattle.std.proofs.lemmas.List.{length-map, length-set, take_all, take_more}
+pub use Rattle.std.proofs.lemmas.List.{length-map, length-set, take_all, take_more, with_items_is}
 pub use Rattle.std.proofs.lemmas.List.Folds.{list_any-append}
 pub use Rattle.std.proofs.lemmas.List.FromFn.{fill_by_all, get_or-map-range_with_len}
 pub use Rattle.std.proofs.lemmas.List.FromFn.{length-map-range_with_len}
@@ -21,8 +20,8 @@ pub use Rattle.std.specs.List.{position, range_with_len, sum_by}
 pub use Rattle.std.specs.List.Sorted.{IsStrictlyIncreasing}
 pub use Rattle.std.specs.Option.{option_or}
 pub use Rattle.std.specs.Ordering.{int_eq}
-pub use Rattle.std.specs.Prelude.{◌||◌, All, if◌then◌else◌, is_some, None, Option, Some}
-pub use Rattle.std.specs.Prelude.{vec_capacity, vec_len}
+pub use Rattle.std.specs.Prelude.{◌||◌, All, if◌then◌else◌, None, Option, Some, vec_capacity}
+pub use Rattle.std.specs.Prelude.{vec_len}
 pub use mir.Syntax.{w128, w64}
 pub use mir.Val.{of_z, to_z}
 pub use Rattle.mu_num.proofs.Integers.{add-mul}
@@ -31,7 +30,7 @@ pub use Rattle.mu_num.proofs.Tables.{int_at-tabulate}
 pub use Rattle.mu_num.proofs.Tests.{eqb-true, if-false}
 pub use Rattle.mu_num.proofs.Writes.{among_at, among_more, index_of, written_all, written_more}
 pub use Rattle.mu_num.proofs.Writes.{written_on}
-pub use Rattle.mu_num.specs.IndexedSums.{abs_of, first_exceeding, int_at, sum_over, tabulate}
+pub use Rattle.mu_num.specs.IndexedSums.{abs_of, first_exceeding, int_at, tabulate}
 pub use Rattle.mu_num.specs.ListedPlaces.{AreRisingBelow, DiffersOnlyAt, is_listed}
 pub use Rattle.mu_num.specs.Sizes.{exceeds, IsWithin}
 pub use Rattle.mu_num.specs.Writes.{IsFirstOf, IsWritten}
@@ -62,8 +61,7 @@ pub use Rattle.qss_events.proofs.Overs.{all_within}
 pub use Rattle.qss_events.proofs.Ranges.{position-none}
 pub use Rattle.qss_events.specs.AllowedLevels.{IsAllowedLevel}
 pub use Rattle.qss_events.specs.Schedules.{IsDue, no_line, no_row, weights_at}
-pub use Rattle.qss_states.specs.EventContexts.{AreMovedTo, HasLeft}
-pub use Rattle.qss_states.specs.KeptWeights.{AreWeights}
+pub use Rattle.qss_states.specs.EventContexts.{CanRestart, CanSchedule, HasLeft, IsResultOf}
 pub use Rattle.qss_states.specs.LevelChanges.{AreRequantized}
 pub use Rattle.qss_states.specs.LineReplacements.{goes_from, has_level_and_slope, IsCounted}
 pub use Rattle.qss_states.specs.LineReplacements.{replaced_lines}
@@ -76,6 +74,10 @@ pub use Rattle.qss_states.specs.SlopeUpdates.{Schedules}
 pub use Rattle.qss_states.specs.StateLines.{IsRestartedFrom, line_at, states_at, states_with}
 pub use Rattle.qss_states.specs.SumMarks.{AreMarked, AreReaderSums, IsSlopeAt, listed_rows}
 pub use Rattle.qss_states.specs.Variables.{AreAssigned}
+pub use Rattle.qss_states.specs.declared.event_contexts.HandlerArrival.{HandlerArrival}
+pub use Rattle.qss_states.specs.declared.event_contexts.HandlerResult.{HandlerResult}
+pub use Rattle.qss_states.specs.declared.event_contexts.NewLevels.{NewLevels}
+pub use Rattle.qss_states.specs.declared.event_contexts.NewSlopes.{NewSlopes}
 pub use Rattle.qss_states.specs.declared.kept_weights.Weights.{Weights}
 pub use Rattle.qss_states.specs.declared.row_sum_changes.RowSum.TheVariants.{Slope}
 pub use Rattle.qss_states.specs.declared.sum_marks.TheConstants.{SUM_MARK}

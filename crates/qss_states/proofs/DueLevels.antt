@@ -1,15 +1,16 @@
 -- Where only moved states arrive and take new levels, all states have the levels of a tick.
 use Rattle.qss_states.proofs.Common
-use Common.{[], ℕ, ℤ, ◌++◌, ◌<◌, ◌∙◌, ◌∷◌, ◌≡◌, ◌⊎◌, All, all_within, ap, AreMovedTo}
-use Common.{AreRisingBelow, arith, cases_Bool, Decides-int_eq, DiffersOnlyAt, exceeds, false}
-use Common.{first_exceeding, get_or_default, if◌then◌else◌, index_of, inl, inr, int_at}
-use Common.{int_at-tabulate, int_eq, is_listed, IsFirstOf, IsNextLevel, IsWithin, IsWritten, length}
+use Common.{[], ℕ, ℤ, ◌++◌, ◌<◌, ◌∙◌, ◌∷◌, ◌≡◌, ◌⊎◌, All, all_within, ap, AreRisingBelow, arith}
+use Common.{cases_Bool, Decides-int_eq, DiffersOnlyAt, exceeds, false, first_exceeding}
+use Common.{get_or_default, if◌then◌else◌, index_of, inl, inr, int_at, int_at-tabulate, int_eq}
+use Common.{is_listed, IsFirstOf, IsNextLevel, IsWithin, IsWritten, length}
 use Common.{length-map-range_with_len, level_rows, Line, line_at, List, Machine, None, Option, pos}
 use Common.{refl, row_of, state_at, state_count, states_at, subst, sym, true}
+use Rattle.qss_states.specs.EventContexts.{AreMovedTo}
+use Rattle.qss_machine.specs.Ticks.{AreNextLevels, is_within_quantum}
+use Rattle.qss_states.specs.StateLines.{MayArrive, AreLinesUpTo, AreLinesAt, MayMove}
 use Rattle.std.specs.List.{flat_map}
 use Rattle.mu_num.proofs.SizeTests.{within-passes}
-use Rattle.qss_machine.specs.Ticks.{is_within_quantum, AreNextLevels}
-use Rattle.qss_states.specs.StateLines.{AreLinesUpTo, AreLinesAt, MayMove, MayArrive}
 use Rattle.qss_events.proofs.LevelRows.{level_row}
 use Rattle.qss_events.proofs.DueFirsts.{first_of_all}
 use Rattle.mu_num.proofs.RisingNumbers.{rows_among}

@@ -1,16 +1,15 @@
 -- A state's line at a new slope.
 use Rattle.qss_states.proofs.Common
-use Common.{ℕ, ℤ, ◌+◌, ◌<◌, ◌∙◌, ◌≡◌, ◌≢◌, All, ap, arith, below_more, Bool, due_at}
+use Common.{ℕ, ℤ, ◌+◌, ◌<◌, ◌∙◌, ◌≡◌, ◌≢◌, All, ap, arith, below_more, Bool, CanSchedule, due_at}
 use Common.{exceeds_row_limits, FitsSigned, get_or, get_or-map-range_with_len, get_or-set_other}
 use Common.{get_or-set_same, get_or_default, int_at, ints, IsDue, IsLineWithinQuantum}
 use Common.{IsRestartedFrom, IsWithin, length, length-map-range_with_len, level_unit, Line, line_at}
-use Common.{line_here, List, Machine, no_line, None, of_z, Option, pos, quantum_of, refl}
+use Common.{line_here, List, Machine, NewSlopes, no_line, None, of_z, Option, pos, quantum_of, refl}
 use Common.{row_is_light, set, slope_at, state_at, state_count, subst, sym, tabulate, to_z}
 use Common.{to_z-of_z, true, w128, w64}
 use Rattle.std.specs.Bool.{IsTrue}
 use Rattle.std.specs.Prelude.{position}
-use Rattle.qss_states.specs.EventContexts.{AreStatesOf, CanSchedule, CanScheduleOne}
-use Rattle.qss_states.specs.declared.event_contexts.NewSlopes.{NewSlopes}
+use Rattle.qss_states.specs.EventContexts.{AreStatesOf, CanScheduleOne}
 
 pub is_true : (b : Bool) → b ≡ true → IsTrue b
 is_true b e = search (e)

@@ -1,13 +1,13 @@
 -- Levels and discrete values that stay within the bound of absolute row sums that are not
 -- maintained.
 use Rattle.qss_states.proofs.Common
-use Common.{ℕ, ℤ, ◌+◌, ◌-◌, ◌<◌, ◌∙◌, ◌≡◌, All, AreAssigned, AreSmall, AreUpToAt, AreWeights, arith}
-use Common.{cases_Bool, DiffersOnlyAt, discrete_count, exceeds_row_limits, false, get_or}
-use Common.{get_or_default, index_of, inl, inr, int_at, is_listed, IsUpTo, length, List, Machine}
-use Common.{no_row, None, pos, position, position-none, state_count, subst, sym, true, Weights}
-use Common.{weights_at}
-use Rattle.std.proofs.lemmas.List.{with_items_is}
+use Common.{ℕ, ℤ, ◌+◌, ◌-◌, ◌<◌, ◌∙◌, ◌≡◌, All, AreAssigned, AreSmall, AreUpToAt, arith, cases_Bool}
+use Common.{DiffersOnlyAt, discrete_count, exceeds_row_limits, false, get_or, get_or_default}
+use Common.{index_of, inl, inr, int_at, is_listed, IsUpTo, length, List, Machine, no_row, None, pos}
+use Common.{position, position-none, state_count, subst, sym, true, Weights, weights_at}
+use Common.{with_items_is}
 use Rattle.std.specs.Vec.{with_items}
+use Rattle.qss_states.specs.KeptWeights.{AreWeights}
 use Rattle.mu_num.proofs.InPlace.{same_length}
 
 -- levels of which those of the moved states are new

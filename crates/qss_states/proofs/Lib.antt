@@ -1,8 +1,6 @@
 mod Common
-mod FirstOvers
 pub mod GoingOn
 pub mod DueLevels
-mod Least
 mod Courses
 mod Shifting
 pub mod Counting
@@ -12,7 +10,6 @@ mod Assigned
 mod Reseating
 mod Weighed
 mod Marked
-mod Terms
 mod Allowed
 mod Found
 mod Taken

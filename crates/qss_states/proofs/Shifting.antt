@@ -2,12 +2,13 @@
 use Rattle.qss_states.proofs.Common
 use Common.{[], ℕ, ℤ, ◌*ℤ◌, ◌+ℤ◌, ◌+◌, ◌-ℤ◌, ◌<◌, ◌==◌, ◌^◌, ◌∙◌, ◌∷◌, ◌≡◌, ◌≢◌, ◌≤◌, abs_of, ap}
 use Common.{AreRisingBelow, arith, cases_Bool, DiffersOnlyAt, eqb-true, exceeds_row_limits, false}
-use Common.{get_or, get_or-set_other, get_or-set_same, inl, inr, int_at, int_at-tabulate, is_listed}
-use Common.{IsSumAfterLevelChange, IsWithin, IsWritten, length, length-map, length-set, Line, List}
-use Common.{Machine, mode_coefficient, mode_coefficient_at, None, or_cases, or_parts, pos}
-use Common.{reading_coefficients, reading_rows, refl, row_at, row_coefficient, row_is_light}
-use Common.{row_reads, set, Slope, slope_at, SlopeRow, state_count, subst, sum_at, sym, tabulate}
-use Common.{take, take_more, taken_by, true, unread_slope, weight_at}
+use Common.{get_or, get_or-set_other, get_or-set_same, HandlerArrival, HandlerResult, inl, inr}
+use Common.{int_at, int_at-tabulate, is_listed, IsResultOf, IsSumAfterLevelChange, IsWithin}
+use Common.{IsWritten, length, length-map, length-set, Line, List, Machine, mode_coefficient}
+use Common.{mode_coefficient_at, NewLevels, None, or_cases, or_parts, pos, reading_coefficients}
+use Common.{reading_rows, refl, row_at, row_coefficient, row_is_light, row_reads, set, Slope}
+use Common.{slope_at, SlopeRow, state_count, subst, sum_at, sym, tabulate, take, take_more}
+use Common.{taken_by, true, unread_slope, weight_at}
 use Rattle.std.proofs.Common.{fold}
 use Rattle.std.proofs.lemmas.List.{get_or-map}
 use Rattle.std.proofs.lemmas.List.Sums.{fold-append}
@@ -16,10 +17,9 @@ use Rattle.mu_num.proofs.Tests.{eqb-false}
 use Rattle.qss_machine.proofs.Distinct.{coefficient_small}
 use Rattle.qss_states.specs.declared.row_sum_changes.RowSum.{RowSum}
 use Rattle.qss_states.specs.declared.row_sum_changes.RowSum.TheVariants.{Weight}
-use Rattle.qss_states.specs.declared.event_contexts.HandlerResult.{HandlerResult}
-use Rattle.qss_states.specs.declared.event_contexts.NewLevels.{NewLevels}
 use Rattle.qss_states.specs.Variables.{AreLevelsOf}
-use Rattle.qss_states.specs.EventContexts.{AreNewLevelsAt, CanUpdateAfterHandlers}
+use Rattle.qss_states.specs.EventContexts.{AreNewLevelsAt, CanUpdateAfterHandlers, IsHandlerArrival}
+use Rattle.qss_states.specs.EventContexts.{IsHandlerResult}
 use Rattle.qss_machine.proofs.Among.{among_rows}
 use Rattle.qss_events.proofs.Changes.{slopes_follow_levels}
 use Rattle.qss_events.proofs.Firsts.{same_lists}
@@ -114,6 +114,16 @@ levels_after can = record {
   small_levels = can.new.small_levels;
   small_discretes = can.handled.values.small_discretes;
 }
+
+-- the result of handlers is within the limits of the machine
+pub handled_fits : (at : HandlerArrival) (left : HandlerResult) → IsResultOf at left →
+    IsHandlerArrival at → IsHandlerResult at.machine.now left
+handled_fits at left is ready =
+    record {
+      assigned = rw (is.assigned, is.before, is.discretes) ready.assigned;
+      many_before = ap length is.before ∙ ready.before;
+      values = rw (is.states, is.discretes) ready.values;
+    }
 
 -- ---- sums that follow
 

@@ -6,11 +6,11 @@ use Common.{false, get_or, get_or-set_other, get_or-set_same, if◌then◌else�
 use Common.{int_at, is_listed, IsAllowedLevel, IsFirstOf, IsNextLevel, IsStrictlyIncreasing, length}
 use Common.{length-set, List, Machine, None, Option, option_or, or_cases, or_parts, pos, refl, Row}
 use Common.{row_of, set, Some, subst, sym, take, take_all, true, written_more}
+use Rattle.qss_quant.specs.declared.quantizer.Rule.{Rule}
 use Rattle.std.proofs.lemmas.Bool.{eq-eqb, eqb-true, or_left, or_right}
 use Rattle.std.proofs.lemmas.List.{get_or-take, length-take-le}
 use Rattle.std.proofs.lemmas.List.Kept.{AllPairs-from_increasing}
 use Rattle.std.specs.List.{flat_map}
-use Rattle.qss_quant.specs.declared.quantizer.Rule.{Rule}
 use Rattle.mu_num.proofs.RisingNumbers.{due_rows_more}
 use Rattle.qss_states.specs.LevelChanges.{taken_row}
 use Rattle.qss_states.proofs.DueLevels.{same_rows}

@@ -1,6 +1,6 @@
 -- Defines the levels that states take at a tick, and their rows.
 use Rattle.std.specs.Prelude.{◌≡◌, ℕ, ◌+◌, ◌≤◌, ◌++◌, List, [], ◌∷◌, ℤ, pos, Option, None, Vec}
-use Rattle.std.specs.Prelude.{vec_len, vec_capacity, if◌then◌else◌}
+use Rattle.std.specs.Prelude.{vec_len, vec_capacity, if◌then◌else◌, position}
 use Rattle.std.specs.declared.alloc.Global.{Global}
 use Rattle.std.specs.List.{flat_map}
 use Rattle.std.specs.Option.{option_or}
@@ -16,8 +16,11 @@ use Rattle.qss_quant.specs.declared.quantizer.Rule.{Rule}
 use Rattle.mu_num.specs.ListedPlaces.{DiffersOnlyAt}
 use Rattle.qss_events.specs.AllowedLevels.{IsAllowedLevel}
 use Rattle.mu_num.specs.Writes.{IsFirstOf, IsWritten}
-use Rattle.mu_num.specs.Limits.{bits_of_level, bits_of_state, AreLevels}
+use Rattle.mu_num.specs.Limits.{bits_of_level}
+use Rattle.qss_machine.specs.Ticks.{exceeds_row_limits}
 use Rattle.qss_states.specs.EventContexts.{AreMovedTo}
+use Rattle.qss_states.specs.declared.event_contexts.HandlerArrival.{HandlerArrival}
+use Rattle.qss_states.specs.declared.states.States.{States}
 
 -- the row of a state that takes a level, if the level changes
 abbrev pub row_of_level : ℕ → ℕ → ℤ → ℤ → ℤ → List Row
@@ -52,3 +55,20 @@ pub record AreRequantizedAt (m : Machine) (name : Option Rule) (moved : List ℕ
   pub allowed : (states : List ℤ) → AreMovedTo m moved x old states → AreNextLevels (IsAllowedLevel name) m states old new
   pub others : DiffersOnlyAt moved old new
   pub levels : over ≡ None → kept ≡ new
+
+-- the moved states took new levels after handlers, unless a level or a row exceeds its limits: the
+-- first level that does is found, or else the first row
+abbrev pub HaveNewLevels : HandlerArrival → Option Rule → States → States → Option ℕ → Type 0
+HaveNewLevels at name old new over =
+    (levels : List ℤ) × AreRequantizedAt at.machine.now name at.moved.now at.work.now.x
+    old.levels.items new.levels.items levels
+    (option_or (first_exceeding bits_of_level levels)
+    (position (exceeds_row_limits at.machine.now levels at.work.now.d) at.machine.now.rows))
+    over
+
+-- the rows of a tick are those of its handlers, and then one for each level that changed
+abbrev pub AreRowsAfter : HandlerArrival → States → States → List Row → Type 0
+AreRowsAfter at old new rows =
+    (states : List ℤ) →
+    AreMovedTo at.machine.now at.moved.now at.work.now.x old.levels.items states →
+    rows ≡ at.work.now.log ++ level_rows at.tick old.levels.items new.levels.items states

@@ -1,6 +1,6 @@
 -- The names of other crates that the clauses of this crate cite, passed on from one place. Declares nothing.
 pub use Rattle.std.specs.Option.{option_or}
-pub use Rattle.mu_num.specs.IndexedSums.{first_exceeding, int_at}
+pub use Rattle.mu_num.specs.IndexedSums.{first_exceeding, int_at, tabulate}
 pub use Rattle.mu_num.specs.Limits.{AreLevels, IsLevel, IsSlope, IsState, bits_of_level, bits_of_state, tick_limit, variable_limit}
 pub use Rattle.mu_num.specs.ListedPlaces.{AreRisingBelow, is_listed}
 pub use Rattle.mu_num.specs.Sizes.{IsWithin, exceeds}

@@ -1,14 +1,14 @@
 -- Defines how lines and due ticks change when some states continue at new slopes.
 use Rattle.std.specs.Prelude.{◌≡◌, ℕ, ◌<◌, ◌≤◌, ◌⊎◌, List, length, ℤ, Option, true, false}
 use Rattle.qss_machine.specs.declared.compiled_machine.Machine.{Machine}
-use Rattle.qss_machine.specs.Machines.{state_count, level_unit, quantum_of}
+use Rattle.qss_machine.specs.Machines.{state_count, level_unit, quantum_of, slope_at}
 use Rattle.mu_num.specs.IndexedSums.{int_at}
 use Rattle.qss_quant.specs.IntegratorLines.{Line, state_at, IsLineWithinQuantum}
 use Rattle.qss_sched.specs.Ranks.{due_at}
 use Rattle.mu_num.specs.ListedPlaces.{is_listed}
 use Rattle.mu_num.specs.Limits.{IsState}
 use Rattle.qss_states.specs.StateLines.{line_at, IsRestartedFrom}
-use Rattle.qss_states.specs.LineReplacements.{has_level_and_slope}
+use Rattle.qss_states.specs.LineReplacements.{goes_from, has_level_and_slope}
 use Rattle.qss_events.specs.Schedules.{IsDue}
 
 -- a line may continue from a tick at a level: it is at the tick, and its state is within the
@@ -68,3 +68,18 @@ pub record HaveSlopesUpdated (m : Machine) (tick : ℕ) (levels slopes : List �
   pub left : (k : ℕ) → k < state_count m → has_level_and_slope (int_at levels k) (int_at slopes k) (line_at old.lines k) ≡ true → line_at new.lines k ≡ line_at old.lines k
   pub as_many : length new.dues ≡ length old.dues
   pub others : (place : ℕ) → state_count m ≤ place → due_at new.dues place ≡ due_at old.dues place
+
+-- each state continues from a tick, from its state there, at its level and at the slope for these
+-- levels and discrete values; a line that already continues in this way does not change
+pub record HaveContinued (m : Machine) (tick : ℕ) (x levels d : List ℤ)
+    (old new : Schedules) : Type 0 where
+  pub lines : (j : ℕ) → j < state_count m →
+      IsRestartedFrom m tick (int_at x j) (int_at levels j) (slope_at m j levels d) j
+      (line_at new.lines j) (due_at new.dues j)
+  pub kept : (j : ℕ) → j < state_count m →
+      goes_from tick (int_at x j) (int_at levels j) (slope_at m j levels d) (line_at old.lines j)
+      ≡ true → line_at new.lines j ≡ line_at old.lines j
+  pub line_count : length new.lines ≡ length old.lines
+  pub places : length new.dues ≡ length old.dues
+  pub others : (place : ℕ) → state_count m ≤ place →
+      due_at new.dues place ≡ due_at old.dues place

@@ -3,6 +3,7 @@
 
 ghost use Rattle.std.specs.Prelude.{◌≡◌, ◌↔◌, ◌<◌, ◌∷◌, ◌++◌, [], ℕ, All, IsTrue, None, Some, true, false, length, position, List, flat_map, slice_index_or, pos};
 ghost use Rattle.qss_states.specs.Prelude.{overflow_of, state_count, exceeds_row_limits, uses_of, weights_at, IsWritten};
+ghost use Rattle.qss_states.specs.EventContexts.{AreAssignedOrMarked, AreAssignedSums, IsNewWeight};
 ghost use Rattle.qss_states.specs.Words.{AreLevelsOf, AreDiscretes, AreWeights, StayKept, AreNewLevels, AreNewLevelsAt, IsHandlerResult, CanUpdateAfterHandlers, first_row_exceeding, new_sums, WereWeights, CanFollow, WereSums, IsUpTo, AreUpToAt, IsSafeBound, comes_before, IsLeastPast, IsWeighed, CanAddUp, HasSums, AreReaderSums, AreReadersMarkedOr, AreMarkedOr};
 ghost use Rattle.qss_states.specs.declared.row_sum_changes.RowSum.TheVariants as sum;
 
@@ -215,74 +216,55 @@ pub(crate) fn refresh_row_sums_after_handlers(
         → weights.new ≡ new_sums sum.Weight at.now handled.now.discretes.now }
 {
     update_all_row_sums(RowSum::Weight, at, handled.before, lines, weights);
-    weigh_kept_readers(
-        at.machine,
-        at.uses,
-        handled.assigned,
-        at.levels,
-        handled.discretes,
-        weights,
-    );
+    weigh_kept_readers(at, handled, weights);
     let least = least_exceeding_reader(at.uses, at.moved, weights, Ok(()));
     least_exceeding_reader(at.uses, handled.assigned, weights, least)
 }
 
-// Recomputes the absolute row sums of the rows that read one of these discrete variables, each
-// once.
-fn weigh_kept_readers(
-    m: &Machine,
-    uses: &Uses,
-    assigned: &[u32],
-    levels: &[i64],
-    d: &[i64],
-    weights: &mut [i128],
-)
-    requires uses { uses.now ≡ uses_of m.now }
-    requires assigned { AreDiscretes m.now assigned.now }
-    requires allowed { HasSums m.now levels.now d.now weights.old }
-    ensures { AreReaderSums (IsWeighed m.now levels.now d.now) m.now assigned.now weights.old
+// Recomputes the absolute row sums of the rows that read one of the assigned discrete variables,
+// each once.
+fn weigh_kept_readers(at: &NewLevels, handled: &HandlerResult, weights: &mut [i128])
+    requires uses { at.now.uses.now ≡ uses_of at.now.machine.now }
+    requires assigned { AreDiscretes at.now.machine.now handled.now.assigned.now }
+    requires allowed { HasSums at.now.machine.now at.now.levels.now handled.now.discretes.now
+        weights.old }
+    ensures { AreAssignedSums (IsNewWeight at.now handled.now) at.now handled.now weights.old
         weights.new }
 {
-    mark_reader_sums(uses, assigned, weights);
-    weigh_marked_readers(m, uses, assigned, levels, d, weights);
+    mark_reader_sums(at.uses, handled.assigned, weights);
+    weigh_marked_readers(at, handled, weights);
 }
 
-// Computes the absolute row sums of the rows that read one of these discrete variables and are
-// marked.
-fn weigh_marked_readers(
-    m: &Machine,
-    uses: &Uses,
-    assigned: &[u32],
-    levels: &[i64],
-    d: &[i64],
-    weights: &mut [i128],
-)
-    requires uses { uses.now ≡ uses_of m.now }
-    requires assigned { AreDiscretes m.now assigned.now }
-    requires allowed { HasSums m.now levels.now d.now weights.old }
-    requires marked { AreReadersMarkedOr (IsWeighed m.now levels.now d.now) m.now assigned.now
+// Computes the absolute row sums of the rows that read one of the assigned discrete variables and
+// are marked.
+fn weigh_marked_readers(at: &NewLevels, handled: &HandlerResult, weights: &mut [i128])
+    requires uses { at.now.uses.now ≡ uses_of at.now.machine.now }
+    requires assigned { AreDiscretes at.now.machine.now handled.now.assigned.now }
+    requires allowed { HasSums at.now.machine.now at.now.levels.now handled.now.discretes.now
         weights.old }
-    ensures { AreReaderSums (IsWeighed m.now levels.now d.now) m.now assigned.now weights.old
+    requires marked { AreAssignedOrMarked (IsNewWeight at.now handled.now) at.now handled.now
+        weights.old }
+    ensures { AreAssignedSums (IsNewWeight at.now handled.now) at.now handled.now weights.old
         weights.new }
 {
-    for var in assigned {
-        weigh_marked_rows(m, uses.rows_of(*var), levels, d, weights);
+    for var in handled.assigned {
+        weigh_marked_rows(at, at.uses.rows_of(*var), handled, weights);
     }
 }
 
 // Computes the absolute row sums of these rows that are marked.
-fn weigh_marked_rows(m: &Machine, rows: &[u32], levels: &[i64], d: &[i64], weights: &mut [i128])
-    requires rows { All (λ row. row < state_count m.now) rows.now }
-    requires allowed { HasSums m.now levels.now d.now weights.old }
-    requires marked { AreMarkedOr (IsWeighed m.now levels.now d.now) rows.now weights.old }
-    ensures { IsWritten (pos 0) (IsWeighed m.now levels.now d.now) rows.now weights.old
-        weights.new }
+fn weigh_marked_rows(at: &NewLevels, rows: &[u32], handled: &HandlerResult, weights: &mut [i128])
+    requires rows { All (λ row. row < state_count at.now.machine.now) rows.now }
+    requires allowed { HasSums at.now.machine.now at.now.levels.now handled.now.discretes.now
+        weights.old }
+    requires marked { AreMarkedOr (IsNewWeight at.now handled.now) rows.now weights.old }
+    ensures { IsWritten (pos 0) (IsNewWeight at.now handled.now) rows.now weights.old weights.new }
 {
     for row in rows {
         if !is_sum_marked(weights[*row as usize]) {
             continue;
         }
-        weights[*row as usize] = weigh_kept_row(m, *row, levels, d);
+        weights[*row as usize] = weigh_kept_row(at.machine, *row, at.levels, handled.discretes);
     }
 }
 

@@ -2,8 +2,8 @@
 
 ghost use Rattle.std.specs.Prelude.{◌≡◌, ◌<◌, ◌-ℤ◌, ◌*ℤ◌, ℕ, pos, length};
 ghost use Rattle.qss_states.specs.Prelude.{IsWithin, int_at, state_count, row_coefficient, mode_coefficient_at, reading_rows, uses_of, IsWritten, IsLevel, IsState};
-ghost use Rattle.qss_states.specs.EventContexts.{IsMode, CanShift, CanFollow, new_sums, new_slopes};
-ghost use Rattle.qss_states.specs.RowSums.{taken_by, IsSumAfterLevelChange};
+ghost use Rattle.qss_states.specs.EventContexts.{IsMode, CanShift, CanFollow, AreSumsAfterChange, change_of_sum, new_sums, new_slopes};
+ghost use Rattle.qss_states.specs.RowSums.{taken_by};
 ghost use Rattle.qss_states.specs.declared.row_sum_changes.RowSum.TheVariants as sum;
 
 use crate::event_contexts::{Mode, NewLevels};
@@ -16,6 +16,14 @@ use qss_quant::Integrator;
 pub enum RowSum {
     Slope,
     Weight,
+}
+
+/// The change of the level of a state, in units of 2^-f and at most 2^43 in absolute value.
+#[derive(Clone, Copy)]
+pub(crate) struct LevelChange {
+    pub state: u32,
+    pub old: i64,
+    pub new: i64,
 }
 
 /// Updates the slopes of all rows, at these discrete values, for the new levels of the moved
@@ -50,11 +58,16 @@ pub(crate) fn update_all_row_sums(
         let line = &lines[j];
         let old = row_sum_level(kind, line.level);
         let new = row_sum_level(kind, at.levels[j]);
+        let change = LevelChange {
+            state: *state,
+            old,
+            new,
+        };
         let mode = Mode {
             machine: at.machine,
             discretes: d,
         };
-        update_row_sums(kind, &mode, at.uses, *state, old, new, sums);
+        update_row_sums(kind, &mode, at.uses, &change, sums);
     }
 }
 
@@ -72,55 +85,34 @@ fn row_sum_level(kind: RowSum, level: i64) -> i64
 
 // Updates the sums of the rows that read a state, for the change of its level.
 #[inline(always)]
-fn update_row_sums(
-    kind: RowSum,
-    at: &Mode,
-    uses: &Uses,
-    state: u32,
-    old: i64,
-    new: i64,
-    sums: &mut [i128],
-)
-    requires allowed { CanShift at.now state old new }
+fn update_row_sums(kind: RowSum, at: &Mode, uses: &Uses, change: &LevelChange, sums: &mut [i128])
+    requires allowed { CanShift at.now change.now }
     requires uses { uses.now ≡ uses_of at.now.machine.now }
     requires sums { length sums.old ≡ state_count at.now.machine.now }
     requires small_sums { (j : ℕ) → j < state_count at.now.machine.now
         → IsWithin 100 (int_at sums.old j) }
-    ensures { IsWritten (pos 0)
-        (IsSumAfterLevelChange kind at.now.machine.now state old new at.now.discretes.now sums.old)
-        (reading_rows at.now.machine.now state) sums.old sums.new }
+    ensures { AreSumsAfterChange kind at.now change.now sums.old sums.new }
 {
-    let rows = uses.rows_of(state);
-    let coefficients = uses.coefficients_of(state);
+    let rows = uses.rows_of(change.state);
+    let coefficients = uses.coefficients_of(change.state);
     for place in 0..rows.len() {
         let row = rows[place];
-        let change = sum_difference(kind, at, coefficients[place], row, state, old, new);
-        sums[row as usize] += change;
+        sums[row as usize] += sum_difference(kind, at, coefficients[place], row, change);
     }
 }
 
-/// The change of a sum of a row if a state changes its level. `own` is the coefficient of the state
-/// in the row without products.
+// The change of a sum of a row if a state changes its level. `own` is the coefficient of the state
+// in the row without products.
 #[inline(always)]
-pub(crate) fn sum_difference(
-    kind: RowSum,
-    at: &Mode,
-    own: i64,
-    row: u32,
-    state: u32,
-    old: i64,
-    new: i64,
-) -> i128
-    requires allowed { CanShift at.now state old new }
+fn sum_difference(kind: RowSum, at: &Mode, own: i64, row: u32, change: &LevelChange) -> i128
+    requires allowed { CanShift at.now change.now }
     requires row { row < state_count at.now.machine.now }
-    requires own { own ≡ row_coefficient at.now.machine.now row state }
-    ensures value { result
-        ≡ taken_by kind (mode_coefficient_at at.now.machine.now row state at.now.discretes.now)
-        *ℤ (new -ℤ old) }
+    requires own { own ≡ row_coefficient at.now.machine.now row change.now.state }
+    ensures value { result ≡ change_of_sum kind at.now row change.now }
     ensures bound { IsState result }
 {
-    let mode = mode_for_sum_change(at, own, row, state);
-    slope_sum_change(row_sum_mode(kind, mode), old, new)
+    let mode = mode_for_sum_change(at, own, row, change.state);
+    slope_sum_change(row_sum_mode(kind, mode), change.old, change.new)
 }
 
 // The coefficient of a state in a row in the current mode. `own` is its coefficient without

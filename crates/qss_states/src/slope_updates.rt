@@ -3,6 +3,8 @@
 
 ghost use Rattle.std.specs.Prelude.{◌≡◌, ◌+◌, ◌<◌, ◌≤◌, ◌∷◌, [], ℕ, All, length, pos, true, false, vec_capacity, flat_map, List, ℤ, None};
 ghost use Rattle.qss_states.specs.Prelude.{IsWithin, int_at, state_count, discrete_count, level_unit, slope_at, quantum_of, reading_rows, uses_of, state_at, IsLineWithinQuantum, due_at, is_listed, IsWritten, tick_limit, IsLevel, IsSlope};
+ghost use Rattle.qss_states.specs.EventContexts.{AreAssignedOrMarked, AreAssignedSums, HaveContinuedAt, IsNewSlope};
+ghost use Rattle.qss_states.specs.Variables.{AreVariablesOf};
 ghost use Rattle.qss_states.specs.Words.{MaySchedule, line_at, MayMove, IsRestartedFrom, AreScheduled, MayUpdateSlope, IsOneScheduled, HaveSlopesUpdated, CanAddUp, CanSchedule, CanUpdateSlopes, CanScheduleOne, AreStatesOf, CanUpdateAfterHandlers, CanRestart, first_row_exceeding, new_slopes, states_left, WereSums, has_level_and_slope, IsCounted, goes_from, replaced_lines_from, IsCountedFrom, AreReaderSums, AreReadersMarkedOr, AreMarkedOr, IsSlopeAt};
 ghost use Rattle.qss_states.specs.declared.row_sum_changes.RowSum.TheVariants as sum;
 
@@ -10,7 +12,6 @@ use crate::event_contexts::{HandlerResult, NewLevels, NewSlopes};
 use crate::row_sum_changes::update_sums_of_slopes;
 use crate::sum_marks::{is_sum_marked, mark_reader_sums};
 use qss_events::event_tick_leaving_level;
-use qss_machine::{Machine, Uses};
 use qss_quant::{Integrator, Steps};
 use qss_sched::Agenda;
 use std::sync::ledger::Ledger;
@@ -18,44 +19,30 @@ use std::sync::ledger::Ledger;
 /// Restarts the moved states at a tick after handlers, from the states after the handlers. It also
 /// continues the states whose rows read a moved state or an assigned discrete variable. All get
 /// their new slopes and due ticks. `steps` counts the lines that move.
-pub fn update_slopes_after_handlers<L: Ledger>(
-    at: &NewLevels,
-    handled: &HandlerResult,
-    slopes: &mut [i128],
+pub(crate) fn continue_states<L: Ledger>(
+    at: &NewSlopes,
     lines: &mut [Integrator],
     agenda: &mut Agenda,
     steps: &mut Steps<L>,
 )
-    requires { CanRestart at.now handled.now slopes.old lines.old agenda.old }
-    ensures slopes { slopes.new ≡ new_slopes at.now handled.now.discretes.now }
-    ensures lines { (j : ℕ) → j < state_count at.now.machine.now
-        → IsRestartedFrom at.now.machine.now at.now.tick
-        (int_at (states_left at.now handled.now lines.old) j)
-        (int_at at.now.levels.now j)
-        (slope_at at.now.machine.now j at.now.levels.now handled.now.discretes.now)
-        j (line_at lines.new j) (due_at agenda.new j) }
-    ensures kept { (j : ℕ) → j < state_count at.now.machine.now
-        → goes_from at.now.tick (int_at (states_left at.now handled.now lines.old) j)
-        (int_at at.now.levels.now j)
-        (int_at slopes.new j) (line_at lines.old j) ≡ true
-        → line_at lines.new j ≡ line_at lines.old j }
-    ensures places { length agenda.new ≡ length agenda.old }
-    ensures others { (place : ℕ) → state_count at.now.machine.now ≤ place
-        → due_at agenda.new place ≡ due_at agenda.old place }
+    requires before { (slopes : List ℤ)
+        × CanRestart at.now.event at.now.handled slopes lines.old agenda.old }
+    requires slopes { at.now.slopes.now ≡ new_slopes at.now.event at.now.handled.discretes.now }
+    ensures continued { HaveContinuedAt at.now lines.old agenda.old lines.new agenda.new }
     ensures counted { steps.new
-        ≡ steps.old + replaced_lines_from (state_count at.now.machine.now) at.now.tick
-        (states_left at.now handled.now lines.old) at.now.levels.now slopes.new lines.old }
+        ≡ steps.old
+        + replaced_lines_from (state_count at.now.event.machine.now) at.now.event.tick
+        (states_left at.now.event at.now.handled lines.old) at.now.event.levels.now
+        at.now.slopes.now lines.old }
 {
-    update_slopes_from_handlers(at, handled, lines, slopes);
-    let on = NewSlopes { event: *at, slopes };
-    restart_state_slopes(&on, handled.states, lines, agenda, steps);
-    update_reader_slopes(&on, at.moved, lines, agenda, steps);
-    update_reader_slopes(&on, handled.assigned, lines, agenda, steps);
+    restart_state_slopes(at, lines, agenda, steps);
+    update_reader_slopes(at, at.event.moved, lines, agenda, steps);
+    update_reader_slopes(at, at.handled.assigned, lines, agenda, steps);
 }
 
-// Updates the slopes of all rows for the new levels of the moved states and the new values of the
-// assigned discrete variables.
-fn update_slopes_from_handlers(
+/// Updates the slopes of all rows for the new levels of the moved states and the new values of the
+/// assigned discrete variables.
+pub(crate) fn update_slopes_from_handlers(
     at: &NewLevels,
     handled: &HandlerResult,
     lines: &[Integrator],
@@ -67,127 +54,110 @@ fn update_slopes_from_handlers(
     ensures { slopes.new ≡ new_slopes at.now handled.now.discretes.now }
 {
     update_sums_of_slopes(at, handled.before, lines, slopes);
-    update_slopes_from_readers(
-        at.machine,
-        at.uses,
-        handled.assigned,
-        at.levels,
-        handled.discretes,
-        slopes,
-    );
+    update_slopes_from_readers(at, handled, slopes);
 }
 
-// Recomputes the slopes of the rows that read one of these variables, each once. The list of rows
-// of one variable has no row twice. So marks are needed only for several variables.
-fn update_slopes_from_readers(
-    m: &Machine,
-    uses: &Uses,
-    variables: &[u32],
-    levels: &[i64],
-    d: &[i64],
-    slopes: &mut [i128],
-)
-    requires uses { uses.now ≡ uses_of m.now }
-    requires variables { All (λ var. var < state_count m.now + discrete_count m.now) variables.now }
-    requires allowed { CanAddUp m.now levels.now d.now slopes.old }
-    ensures { AreReaderSums (IsSlopeAt m.now levels.now d.now) m.now variables.now slopes.old
+// Recomputes the slopes of the rows that read one of the assigned discrete variables, each once.
+// The list of rows of one variable has no row twice. So marks are needed only for several
+// variables.
+fn update_slopes_from_readers(at: &NewLevels, handled: &HandlerResult, slopes: &mut [i128])
+    requires uses { at.now.uses.now ≡ uses_of at.now.machine.now }
+    requires variables { AreVariablesOf at.now.machine.now handled.now.assigned.now }
+    requires allowed { CanAddUp at.now.machine.now at.now.levels.now handled.now.discretes.now
+        slopes.old }
+    ensures { AreAssignedSums (IsNewSlope at.now handled.now) at.now handled.now slopes.old
         slopes.new }
 {
+    let variables = handled.assigned;
     if variables.len() == 1 {
-        update_slopes_from_rows(m, uses.rows_of(variables[0]), levels, d, slopes);
+        update_slopes_from_rows(at, at.uses.rows_of(variables[0]), handled, slopes);
         return;
     }
-    mark_reader_sums(uses, variables, slopes);
-    sum_marked_readers(m, uses, variables, levels, d, slopes);
+    mark_reader_sums(at.uses, variables, slopes);
+    sum_marked_readers(at, handled, slopes);
 }
 
 // Recomputes the slopes of these rows from all of their terms.
 fn update_slopes_from_rows(
-    m: &Machine,
+    at: &NewLevels,
     rows: &[u32],
-    levels: &[i64],
-    d: &[i64],
+    handled: &HandlerResult,
     slopes: &mut [i128],
 )
-    requires rows { All (λ row. row < state_count m.now) rows.now }
-    requires allowed { CanAddUp m.now levels.now d.now slopes.old }
-    ensures { IsWritten (pos 0) (IsSlopeAt m.now levels.now d.now) rows.now slopes.old
-        slopes.new }
+    requires rows { All (λ row. row < state_count at.now.machine.now) rows.now }
+    requires allowed { CanAddUp at.now.machine.now at.now.levels.now handled.now.discretes.now
+        slopes.old }
+    ensures { IsWritten (pos 0) (IsNewSlope at.now handled.now) rows.now slopes.old slopes.new }
 {
     for row in rows {
-        slopes[*row as usize] = m.slope(*row, levels, d);
+        slopes[*row as usize] = at.machine.slope(*row, at.levels, handled.discretes);
     }
 }
 
-// Computes the slopes of the rows that read one of these variables and are marked.
-fn sum_marked_readers(
-    m: &Machine,
-    uses: &Uses,
-    variables: &[u32],
-    levels: &[i64],
-    d: &[i64],
-    slopes: &mut [i128],
-)
-    requires uses { uses.now ≡ uses_of m.now }
-    requires variables { All (λ var. var < state_count m.now + discrete_count m.now) variables.now }
-    requires allowed { CanAddUp m.now levels.now d.now slopes.old }
-    requires marked { AreReadersMarkedOr (IsSlopeAt m.now levels.now d.now) m.now variables.now
+// Computes the slopes of the rows that read one of the assigned discrete variables and are marked.
+fn sum_marked_readers(at: &NewLevels, handled: &HandlerResult, slopes: &mut [i128])
+    requires uses { at.now.uses.now ≡ uses_of at.now.machine.now }
+    requires variables { AreVariablesOf at.now.machine.now handled.now.assigned.now }
+    requires allowed { CanAddUp at.now.machine.now at.now.levels.now handled.now.discretes.now
         slopes.old }
-    ensures { AreReaderSums (IsSlopeAt m.now levels.now d.now) m.now variables.now slopes.old
+    requires marked { AreAssignedOrMarked (IsNewSlope at.now handled.now) at.now handled.now
+        slopes.old }
+    ensures { AreAssignedSums (IsNewSlope at.now handled.now) at.now handled.now slopes.old
         slopes.new }
 {
-    for var in variables {
-        sum_marked_rows(m, uses.rows_of(*var), levels, d, slopes);
+    for var in handled.assigned {
+        sum_marked_rows(at, at.uses.rows_of(*var), handled, slopes);
     }
 }
 
 // Computes the slopes of these rows that are marked, from all of their terms.
-fn sum_marked_rows(m: &Machine, rows: &[u32], levels: &[i64], d: &[i64], slopes: &mut [i128])
-    requires rows { All (λ row. row < state_count m.now) rows.now }
-    requires allowed { CanAddUp m.now levels.now d.now slopes.old }
-    requires marked { AreMarkedOr (IsSlopeAt m.now levels.now d.now) rows.now slopes.old }
-    ensures { IsWritten (pos 0) (IsSlopeAt m.now levels.now d.now) rows.now slopes.old
-        slopes.new }
+fn sum_marked_rows(at: &NewLevels, rows: &[u32], handled: &HandlerResult, slopes: &mut [i128])
+    requires rows { All (λ row. row < state_count at.now.machine.now) rows.now }
+    requires allowed { CanAddUp at.now.machine.now at.now.levels.now handled.now.discretes.now
+        slopes.old }
+    requires marked { AreMarkedOr (IsNewSlope at.now handled.now) rows.now slopes.old }
+    ensures { IsWritten (pos 0) (IsNewSlope at.now handled.now) rows.now slopes.old slopes.new }
 {
     for row in rows {
         if !is_sum_marked(slopes[*row as usize]) {
             continue;
         }
-        slopes[*row as usize] = m.slope(*row, levels, d);
+        slopes[*row as usize] = at.machine.slope(*row, at.levels, handled.discretes);
     }
 }
 
 // Restarts the lines of the moved states at a tick.
 fn restart_state_slopes<L: Ledger>(
     at: &NewSlopes,
-    x: &[i128],
     lines: &mut [Integrator],
     agenda: &mut Agenda,
     steps: &mut Steps<L>,
 )
     requires on { CanSchedule at.now lines.old agenda.old }
-    requires states { AreStatesOf at.now.event.machine.now x.now }
+    requires states { AreStatesOf at.now.event.machine.now at.now.handled.states.now }
     requires may_move { MayMove at.now.event.tick lines.old }
     requires near { (j : ℕ) → is_listed at.now.event.moved.now j ≡ true
-        → IsLineWithinQuantum (level_unit at.now.event.machine.now) (int_at x.now j)
-        (int_at at.now.event.levels.now j)
+        → IsLineWithinQuantum (level_unit at.now.event.machine.now)
+        (int_at at.now.handled.states.now j) (int_at at.now.event.levels.now j)
         (quantum_of at.now.event.machine.now j (int_at at.now.event.levels.now j)) }
     ensures go_on { AreScheduled at.now.event.machine.now at.now.event.tick
-        at.now.event.levels.now at.now.slopes.now at.now.event.moved.now (int_at x.now)
+        at.now.event.levels.now at.now.slopes.now at.now.event.moved.now
+        (int_at at.now.handled.states.now)
         (record { lines = lines.old; dues = agenda.old })
         (record { lines = lines.new; dues = agenda.new }) }
     ensures kept { (j : ℕ)
-        → goes_from at.now.event.tick (int_at x.now j) (int_at at.now.event.levels.now j)
-        (int_at at.now.slopes.now j)
+        → goes_from at.now.event.tick (int_at at.now.handled.states.now j)
+        (int_at at.now.event.levels.now j) (int_at at.now.slopes.now j)
         (line_at lines.old j) ≡ true
         → line_at lines.new j ≡ line_at lines.old j }
     ensures counted { (states : List ℤ)
-        → ((j : ℕ) → is_listed at.now.event.moved.now j ≡ true → int_at states j ≡ int_at x.now j)
+        → ((j : ℕ) → is_listed at.now.event.moved.now j ≡ true
+        → int_at states j ≡ int_at at.now.handled.states.now j)
         → IsCountedFrom (state_count at.now.event.machine.now) at.now.event.tick states
         at.now.event.levels.now at.now.slopes.now lines.old lines.new steps.old steps.new }
 {
     for j in at.event.moved {
-        restart_state_slope(at, *j, x, lines, agenda, steps);
+        restart_state_slope(at, *j, lines, agenda, steps);
     }
 }
 
@@ -198,33 +168,32 @@ fn restart_state_slopes<L: Ledger>(
 fn restart_state_slope<L: Ledger>(
     at: &NewSlopes,
     j: u32,
-    x: &[i128],
     lines: &mut [Integrator],
     agenda: &mut Agenda,
     steps: &mut Steps<L>,
 )
     requires allowed { CanScheduleOne at.now j lines.old agenda.old }
-    requires states { AreStatesOf at.now.event.machine.now x.now }
+    requires states { AreStatesOf at.now.event.machine.now at.now.handled.states.now }
     requires later { (line_at lines.old j).tick ≤ at.now.event.tick }
     requires size_limit { IsWithin 89 (state_at (line_at lines.old j) at.now.event.tick) }
-    requires near { IsLineWithinQuantum (level_unit at.now.event.machine.now) (int_at x.now j)
-        (int_at at.now.event.levels.now j)
+    requires near { IsLineWithinQuantum (level_unit at.now.event.machine.now)
+        (int_at at.now.handled.states.now j) (int_at at.now.event.levels.now j)
         (quantum_of at.now.event.machine.now j (int_at at.now.event.levels.now j)) }
     ensures goes_on { IsOneScheduled at.now.event.machine.now at.now.event.tick
-        at.now.event.levels.now at.now.slopes.now j (int_at x.now j)
+        at.now.event.levels.now at.now.slopes.now j (int_at at.now.handled.states.now j)
         (record { lines = lines.old; dues = agenda.old })
         (record { lines = lines.new; dues = agenda.new }) }
-    ensures kept { goes_from at.now.event.tick (int_at x.now j) (int_at at.now.event.levels.now j)
-        (int_at at.now.slopes.now j)
+    ensures kept { goes_from at.now.event.tick (int_at at.now.handled.states.now j)
+        (int_at at.now.event.levels.now j) (int_at at.now.slopes.now j)
         (line_at lines.old j) ≡ true
         → line_at lines.new j ≡ line_at lines.old j }
-    ensures counted { (states : List ℤ) → int_at states j ≡ int_at x.now j
+    ensures counted { (states : List ℤ) → int_at states j ≡ int_at at.now.handled.states.now j
         → IsCountedFrom (state_count at.now.event.machine.now) at.now.event.tick states
         at.now.event.levels.now at.now.slopes.now lines.old lines.new steps.old steps.new }
 {
     let here = Integrator {
         tick: at.event.tick,
-        x: x[j as usize],
+        x: at.handled.states[j as usize],
         slope: at.slopes[j as usize],
         level: at.event.levels[j as usize],
     };
@@ -232,14 +201,10 @@ fn restart_state_slope<L: Ledger>(
     agenda.set(j, event_tick_leaving_level(at.event.machine, j, &here));
 }
 
-/// Replaces a line by `here`, from the tick of `here` on, unless it already continues in this way.
-/// It returns whether it was replaced.
+// Replaces a line by `here`, from the tick of `here` on, unless it already continues in this way.
+// It returns whether it was replaced.
 #[inline(always)]
-pub(crate) fn replace_line<L: Ledger>(
-    line: &mut Integrator,
-    here: &Integrator,
-    steps: &mut Steps<L>,
-) -> bool
+fn replace_line<L: Ledger>(line: &mut Integrator, here: &Integrator, steps: &mut Steps<L>) -> bool
     requires later { line.old.tick ≤ here.now.tick }
     requires size_limit { IsWithin 89 (state_at line.old here.now.tick) }
     ensures moved { result ≡ true → (line.new ≡ here.now) × (steps.new ≡ steps.old + 1) }
@@ -258,10 +223,10 @@ pub(crate) fn replace_line<L: Ledger>(
     true
 }
 
-/// Continues the lines of the states whose rows read one of these variables from a tick at their
-/// new levels and slopes.
+// Continues the lines of the states whose rows read one of these variables from a tick at their
+// new levels and slopes.
 #[inline(always)]
-pub(crate) fn update_reader_slopes<L: Ledger>(
+fn update_reader_slopes<L: Ledger>(
     at: &NewSlopes,
     variables: &[u32],
     lines: &mut [Integrator],
@@ -345,15 +310,10 @@ fn update_slope<L: Ledger>(
     schedule_new_slope(at, j, lines, agenda);
 }
 
-/// Sets the slope and the level of a state whose line is at a tick, and schedules the tick at which
-/// it leaves its quantum.
+// Sets the slope and the level of a state whose line is at a tick, and schedules the tick at which
+// it leaves its quantum.
 #[inline(always)]
-pub(crate) fn schedule_new_slope(
-    at: &NewSlopes,
-    j: u32,
-    lines: &mut [Integrator],
-    agenda: &mut Agenda,
-)
+fn schedule_new_slope(at: &NewSlopes, j: u32, lines: &mut [Integrator], agenda: &mut Agenda)
     requires allowed { CanScheduleOne at.now j lines.old agenda.old }
     requires ready { MaySchedule at.now.event.machine.now at.now.event.tick j
         (int_at at.now.event.levels.now j) (line_at lines.old j) }

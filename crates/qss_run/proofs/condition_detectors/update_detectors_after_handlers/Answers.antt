@@ -35,12 +35,12 @@ update_detectors_of-requires c =
     let s : Store = c.args.s.now in
     let fits = c.requires.fits in
     let was = c.requires.before in
-    let full : List ℤ = states_at s.lines.items t in
+    let full : List ℤ = states_at s.states.lines.items t in
     let along = c.settle_detectors_after_handlers.ensures in
-    let are = same_settled m t s.lines.items c.as_slice.result.now s.work.d s.slopes.items c.as_slice-2.result.now (reinitialized_of s.work.log) s.assigned.items c.as_slice-3.result.now
+    let are = same_settled m t s.states.lines.items c.as_slice.result.now s.work.d s.states.slopes.items c.as_slice-2.result.now (reinitialized_of s.work.log) s.assigned.items c.as_slice-3.result.now
     s.changed.items c.as_slice-4.result.now (detector_states_of s.conditions s.agenda) (detector_states_of c.settle_detectors_after_handlers.new.self c.settle_detectors_after_handlers.new.agenda)
     c.as_slice.ensures.value c.as_slice-2.ensures.value c.as_slice-3.ensures.value c.as_slice-4.ensures.value along.after_handlers in
-    let there = each_watched m t s.moved.items (reinitialized_of s.work.log) s.assigned.items s.changed.items was.0 full was.1 s.work.d was.2 s.slopes.items (detector_states_of s.conditions s.agenda)
+    let there = each_watched m t s.moved.items (reinitialized_of s.work.log) s.assigned.items s.changed.items was.0 full was.1 s.work.d was.2 s.states.slopes.items (detector_states_of s.conditions s.agenda)
     (detector_states_of c.settle_detectors_after_handlers.new.self c.settle_detectors_after_handlers.new.agenda) was.3 are in
     let many : length c.settle_detectors_after_handlers.new.self.detectors.items ≡ length (conditions m) = along.after_handlers.many_watches ∙ fits.own_conditions.detectors in
     record {
@@ -68,7 +68,7 @@ returns-then-is_empty-clause-after_handlers c =
     let own = c.requires.fits.own_conditions in
     let is_empty = sym c.is_empty.ensures ∙ c.if-is_empty.true in
     let empty = eqb-true (vec_len all.detectors) 0 is_empty in
-    truths_are c.args.m.now (states_at c.args.s.now.lines.items c.args.tick) c.args.s.now.work.d
+    truths_are c.args.m.now (states_at c.args.s.now.states.lines.items c.args.tick) c.args.s.now.work.d
     c.args.tick all.after_handlers.items own.after_handlers
     (λ place h. absurd (omega (arith, h, empty, all.detectors.ok.0, own.detectors)))
 
@@ -79,24 +79,24 @@ returns c =
     let s : Store = c.args.s.now in
     let fits = c.requires.fits in
     let was = c.requires.before in
-    let full : List ℤ = states_at s.lines.items t in
+    let full : List ℤ = states_at s.states.lines.items t in
     let along = c.settle_detectors_after_handlers.ensures in
     let first : Conditions = c.settle_detectors_after_handlers.new.self in
     let last : Conditions = c.update_detectors_of.new.self in
     let new : Store = record s { conditions = last; agenda = c.update_detectors_of.new.agenda; work = c.settle_detectors_after_handlers.new.work } in
     let going = c.update_detectors_of.ensures.goes_on in
     let same = c.update_detectors_of.ensures.same in
-    let are = same_settled m t s.lines.items c.as_slice.result.now s.work.d s.slopes.items c.as_slice-2.result.now (reinitialized_of s.work.log) s.assigned.items c.as_slice-3.result.now
+    let are = same_settled m t s.states.lines.items c.as_slice.result.now s.work.d s.states.slopes.items c.as_slice-2.result.now (reinitialized_of s.work.log) s.assigned.items c.as_slice-3.result.now
     s.changed.items c.as_slice-4.result.now (detector_states_of s.conditions s.agenda) (detector_states_of first c.settle_detectors_after_handlers.new.agenda)
     c.as_slice.ensures.value c.as_slice-2.ensures.value c.as_slice-3.ensures.value c.as_slice-4.ensures.value along.after_handlers in
-    let there = each_watched m t s.moved.items (reinitialized_of s.work.log) s.assigned.items s.changed.items was.0 full was.1 s.work.d was.2 s.slopes.items (detector_states_of s.conditions s.agenda)
+    let there = each_watched m t s.moved.items (reinitialized_of s.work.log) s.assigned.items s.changed.items was.0 full was.1 s.work.d was.2 s.states.slopes.items (detector_states_of s.conditions s.agenda)
     (detector_states_of first c.settle_detectors_after_handlers.new.agenda) was.3 are in
     let many : length first.detectors.items ≡ length (conditions m) = along.after_handlers.many_watches ∙ fits.own_conditions.detectors in
     let still : last.after_handlers.items ≡ first.after_handlers.items = ap (λ (all : Conditions). all.after_handlers.items) same in
     let rest = rest_watched s.conditions first last along.rest same in
     let work = c.settle_detectors_after_handlers.ensures.work in
     let of_d : new.work.d ≡ s.work.d = ap (λ (v : Values). v.d) work in
-    let slopes : c.as_slice-2.result.now ≡ s.slopes.items = c.as_slice-2.ensures.value in
+    let slopes : c.as_slice-2.result.now ≡ s.states.slopes.items = c.as_slice-2.ensures.value in
     record {
       after_handlers = still
           ∙ truths_are m full s.work.d t first.after_handlers.items (along.after_handlers.many_truths ∙ fits.own_conditions.after_handlers) (λ place h. (there place h).own_truth);
@@ -105,7 +105,7 @@ returns c =
           subst (λ v. IsDetectorAt m t full s.work.d v place (detector_at last.detectors.items place) (due_at c.update_detectors_of.new.agenda (state_count m + place))) slopes
           (c.update_detectors_of.ensures.detectors full s.work.d here.before place h
           (subst (λ v. AreSlopesBefore m c.as_slice-5.result.now here.before v place) (sym slopes)
-          (subst (λ js. AreSlopesBefore m js here.before s.slopes.items place) (sym c.as_slice-5.ensures.value) here.slopes_before)) here.watched);
+          (subst (λ js. AreSlopesBefore m js here.before s.states.slopes.items place) (sym c.as_slice-5.ensures.value) here.slopes_before)) here.watched);
       kept = λ place h none own_speed.
           let before = are.kept place (among_settling m place h (reinitialized_of s.work.log) s.assigned.items s.changed.items ∙ none) in
           let on = going.each place (omega (arith, h, many)) in

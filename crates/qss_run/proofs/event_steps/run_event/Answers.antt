@@ -17,8 +17,8 @@ make_risen_due-requires-clause-ready g c =
     let own = fits.own_conditions in
     record {
       flipped = record { as_many = own.at_arrival ∙ sym own.after_handlers; count = own.flipped ∙ sym own.after_handlers; alike = c.requires.stands.alike };
-      places = omega (arith, fits.places, c.len-states.ensures, s.lines.ok.0, fits.lines, own.after_handlers);
-      few = omega (arith, c.len-states.ensures, s.lines.ok.0, fits.lines, m.has_variables.few, own.after_handlers, conditions_few m);
+      places = omega (arith, fits.places, c.len-states.ensures, s.states.lines.ok.0, fits.lines, own.after_handlers);
+      few = omega (arith, c.len-states.ensures, s.states.lines.ok.0, fits.lines, m.has_variables.few, own.after_handlers, conditions_few m);
     }
 
 pub make_risen_due-requires-clause-none_risen : goal.make_risen_due-requires-clause-none_risen
@@ -29,7 +29,7 @@ take_due_states-requires-clause-none_before g c =
     let s : Store = c.args.s.now in
     let fits = c.requires.stands.fits in
     none_called_before c.len-states.result (c.args.tick + 1) s.conditions s.agenda c.make_risen_due.new.agenda c.make_risen_due.ensures
-    (omega (arith, fits.places, c.len-states.ensures, s.lines.ok.0, fits.lines, fits.own_conditions.after_handlers))
+    (omega (arith, fits.places, c.len-states.ensures, s.states.lines.ok.0, fits.lines, fits.own_conditions.after_handlers))
     (λ place due e. omega (arith, dues_later c.args.m.now c.args.tick s c.requires.stands place due e))
 
 pub take_due_conditions-requires-clause-count_limit : goal.take_due_conditions-requires-clause-count_limit
@@ -38,7 +38,7 @@ take_due_conditions-requires-clause-count_limit g c =
     omega (
       arith,
       c.len-states.ensures,
-      s.lines.ok.0,
+      s.states.lines.ok.0,
       c.requires.stands.fits.lines,
       c.args.m.now.has_variables.few,
       c.len-conditions.ensures,
@@ -53,7 +53,7 @@ take_due_conditions-requires-clause-none_before g c =
     let fits = c.requires.stands.fits in
     none_left_before c.len-states.result (c.args.tick + 1) c.take_due_states.new.moved.items c.make_risen_due.new.agenda c.take_due_states.new.agenda c.take_due_states.ensures.due c.take_due_states.ensures.out.without
     (none_called_before c.len-states.result (c.args.tick + 1) s.conditions s.agenda c.make_risen_due.new.agenda c.make_risen_due.ensures
-    (omega (arith, fits.places, c.len-states.ensures, s.lines.ok.0, fits.lines, fits.own_conditions.after_handlers))
+    (omega (arith, fits.places, c.len-states.ensures, s.states.lines.ok.0, fits.lines, fits.own_conditions.after_handlers))
     (λ place due e. omega (arith, dues_later c.args.m.now c.args.tick s c.requires.stands place due e)))
 
 pub run_due_event-requires : goal.run_due_event-requires
@@ -61,7 +61,7 @@ run_due_event-requires g c =
     let m = c.args.m.now in
     let s : Store = c.args.s.now in
     let fits = c.requires.stands.fits in
-    let states : c.len-states.result ≡ state_count m = omega (arith, c.len-states.ensures, s.lines.ok.0, fits.lines) in
+    let states : c.len-states.result ≡ state_count m = omega (arith, c.len-states.ensures, s.states.lines.ok.0, fits.lines) in
     let places : c.len-conditions.result ≡ length (conditions m) = omega (arith, c.len-conditions.ensures, s.conditions.branches.ok.0, fits.own_conditions.branches.as_many) in
     record {
       taken = (
@@ -81,7 +81,7 @@ returns-clause-visited g c =
 pub returns-clause-kept : goal.returns-clause-kept
 returns-clause-kept g c none j inside unaffected =
     let s : Store = c.args.s.now in
-    let known : j < c.len-states.result = omega (arith, inside, c.len-states.ensures, s.lines.ok.0, c.requires.stands.fits.lines) in
+    let known : j < c.len-states.result = omega (arith, inside, c.len-states.ensures, s.states.lines.ok.0, c.requires.stands.fits.lines) in
     let kept = c.run_due_event.ensures.kept none j inside unaffected in (
       kept.0,
       kept.1 ∙ c.take_due_conditions.ensures.taken.before j known ∙ c.take_due_states.ensures.out.without.others j kept.2 ∙ c.make_risen_due.ensures.states j known,

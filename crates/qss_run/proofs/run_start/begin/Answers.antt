@@ -15,7 +15,7 @@ start-requires-clause-levels c =
     let fits = c.requires.fits in
     let rest = c.start_lines_and_detectors.ensures.rest in
     let of_d = c.as_slice-d.ensures.value ∙ ap (λ (v : Values). v.d) c.work.view_is ∙ ap (λ (z : Store). z.work.d) rest in
-    let of_levels = c.as_slice.ensures.value ∙ ap (λ (z : Store). z.levels.items) rest in
+    let of_levels = c.as_slice.ensures.value ∙ ap (λ (z : Store). z.states.levels.items) rest in
     record {
       levels = ap length of_levels ∙ fits.levels;
       discretes = ap length of_d ∙ fits.values.discretes;
@@ -27,7 +27,7 @@ pub start-requires-clause-light : goal.start-requires-clause-light
 start-requires-clause-light c =
     let rest = c.start_lines_and_detectors.ensures.rest in
     light_at c.args.m.now c.as_slice.result.now c.as_slice-d.result.now
-    (c.as_slice.ensures.value ∙ ap (λ (z : Store). z.levels.items) rest ∙ c.requires.levels)
+    (c.as_slice.ensures.value ∙ ap (λ (z : Store). z.states.levels.items) rest ∙ c.requires.levels)
     (c.as_slice-d.ensures.value ∙ ap (λ (v : Values). v.d) c.work.view_is ∙ ap (λ (z : Store). z.work.d) rest ∙ c.requires.discretes)
 
 pub returns : goal.returns
@@ -39,14 +39,16 @@ returns c =
     let did = c.start_lines_and_detectors.ensures in
     let left : Store = c.start_lines_and_detectors.new.s in
     let next : Store = record s {
-      lines = left.lines;
-      slopes = left.slopes;
-      weights = c.start.new.self;
+      states = record s.states {
+        lines = left.states.lines;
+        slopes = left.states.slopes;
+        weights = c.start.new.self;
+      };
       conditions = left.conditions;
       agenda = left.agenda;
       rows = c.set_all_rows.new.rows;
     } in
-    let same : record left { weights = next.weights; rows = next.rows } ≡ next = ap (λ (z : Store). record z { weights = next.weights; rows = next.rows }) did.rest in
+    let same : record left { states = record left.states { weights = next.states.weights }; rows = next.rows } ≡ next = ap (λ (z : Store). record z { states = record z.states { weights = next.states.weights }; rows = next.rows }) did.rest in
     let good : FitsMachine m next = record {
       own_conditions = did.fits;
       uses = fits.uses;
@@ -66,15 +68,15 @@ returns c =
         rows = omega (arith, c.set_all_rows.ensures.room, ap (λ (z : Store). z.rows.cap) did.rest, fits.room.rows);
       };
     } in
-    let levels = c.as_slice.ensures.value ∙ ap (λ (z : Store). z.levels.items) did.rest in
-    let levels_again = c.as_slice-2.ensures.value ∙ ap (λ (z : Store). z.levels.items) did.rest ∙ blank.levels in
+    let levels = c.as_slice.ensures.value ∙ ap (λ (z : Store). z.states.levels.items) did.rest in
+    let levels_again = c.as_slice-2.ensures.value ∙ ap (λ (z : Store). z.states.levels.items) did.rest ∙ blank.levels in
     let of_d = c.as_slice-d.ensures.value ∙ ap (λ (v : Values). v.d) c.work.view_is ∙ ap (λ (z : Store). z.work.d) did.rest in
     let arrived : next.conditions.at_arrival.items ≡ next.conditions.after_handlers.items = did.at_arrival in
     let again = stands_again m 0 next s.work.x fits.values.states good
     (λ j inside. subst (λ l. IsWithin 43 (int_at l j)) (sym blank.levels) (levels_start m j (pos 0) (omega (arith, inside, count_start m))))
-    (light_at m next.levels.items next.work.d blank.levels blank.discretes)
+    (light_at m next.states.levels.items next.work.d blank.levels blank.discretes)
     did.set_out.slopes
-    (subst (λ d. AreWeights m s.levels.items d next.weights) of_d (subst (λ l. AreWeights m l c.as_slice-d.result.now next.weights) levels c.start.ensures.weights))
+    (subst (λ d. AreWeights m s.states.levels.items d next.states.weights) of_d (subst (λ l. AreWeights m l c.as_slice-d.result.now next.states.weights) levels c.start.ensures.weights))
     did.set_out.lines
     did.after_handlers
     did.detectors

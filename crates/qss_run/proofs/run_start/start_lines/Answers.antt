@@ -38,7 +38,7 @@ loop-j-init c =
     let of_x = c.as_slice-x.ensures.value ∙ ap (λ (v : Values). v.x) c.work.view_is in
     let of_d = c.as_slice-d.ensures.value ∙ ap (λ (v : Values). v.d) c.work.view_is in
     record {
-      ready = can_start c.args.m.now s.work.x _ s.levels.items _ s.work.d _ of_x c.as_slice-levels.ensures.value of_d c.requires.ready;
+      ready = can_start c.args.m.now s.work.x _ s.states.levels.items _ s.work.d _ of_x c.as_slice-levels.ensures.value of_d c.requires.ready;
       all = ap length c.as_mut_slice-lines.ensures.value ∙ c.requires.one_each.lines;
       slope_count = ap length c.as_mut_slice-slopes.ensures.value ∙ c.requires.one_each.slopes;
       own_slopes = λ k h. absurd (omega (arith, h));
@@ -130,8 +130,8 @@ returns-clause-set_out c =
     let all = c.loop-j.invariant.all in
     let of_x : c.as_slice-x.result.now ≡ s.work.x = c.as_slice-x.ensures.value ∙ ap (λ (v : Values). v.x) c.work.view_is in
     let of_d : c.as_slice-d.result.now ≡ s.work.d = c.as_slice-d.ensures.value ∙ ap (λ (v : Values). v.d) c.work.view_is in
-    let of_slopes = with_items_is s.slopes slopes (c.loop-j.auto.slopes ∙ c.as_mut_slice-slopes.ensures.len) in
-    let of_lines = with_items_is s.lines after (c.loop-j.auto.lines ∙ c.as_mut_slice-lines.ensures.len) in
+    let of_slopes = with_items_is s.states.slopes slopes (c.loop-j.auto.slopes ∙ c.as_mut_slice-slopes.ensures.len) in
+    let of_lines = with_items_is s.states.lines after (c.loop-j.auto.lines ∙ c.as_mut_slice-lines.ensures.len) in
     rw (of_slopes, of_lines, ← of_x, ← c.as_slice-levels.ensures.value, ← of_d)
     (record {
       slopes = fill_by_all (λ j. slope_at m j c.as_slice-levels.result.now c.as_slice-d.result.now) slopes (state_count m) (pos 0) c.loop-j.invariant.slope_count
@@ -144,7 +144,7 @@ returns-clause-one_each c =
     let s : Store = c.args.s.now in
     let one_each = c.requires.one_each in
     record {
-      slopes = same_length s.slopes c.loop-j.slopes ∙ one_each.slopes;
-      lines = same_length s.lines c.loop-j.lines ∙ one_each.lines;
+      slopes = same_length s.states.slopes c.loop-j.slopes ∙ one_each.slopes;
+      lines = same_length s.states.lines c.loop-j.lines ∙ one_each.lines;
       places = omega (arith, c.loop-j.invariant.place_count, one_each.places);
     }

@@ -1,12 +1,12 @@
 -- The values of the start are within the limits.
 use Rattle.qss_run.proofs.Common
-use Common.{ℕ, ℤ, ◌+◌, ◌<◌, ◌∙◌, ◌≡◌, All, ap, AreConditionsOf, AreWithin, arith, Bool, Conditions}
-use Common.{conditions, detector_at, DiscreteInfo, discretes_start, due_at, Global, int_at}
-use Common.{IsDetectorAt, IsLineWithinQuantum, IsRestartedFrom, IsWithin, length, length-map}
-use Common.{level_unit, levels_start, light_at, line_at, List, Machine, quantum_of, refl}
-use Common.{same_length, slope_at, slopes_small, start_discretes, start_states, state_count}
-use Common.{StateInfo, states_start, Store, subst, sym, truths, Values, Vec, with_items}
-use Common.{with_items_is}
+use Common.{ℕ, ℤ, ◌+◌, ◌<◌, ◌∙◌, ◌≡◌, All, ap, AreConditionsOf, arith, Bool, Conditions, conditions}
+use Common.{detector_at, DiscreteInfo, discretes_start, due_at, Global, int_at, IsDetectorAt}
+use Common.{IsLineWithinQuantum, IsRestartedFrom, IsWithin, length, length-map, level_unit}
+use Common.{levels_start, light_at, line_at, List, Machine, quantum_of, refl, same_length, slope_at}
+use Common.{slopes_small, start_discretes, start_states, state_count, StateInfo, states_start}
+use Common.{Store, subst, sym, truths, Values, Vec, with_items, with_items_is}
+use Rattle.qss_states.specs.Variables.{AreWithin}
 use Rattle.qss_machine.proofs.Near.{start_near}
 use Rattle.qss_run.proofs.OwnConditions.{arrived_anew}
 use Rattle.qss_run.proofs.run_start.start_lines_and_detectors.Goals as goal
@@ -30,8 +30,8 @@ start_lines-requires-clause-ready c =
       values = blank.fits.values;
       one_each = blank.fits.levels;
       small_levels = subst (All (IsWithin 43)) (sym blank.levels) (levels_start m);
-      light = light_at m s.levels.items s.work.d blank.levels blank.discretes;
-      near = subst (λ x. near_by x s.levels.items) (sym blank.states) (subst (near_by (start_states m)) (sym blank.levels) (start_near m));
+      light = light_at m s.states.levels.items s.work.d blank.levels blank.discretes;
+      near = subst (λ x. near_by x s.states.levels.items) (sym blank.states) (subst (near_by (start_states m)) (sym blank.levels) (start_near m));
     }
 
 pub start_lines-requires-clause-one_each : goal.start_lines-requires-clause-one_each
@@ -52,7 +52,7 @@ set_all_detectors-requires c =
         values = start_within m c.as_slice.result.now c.as_slice-2.result.now of_x of_d;
         slopes = record {
           as_many = ap length c.as_slice-3.ensures.value ∙ c.start_lines.ensures.one_each.slopes;
-          small = slopes_small m s.levels.items s.work.d s.work.d c.as_slice-3.result.now (light_at m s.levels.items s.work.d blank.levels blank.discretes) refl
+          small = slopes_small m s.states.levels.items s.work.d s.work.d c.as_slice-3.result.now (light_at m s.states.levels.items s.work.d blank.levels blank.discretes) refl
               (c.as_slice-3.ensures.value ∙ c.start_lines.ensures.set_out.slopes);
         };
         in_time = omega arith;
@@ -74,7 +74,7 @@ returns c =
     let dues = c.set_all_detectors.new.agenda in
     let arrived : Vec Bool Global = with_items own.at_arrival c.copy_from_slice.new.self in
     let all : Conditions = record own { at_arrival = arrived } in
-    let rest : record left { conditions = all; agenda = dues } ≡ record s { conditions = all; lines = left.lines; slopes = left.slopes; agenda = dues } = ap (λ (z : Store). record z { conditions = all; agenda = dues }) c.start_lines.ensures.rest in
+    let rest : record left { conditions = all; agenda = dues } ≡ record s { conditions = all; states = record s.states { lines = left.states.lines; slopes = left.states.slopes }; agenda = dues } = ap (λ (z : Store). record z { conditions = all; agenda = dues }) c.start_lines.ensures.rest in
     let of_x : c.as_slice.result.now ≡ s.work.x = c.as_slice.ensures.value ∙ ap (λ (v : Values). v.x) c.work.view_is ∙ ap (λ (z : Store). z.work.x) c.start_lines.ensures.rest in
     let of_d : c.as_slice-2.result.now ≡ s.work.d = c.as_slice-2.ensures.value ∙ ap (λ (v : Values). v.d) c.work.view_is ∙ ap (λ (z : Store). z.work.d) c.start_lines.ensures.rest in
     let behind : ℕ = state_count m + length (conditions m) in
@@ -82,14 +82,14 @@ returns c =
       set_out = record {
         slopes = c.start_lines.ensures.set_out.slopes;
         lines = λ j h.
-            subst (IsRestartedFrom m 0 (int_at s.work.x j) (int_at s.levels.items j) (slope_at m j s.levels.items s.work.d) j (line_at left.lines.items j)) (sym (c.set_all_detectors.ensures.others j h))
+            subst (IsRestartedFrom m 0 (int_at s.work.x j) (int_at s.states.levels.items j) (slope_at m j s.states.levels.items s.work.d) j (line_at left.states.lines.items j)) (sym (c.set_all_detectors.ensures.others j h))
             (c.start_lines.ensures.set_out.lines j h);
       };
       at_arrival = with_items_is own.at_arrival c.copy_from_slice.new.self (c.copy_from_slice.ensures.len ∙ c.as_mut_slice.ensures.len) ∙ c.copy_from_slice.ensures.after ∙ c.as_slice-after_handlers.ensures.value;
       after_handlers = c.set_all_detectors.ensures.after_handlers ∙ ap (λ x. truths m x c.as_slice-2.result.now 0) of_x ∙ ap (λ d. truths m s.work.x d 0) of_d;
       detectors = λ place h.
-          subst (λ x. IsDetectorAt m 0 x s.work.d left.slopes.items place (detector_at own.detectors.items place) (due_at dues (state_count m + place))) of_x
-          (subst (λ d. IsDetectorAt m 0 c.as_slice.result.now d left.slopes.items place (detector_at own.detectors.items place) (due_at dues (state_count m + place))) of_d
+          subst (λ x. IsDetectorAt m 0 x s.work.d left.states.slopes.items place (detector_at own.detectors.items place) (due_at dues (state_count m + place))) of_x
+          (subst (λ d. IsDetectorAt m 0 c.as_slice.result.now d left.states.slopes.items place (detector_at own.detectors.items place) (due_at dues (state_count m + place))) of_d
           (subst (λ v. IsDetectorAt m 0 c.as_slice.result.now c.as_slice-2.result.now v place (detector_at own.detectors.items place) (due_at dues (state_count m + place))) c.as_slice-3.ensures.value
           (c.set_all_detectors.ensures.detectors place h)));
       rising = c.set_all_detectors.ensures.beyond behind (omega arith) ∙ c.start_lines.ensures.others behind (omega arith) ∙ blank.no_dues behind;

@@ -10,7 +10,7 @@ loop-row-preserved-then-not-is_sum_marked c =
     let i = c.loop-row.row-index in
     let rows = c.args.rows.now in
     let old = c.args.weights.now in
-    let Has = IsWeighed c.args.m.now c.args.levels.now c.args.d.now in
+    let Has = IsWeighed c.args.at.now.machine.now c.args.at.now.levels.now c.args.handled.now.discretes.now in
     let still =
     still_known Has rows _ old c.loop-row.weights c.requires.marked c.loop-row.invariant in
     one_known Has rows old c.loop-row.weights i c.loop-row-test.true c.loop-row.invariant
@@ -21,7 +21,7 @@ loop-row-preserved-then-not-is_sum_marked c =
 
 pub loop-row-preserved : goal.loop-row-preserved
 loop-row-preserved c =
-    let m = c.args.m.now in
+    let m = c.args.at.now.machine.now in
     let i = c.loop-row.row-index in
     let row : ℕ = get_or c.args.rows.now i 0 in
     let known : row < state_count m = c.requires.rows i 0 c.loop-row-test.true in
@@ -29,7 +29,7 @@ loop-row-preserved c =
     record { sfits = c.weigh_kept_row.type_inv } in
     let inside : row < length c.loop-row.weights =
     omega (arith, known, c.loop-row.invariant.as_many, c.requires.allowed.one_each) in
-    let Has = IsWeighed m c.args.levels.now c.args.d.now in
+    let Has = IsWeighed m c.args.at.now.levels.now c.args.handled.now.discretes.now in
     written_more (pos 0) Has c.args.rows.now c.args.weights.now c.loop-row.weights i _
     c.loop-row-test.true inside c.loop-row.invariant
     (subst (Has row) (sym (to_z-of_z w128 c.weigh_kept_row.result fits)) c.weigh_kept_row.ensures)

@@ -12,7 +12,7 @@ use Rattle.qss_states.proofs.slope_updates.restart_state_slope.Goals as goal
 
 pub event_tick_leaving_level-requires-clause-near : goal.event_tick_leaving_level-requires-clause-near
 event_tick_leaving_level-requires-clause-near g c =
-    near_along c.args.at.now.event.machine.now c.args.j _ (int_at c.args.x.now c.args.j) _ (int_at c.args.at.now.event.levels.now c.args.j) (state_read c.requires.allowed c.args.x.now c.requires.states)
+    near_along c.args.at.now.event.machine.now c.args.j _ (int_at c.args.at.now.handled.states.now c.args.j) _ (int_at c.args.at.now.event.levels.now c.args.j) (state_read c.requires.allowed c.args.at.now.handled.states.now c.requires.states)
     (level_read c.requires.allowed) c.requires.near
 
 pub returns-clause-goes_on : goal.returns-clause-goes_on
@@ -23,11 +23,11 @@ returns-clause-goes_on g c =
     let lines = c.args.lines.now in
     let begun : (get_or lines j c.index-lines-j.result).tick ≤ tick = omega (arith, c.requires.later, ap (λ (l : Line). l.tick) (line_read c.requires.allowed c.index-lines-j.result)) in
     let along = as_here c.replace_line.ensures.moved c.replace_line.ensures.kept c.replace_line.ensures.left begun in
-    one_set m tick c.args.at.now.event.levels.now c.args.at.now.slopes.now j (int_at c.args.x.now j) lines c.replace_line.new.line c.args.agenda.now c.set.new.self c.event_tick_leaving_level.result
+    one_set m tick c.args.at.now.event.levels.now c.args.at.now.slopes.now j (int_at c.args.at.now.handled.states.now j) lines c.replace_line.new.line c.args.agenda.now c.set.new.self c.event_tick_leaving_level.result
     (has_line c.requires.allowed) (has_place c.requires.allowed) c.set.ensures
     (record {
       not_later = along.not_later;
-      here = along.here ∙ line_here tick _ _ (int_at c.args.at.now.event.levels.now j) ∙ state_read c.requires.allowed c.args.x.now c.requires.states;
+      here = along.here ∙ line_here tick _ _ (int_at c.args.at.now.event.levels.now j) ∙ state_read c.requires.allowed c.args.at.now.handled.states.now c.requires.states;
       own_slope = along.same_slope ∙ slope_read c.requires.allowed;
       own_level = along.same_level ∙ level_read c.requires.allowed;
       is_due = due_alike m tick j _ c.replace_line.new.line c.event_tick_leaving_level.result (omega arith) along.not_later along.here along.same_slope along.same_level c.event_tick_leaving_level.ensures;
@@ -38,7 +38,7 @@ returns-clause-kept g c so =
     let can = c.requires.allowed in
     get_or-set_same c.args.lines.now c.args.j c.replace_line.new.line no_line (has_line can)
     ∙ left_so c.replace_line.ensures.moved c.replace_line.ensures.kept c.replace_line.ensures.left
-    (rw (state_read can c.args.x.now c.requires.states, level_read can, slope_read can, line_read can c.index-lines-j.result) so)
+    (rw (state_read can c.args.at.now.handled.states.now c.requires.states, level_read can, slope_read can, line_read can c.index-lines-j.result) so)
     ∙ line_read can c.index-lines-j.result
 
 pub returns-clause-counted : goal.returns-clause-counted
@@ -51,7 +51,7 @@ returns-clause-counted g c states at =
     let lines = c.args.lines.now in
     let on = returns-clause-goes_on g c in
     let few : c.replace_line.new.steps ≡ c.args.steps.now + one_if (not (goes_from tick (int_at states j) level slope (line_at lines j))) =
-    rw at (rw (state_read can c.args.x.now c.requires.states, level_read can, slope_read can, line_read can c.index-lines-j.result) at
+    rw at (rw (state_read can c.args.at.now.handled.states.now c.requires.states, level_read can, slope_read can, line_read can c.index-lines-j.result) at
     (counted_so c.replace_line.ensures.moved c.replace_line.ensures.kept c.replace_line.ensures.left)) in
     one_renewed (state_count c.args.at.now.event.machine.now) j (λ k. goes_from tick (int_at states k) (int_at c.args.at.now.event.levels.now k) (int_at c.args.at.now.slopes.now k)) lines
     (set lines j c.replace_line.new.line) c.args.steps.now c.replace_line.new.steps can.known

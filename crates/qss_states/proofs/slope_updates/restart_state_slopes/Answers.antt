@@ -9,7 +9,7 @@ use Rattle.qss_states.proofs.slope_updates.restart_state_slopes.Goals as goal
 
 pub loop-j-init : goal.loop-j-init
 loop-j-init g c = record {
-  on = none_go_on c.args.at.now.event.machine.now c.args.at.now.event.tick c.args.at.now.event.levels.now c.args.at.now.slopes.now (int_at c.args.x.now) (record { lines = c.args.lines.now; dues = c.args.agenda.now });
+  on = none_go_on c.args.at.now.event.machine.now c.args.at.now.event.tick c.args.at.now.event.levels.now c.args.at.now.slopes.now (int_at c.args.at.now.handled.states.now) (record { lines = c.args.lines.now; dues = c.args.agenda.now });
   kept = λ j so. refl;
   line_count = c.requires.on.one_each.lines;
   counted = λ states at. refl;
@@ -29,7 +29,7 @@ restart_state_slope-requires-clause-later g c =
     let before : Schedules = record { lines = c.loop-j.lines; dues = c.loop-j.agenda } in
     let j : ℕ = get_or c.args.at.now.event.moved.now i 0 in
     let known : j < state_count c.args.at.now.event.machine.now = c.requires.on.new.moved.below i 0 c.loop-j-test.true in
-    still_begun c.args.at.now.event.machine.now c.args.at.now.event.tick c.args.x.now c.args.at.now.event.levels.now c.args.at.now.slopes.now (take i c.args.at.now.event.moved.now) first before c.loop-j.invariant.on j
+    still_begun c.args.at.now.event.machine.now c.args.at.now.event.tick c.args.at.now.handled.states.now c.args.at.now.event.levels.now c.args.at.now.slopes.now (take i c.args.at.now.event.moved.now) first before c.loop-j.invariant.on j
     (c.requires.may_move.later j (omega (arith, known, c.requires.on.one_each.lines)))
 
 pub restart_state_slope-requires-clause-size_limit : goal.restart_state_slope-requires-clause-size_limit
@@ -39,8 +39,8 @@ restart_state_slope-requires-clause-size_limit g c =
     let before : Schedules = record { lines = c.loop-j.lines; dues = c.loop-j.agenda } in
     let j : ℕ = get_or c.args.at.now.event.moved.now i 0 in
     let known : j < state_count c.args.at.now.event.machine.now = c.requires.on.new.moved.below i 0 c.loop-j-test.true in
-    let small_x : IsWithin 88 (int_at c.args.x.now j) = c.requires.states.small j (pos 0) (omega (arith, known, c.requires.states.as_many)) in
-    still_small c.args.at.now.event.machine.now c.args.at.now.event.tick c.args.x.now c.args.at.now.event.levels.now c.args.at.now.slopes.now (take i c.args.at.now.event.moved.now) first before c.loop-j.invariant.on j small_x
+    let small_x : IsWithin 88 (int_at c.args.at.now.handled.states.now j) = c.requires.states.small j (pos 0) (omega (arith, known, c.requires.states.as_many)) in
+    still_small c.args.at.now.event.machine.now c.args.at.now.event.tick c.args.at.now.handled.states.now c.args.at.now.event.levels.now c.args.at.now.slopes.now (take i c.args.at.now.event.moved.now) first before c.loop-j.invariant.on j small_x
     (c.requires.may_move.small j (omega (arith, known, c.requires.on.one_each.lines)))
 
 pub restart_state_slope-requires-clause-near : goal.restart_state_slope-requires-clause-near
@@ -56,9 +56,9 @@ loop-j-preserved g c =
     let before : Schedules = record { lines = c.loop-j.lines; dues = c.loop-j.agenda } in
     let after : Schedules = record { lines = c.restart_state_slope.new.lines; dues = c.restart_state_slope.new.agenda } in
     record {
-      on = one_more m c.args.at.now.event.tick c.args.at.now.event.levels.now c.args.at.now.slopes.now (int_at c.args.x.now) c.args.at.now.event.moved.now i first before after c.loop-j-test.true inv.on
+      on = one_more m c.args.at.now.event.tick c.args.at.now.event.levels.now c.args.at.now.slopes.now (int_at c.args.at.now.handled.states.now) c.args.at.now.event.moved.now i first before after c.loop-j-test.true inv.on
           c.restart_state_slope.ensures.goes_on;
-      kept = left_more m c.args.at.now.event.tick c.args.x.now c.args.at.now.event.levels.now c.args.at.now.slopes.now (get_or c.args.at.now.event.moved.now i 0) first before after inv.kept
+      kept = left_more m c.args.at.now.event.tick c.args.at.now.handled.states.now c.args.at.now.event.levels.now c.args.at.now.slopes.now (get_or c.args.at.now.event.moved.now i 0) first before after inv.kept
           c.restart_state_slope.ensures.goes_on.others c.restart_state_slope.ensures.kept;
       line_count = omega (arith, inv.line_count, c.restart_state_slope.auto.lines);
       counted = λ states at.
@@ -69,6 +69,6 @@ loop-j-preserved g c =
 
 pub returns-clause-go_on : goal.returns-clause-go_on
 returns-clause-go_on g c =
-    subst (λ (moved : List ℕ). AreScheduled c.args.at.now.event.machine.now c.args.at.now.event.tick c.args.at.now.event.levels.now c.args.at.now.slopes.now moved (int_at c.args.x.now)
+    subst (λ (moved : List ℕ). AreScheduled c.args.at.now.event.machine.now c.args.at.now.event.tick c.args.at.now.event.levels.now c.args.at.now.slopes.now moved (int_at c.args.at.now.handled.states.now)
     (record { lines = c.args.lines.now; dues = c.args.agenda.now }) (record { lines = c.loop-j.lines; dues = c.loop-j.agenda }))
     (take_all c.loop-j.j-index c.args.at.now.event.moved.now c.loop-j-test.false) c.loop-j.invariant.on

@@ -9,13 +9,13 @@ use Rattle.qss_states.proofs.slope_updates.sum_marked_rows.Goals as goal
 
 pub loop-row-preserved-then-not-is_sum_marked : goal.loop-row-preserved-then-not-is_sum_marked
 loop-row-preserved-then-not-is_sum_marked c =
-    let m = c.args.m.now in
+    let m = c.args.at.now.machine.now in
     let i = c.loop-row.row-index in
     let inv = c.loop-row.invariant in
     let rows = c.args.rows.now in
     let old = c.args.slopes.now in
     let row : ℕ = get_or rows i 0 in
-    let Has : ℕ → ℤ → Type 0 = IsSlopeAt m c.args.levels.now c.args.d.now in
+    let Has : ℕ → ℤ → Type 0 = IsSlopeAt m c.args.at.now.levels.now c.args.handled.now.discretes.now in
     let still = still_known Has rows _ old c.loop-row.slopes c.requires.marked inv.written in
     record {
       written = one_known Has rows old c.loop-row.slopes i c.loop-row-test.true inv.written
@@ -29,19 +29,19 @@ loop-row-preserved-then-not-is_sum_marked c =
 pub slope-requires-clause-modes : goal.slope-requires-clause-modes
 slope-requires-clause-modes c =
     let row : ℕ = get_or c.args.rows.now c.loop-row.row-index 0 in
-    is_true _ (row_is_light c.args.m.now c.args.levels.now c.args.d.now c.requires.allowed.light row
+    is_true _ (row_is_light c.args.at.now.machine.now c.args.at.now.levels.now c.args.handled.now.discretes.now c.requires.allowed.light row
     (c.requires.rows c.loop-row.row-index 0 c.loop-row-test.true)).modes
 
 pub loop-row-preserved : goal.loop-row-preserved
 loop-row-preserved c =
-    let m = c.args.m.now in
+    let m = c.args.at.now.machine.now in
     let i = c.loop-row.row-index in
     let inv = c.loop-row.invariant in
     let row : ℕ = get_or c.args.rows.now i 0 in
     let known : row < state_count m = c.requires.rows i 0 c.loop-row-test.true in
     let fits : FitsSigned w128 c.slope.result = record { sfits = c.slope.type_inv } in
     let value : ℤ = to_z w128 (of_z w128 c.slope.result) in
-    let Has : ℕ → ℤ → Type 0 = IsSlopeAt m c.args.levels.now c.args.d.now in
+    let Has : ℕ → ℤ → Type 0 = IsSlopeAt m c.args.at.now.levels.now c.args.handled.now.discretes.now in
     let here : Has row value = to_z-of_z w128 c.slope.result fits ∙ c.slope.ensures.value in
     record {
       written = written_more (pos 0) Has c.args.rows.now c.args.slopes.now c.loop-row.slopes i value
@@ -51,6 +51,6 @@ loop-row-preserved c =
 
 pub returns : goal.returns
 returns c =
-    written_all (pos 0) (IsSlopeAt c.args.m.now c.args.levels.now c.args.d.now)
+    written_all (pos 0) (IsSlopeAt c.args.at.now.machine.now c.args.at.now.levels.now c.args.handled.now.discretes.now)
     c.args.rows.now c.args.slopes.now c.loop-row.slopes c.loop-row.row-index c.loop-row-test.false
     c.loop-row.invariant.written

@@ -37,7 +37,7 @@ returns-in_err-move_due_handler_states c =
     let given : c.from_residual.result ≡ Err c.in_err-move_due_handler_states.field-0.0 = search rules in
     let over : overflow_of c.from_residual.result ≡ overflow_of c.move_due_handler_states.result = ap overflow_of given ∙ ap overflow_of (sym c.in_err-move_due_handler_states.was) in
     record {
-      overflow = over_early c.args.at.now.machine.now c.args.at.now.tick (states_at c.args.at.now.lines.now c.args.at.now.tick) c.args.work.now.d all.at_arrival.items all.after_handlers.items
+      overflow = over_early c.args.at.now.machine.now c.args.at.now.tick (states_at c.args.at.now.states.now.lines.items c.args.at.now.tick) c.args.work.now.d all.at_arrival.items all.after_handlers.items
           (overflow_of c.from_residual.result) (ap is_some (ap overflow_of given)) (over ∙ c.move_due_handler_states.ensures.at_arrival.over_is);
       handled = unless_over c.from_residual.result _ given;
       at_arrival = unless_over c.from_residual.result _ given;
@@ -53,12 +53,12 @@ returns-in_err-move_due_handler_states c =
 
 pub list_fired-requires-clause-read : goal.list_fired-requires-clause-read
 list_fired-requires-clause-read c =
-    let calm : first_exceeding 88 (states_at c.args.at.now.lines.now c.args.at.now.tick) ≡ None = sym c.move_due_handler_states.ensures.at_arrival.over_is ∙ ap overflow_of c.in_ok-move_due_handler_states.was in
+    let calm : first_exceeding 88 (states_at c.args.at.now.states.now.lines.items c.args.at.now.tick) ≡ None = sym c.move_due_handler_states.ensures.at_arrival.over_is ∙ ap overflow_of c.in_ok-move_due_handler_states.was in
     may_be_read c.args.at.now c.args.self.now c.args.work.now.d c.requires.ready.known calm c.requires.ready.lines.up_to.in_time
 
 pub read_changed-requires-clause-read : goal.read_changed-requires-clause-read
 read_changed-requires-clause-read c =
-    let calm : first_exceeding 88 (states_at c.args.at.now.lines.now c.args.at.now.tick) ≡ None = sym c.move_due_handler_states.ensures.at_arrival.over_is ∙ ap overflow_of c.in_ok-move_due_handler_states.was in
+    let calm : first_exceeding 88 (states_at c.args.at.now.states.now.lines.items c.args.at.now.tick) ≡ None = sym c.move_due_handler_states.ensures.at_arrival.over_is ∙ ap overflow_of c.in_ok-move_due_handler_states.was in
     may_be_read c.args.at.now c.args.self.now c.args.work.now.d c.requires.ready.known calm c.requires.ready.lines.up_to.in_time
 
 pub list_fired-requires-clause-flipped : goal.list_fired-requires-clause-flipped
@@ -83,7 +83,7 @@ handle_fired_conditions-requires-clause-due c =
 pub handle_fired_conditions-requires-clause-lines : goal.handle_fired_conditions-requires-clause-lines
 handle_fired_conditions-requires-clause-lines c =
     let ready = c.requires.ready in
-    let x : List ℤ = states_at c.args.at.now.lines.now c.args.at.now.tick in
+    let x : List ℤ = states_at c.args.at.now.states.now.lines.items c.args.at.now.tick in
     let calm : first_exceeding 88 x ≡ None = sym c.move_due_handler_states.ensures.at_arrival.over_is ∙ ap overflow_of c.in_ok-move_due_handler_states.was in
     record { up_to = ready.lines.up_to; small = all_within 88 x calm }
 
@@ -104,7 +104,7 @@ returns-in_err-handle_fired_conditions c =
     let ready = c.requires.ready in
     let m = c.args.at.now.machine.now in
     let tick = c.args.at.now.tick in
-    let x : List ℤ = states_at c.args.at.now.lines.now tick in
+    let x : List ℤ = states_at c.args.at.now.states.now.lines.items tick in
     let calm : first_exceeding 88 x ≡ None = sym c.move_due_handler_states.ensures.at_arrival.over_is ∙ ap overflow_of c.in_ok-move_due_handler_states.was in
     let same : handling_of_fired m tick x c.move_due_handler_states.new.work.d c.as_slice-2.result.now ≡ handling_from m tick x c.args.work.now.d all.at_arrival.items all.after_handlers.items =
     read_handling c.args.at.now all c.args.work.now.d ready.known c.read_changed.new.self.at_arrival.items c.read_changed.ensures.at_arrival
@@ -133,7 +133,7 @@ join_handler_reinitialized-requires-clause-known c =
     let ready = c.requires.ready in
     let m = c.args.at.now.machine.now in
     let tick = c.args.at.now.tick in
-    let lines = c.args.at.now.lines.now in
+    let lines = c.args.at.now.states.now.lines.items in
     let x : List ℤ = states_at lines tick in
     let calm : first_exceeding 88 x ≡ None = sym c.move_due_handler_states.ensures.at_arrival.over_is ∙ ap overflow_of c.in_ok-move_due_handler_states.was in
     let begun : Values = c.move_due_handler_states.new.work in
@@ -148,7 +148,7 @@ join_handler_reinitialized-requires-clause-known c =
 pub list_handler_assigned-requires : goal.list_handler_assigned-requires
 list_handler_assigned-requires c =
     let tick = c.args.at.now.tick in
-    let x : List ℤ = states_at c.args.at.now.lines.now tick in
+    let x : List ℤ = states_at c.args.at.now.states.now.lines.items tick in
     let none : overflow_of c.handle_fired_conditions.result ≡ None =
     ap overflow_of c.in_ok-handle_fired_conditions.was in
     let done : HandlerState = handling_of_fired c.args.at.now.machine.now tick x c.move_due_handler_states.new.work.d c.as_slice-2.result.now in
@@ -161,7 +161,7 @@ returns-clause-overflow c =
     let ready = c.requires.ready in
     let m = c.args.at.now.machine.now in
     let tick = c.args.at.now.tick in
-    let x : List ℤ = states_at c.args.at.now.lines.now tick in
+    let x : List ℤ = states_at c.args.at.now.states.now.lines.items tick in
     let calm : first_exceeding 88 x ≡ None = sym c.move_due_handler_states.ensures.at_arrival.over_is ∙ ap overflow_of c.in_ok-move_due_handler_states.was in
     let same : handling_of_fired m tick x c.move_due_handler_states.new.work.d c.as_slice-2.result.now ≡ handling_from m tick x c.args.work.now.d all.at_arrival.items all.after_handlers.items =
     read_handling c.args.at.now all c.args.work.now.d ready.known c.read_changed.new.self.at_arrival.items c.read_changed.ensures.at_arrival
@@ -176,7 +176,7 @@ returns-clause-handled c =
     let ready = c.requires.ready in
     let m = c.args.at.now.machine.now in
     let tick = c.args.at.now.tick in
-    let lines = c.args.at.now.lines.now in
+    let lines = c.args.at.now.states.now.lines.items in
     let x : List ℤ = states_at lines tick in
     let calm : first_exceeding 88 x ≡ None = sym c.move_due_handler_states.ensures.at_arrival.over_is ∙ ap overflow_of c.in_ok-move_due_handler_states.was in
     let same : handling_of_fired m tick x c.move_due_handler_states.new.work.d c.as_slice-2.result.now ≡ handling_from m tick x c.args.work.now.d all.at_arrival.items all.after_handlers.items =

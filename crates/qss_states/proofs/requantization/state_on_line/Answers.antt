@@ -2,7 +2,7 @@
 use Rattle.qss_states.proofs.Common
 use Common.{◌∙◌, ◌≡◌, ◌≤◌, ap, FitsSigned, get_or_default, Line, line_at, no_line, state_at, subst}
 use Common.{sym, to_z-of_z, w128}
-use Rattle.qss_states.proofs.requantization.state_to_requantize.Goals as goal
+use Rattle.qss_states.proofs.requantization.state_on_line.Goals as goal
 
 pub value_at-requires-clause-later : goal.value_at-requires-clause-later
 value_at-requires-clause-later c =

@@ -1,6 +1,6 @@
 use Rattle.qss_states.proofs.Common
 use Common.{ℤ, ◌+◌, ◌≡◌, ◌≤◌, AreRequantized, List, overflow_of, take, vec_capacity, vec_len}
-use Rattle.qss_states.proofs.requantization.requantize_due_levels.Given as goal
+use Rattle.qss_states.proofs.requantization.set_new_levels.Given as goal
 
 -- the levels and the rows so far
 abbrev pub invariant-loop-state : goal.invariant-loop-state

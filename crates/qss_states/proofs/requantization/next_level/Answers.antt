@@ -6,7 +6,7 @@ use Rattle.mu_num.specs.Sizes.{IsPositiveWithin}
 use Rattle.qss_quant.specs.LevelRules.{IsAnswer}
 use Rattle.qss_events.proofs.NextLevels.{next_by}
 use Rattle.qss_machine.proofs.Near.{unit_fits}
-use Rattle.qss_states.proofs.requantization.level_on_arrival.Goals as goal
+use Rattle.qss_states.proofs.requantization.next_level.Goals as goal
 
 pub answer-requires : goal.answer-requires
 answer-requires g c =

@@ -1,5 +1,5 @@
 use Rattle.qss_states.proofs.Common.{◌≡◌, take, vec_capacity, vec_len}
-use Rattle.qss_states.proofs.requantization.begin_requantized_rows.Given as goal
+use Rattle.qss_states.proofs.requantization.begin_rows.Given as goal
 
 -- the rows so far
 abbrev pub invariant-loop-row : goal.invariant-loop-row
