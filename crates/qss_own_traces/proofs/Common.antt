@@ -1,30 +1,29 @@
 -- Names from outside the lemmas of this crate that several of its proofs cite, passed on from one place.
 pub use Rattle.std.proofs.Common.{[], ℕ, ℤ, ◌*ℤ◌, ◌*◌, ◌++◌, ◌+ℤ◌, ◌+◌, ◌-ℤ◌, ◌-◌, ◌/◌, ◌<ℤ◌, ◌<◌}
-pub use Rattle.std.proofs.Common.{◌^◌, ◌||◌, ◌∙◌, ◌∷◌, ◌≡◌, ◌≤ℤ◌, ◌≤◌, ap, append_assoc, ap₂, arith}
-pub use Rattle.std.proofs.Common.{Bool, false, get_or, Global, inl, inr, length, List, map, pos}
-pub use Rattle.std.proofs.Common.{refl, replicate, subst, suc, sym, take, true, unsigned_abs, Vec}
+pub use Rattle.std.proofs.Common.{◌^◌, ◌||◌, ◌∙◌, ◌∷◌, ◌≡◌, ◌≤◌, ap, append_assoc, ap₂, arith, Bool}
+pub use Rattle.std.proofs.Common.{false, get_or, Global, inl, inr, length, List, map, pos, refl}
+pub use Rattle.std.proofs.Common.{replicate, rules, subst, suc, sym, take, true, unsigned_abs, Vec}
 pub use Rattle.std.proofs.Common.{zero}
 pub use Rattle.std.proofs.Math.Nat.{mul-le-mul_right}
 pub use Rattle.std.proofs.Math.Seq.{take-append_seam}
-pub use Rattle.std.proofs.lemmas.Bool.Decides.{nat_tests}
+pub use Rattle.std.proofs.lemmas.Bool.{or_parts}
 pub use Rattle.std.proofs.lemmas.Int.{ints, to_z-of_z, unsigned_abs-mul}
-pub use Rattle.std.proofs.lemmas.List.{append-nil, get_or-map, length-append, length-map}
-pub use Rattle.std.proofs.lemmas.List.{map-append, take_all, with_items_is}
-pub use Rattle.std.proofs.lemmas.List.Elements.{All-append, All-nil}
-pub use Rattle.std.proofs.lemmas.List.FromFn.{fill_by_all, get_or-range_with_len}
-pub use Rattle.std.proofs.lemmas.List.FromFn.{length-map-range_with_len, length-range_with_len}
+pub use Rattle.std.proofs.lemmas.List.{append-nil, get_or-map, get_or_read, length-append}
+pub use Rattle.std.proofs.lemmas.List.{length-map}
+pub use Rattle.std.proofs.lemmas.List.Elements.{All-append, All-cons, All-nil, All-tail}
+pub use Rattle.std.proofs.lemmas.List.FromFn.{fill_by_all, length-map-range_with_len}
 pub use Rattle.std.specs.Int.RustNames.{FitsSigned, int_lt}
 pub use Rattle.std.specs.List.{list_any, range_with_len}
 pub use Rattle.std.specs.Option.{option_or}
 pub use Rattle.std.specs.Prelude.{All, Err, flat_map, if◌then◌else◌, IsTrue, None, not, Ok, Option}
-pub use Rattle.std.specs.Prelude.{position, Result, Some, vec_capacity, vec_len}
-pub use Rattle.std.specs.Vec.{with_items}
-pub use mir.Syntax.{w128, w64}
+pub use Rattle.std.specs.Prelude.{position, Result, Some}
+pub use mir.Syntax.{w128}
+pub use Rattle.mu_num.proofs.SizeTests.{within-passes}
 pub use Rattle.mu_num.specs.IndexedSums.{abs_of, first_exceeding, int_at, sum_below, tabulate}
-pub use Rattle.mu_num.specs.Levels.{floor_level, level_below}
+pub use Rattle.mu_num.specs.Levels.{floor_level}
 pub use Rattle.mu_num.specs.ListedPlaces.{flag_at}
 pub use Rattle.mu_num.specs.Rounding.{floor_of}
-pub use Rattle.mu_num.specs.Sizes.{exceeds, IsPositiveWithin, IsWithin}
+pub use Rattle.mu_num.specs.Sizes.{exceeds, IsWithin}
 pub use Rattle.qss_machine.proofs.Admitted.{run_clauses-none}
 pub use Rattle.qss_machine.proofs.Near.{unit_fits, unit_positive}
 pub use Rattle.qss_machine.proofs.OneRun.{runs_are_unique}
@@ -37,27 +36,27 @@ pub use Rattle.qss_machine.specs.Machines.{start_states, state_count}
 pub use Rattle.qss_machine.specs.RunLaws.{levels_from, states_from}
 pub use Rattle.qss_machine.specs.Runs.{Run, run_from}
 pub use Rattle.qss_machine.specs.Slopes.{mode_fits}
-pub use Rattle.qss_machine.specs.Ticks.{exceeds_row_limits, is_within_quantum, moved_states}
-pub use Rattle.qss_machine.specs.Ticks.{next_levels, Snapshot, snapshot_unless, start_snapshot}
-pub use Rattle.qss_machine.specs.Ticks.{step}
+pub use Rattle.qss_machine.specs.Ticks.{exceeds_row_limits, is_within_quantum, next_levels}
+pub use Rattle.qss_machine.specs.Ticks.{Snapshot, snapshot_unless, start_snapshot, step}
 pub use Rattle.qss_machine.specs.declared.compiled_machine.Machine.{Machine}
 pub use Rattle.qss_machine.specs.declared.machine_parts.StateInfo.{StateInfo}
 pub use Rattle.cert_matrix.specs.Matrix.{table, vector, weight}
+pub use Rattle.qss_hand.specs.Works.{overflow_of}
 pub use Rattle.cert_check.proofs.Starts.{starts-fit}
 pub use Rattle.cert_check.specs.CertificateLimits.{IsSize}
-pub use Rattle.qss_order2.proofs.Sizes.{quantum_fits}
 pub use Rattle.qss_order2.proofs.Starts.{fine_count}
 pub use Rattle.qss_order2.proofs.Tables.{all_of, filled_more, filled_table, first_is, IsFilled}
-pub use Rattle.qss_order2.proofs.Tables.{map_more, none_is, same_table}
+pub use Rattle.qss_order2.proofs.Tables.{none_is, same_table}
 pub use Rattle.qss_order2.proofs.Uniqueness.{second_runs_are_unique}
 pub use Rattle.qss_order2.specs.SecondRunLaws.{levels_from2, states_from2}
+pub use Rattle.qss_order2.specs.SecondRunLimits.{AreHeld}
 pub use Rattle.qss_order2.specs.SecondRunTexts.{second_order_run}
 pub use Rattle.qss_order2.specs.SecondRuns.{Past, Run2}
-pub use Rattle.qss_order2.specs.SecondSteps.{fine_levels, first_exceeding_limit, is_limit_check}
-pub use Rattle.qss_order2.specs.SecondSteps.{is_requantization, leaves_quantum, nearest_change}
-pub use Rattle.qss_order2.specs.SecondSteps.{next_states, rise_at, second_scale}
-pub use Rattle.qss_order2.specs.SecondSteps.{second_snapshot_unless, second_start, second_step}
-pub use Rattle.qss_order2.specs.SecondSteps.{SecondSnapshot, SlopeRuleOf}
+pub use Rattle.qss_order2.specs.SecondSteps.{fine_levels, fine_states, first_exceeding_limit}
+pub use Rattle.qss_order2.specs.SecondSteps.{is_limit_check, is_requantization, leaves_quantum}
+pub use Rattle.qss_order2.specs.SecondSteps.{moved_state, nearest_change, next_states, rise_at}
+pub use Rattle.qss_order2.specs.SecondSteps.{second_scale, second_snapshot_unless, second_start}
+pub use Rattle.qss_order2.specs.SecondSteps.{second_step, SecondSnapshot, SlopeRuleOf}
 pub use Rattle.qss_trace.proofs.Placing.{length-places}
 pub use Rattle.qss_trace.specs.Trace.{IsRunOf}
 pub use Rattle.qss_trace.specs.TraceLimits.{ArePlaces, AreQuanta, place_count}
@@ -65,13 +64,11 @@ pub use Rattle.qss_trace.specs.TracePlaces.{places}
 pub use Rattle.qss_trace.specs.declared.trace.Trace.{Trace}
 pub use Rattle.qss_own_traces.specs.FirstRuns.{first_run, IsFirstRefusal}
 pub use Rattle.qss_own_traces.specs.RecordedTraces.{Holds}
-pub use Rattle.qss_own_traces.specs.SecondPlaces.{AreHeld, changed, has_left, leaves_from}
-pub use Rattle.qss_own_traces.specs.SecondPlaces.{snapshot_of}
+pub use Rattle.qss_own_traces.specs.SecondPlaces.{change_after, changed, level_after, snapshot_of}
 pub use Rattle.qss_own_traces.specs.SecondRuns.{first_wide, is_wide, IsSecondRefusal}
 pub use Rattle.qss_own_traces.specs.SecondRuns.{second_snapshots}
 pub use Rattle.qss_own_traces.specs.TraceSnapshots.{plain_world}
 pub use Rattle.qss_own_traces.specs.TraceSystems.{row_weight, system_weight}
 pub use Rattle.qss_own_traces.specs.Traces.{IsTraceOf}
-pub use Rattle.qss_own_traces.specs.WideValues.{is_wide_at}
 pub use Rattle.qss_own_traces.specs.declared.own_trace_draft.Draft.{Draft}
 pub use Rattle.qss_own_traces.specs.declared.own_trace_draft.TraceOver.TheVariants.{Over}

@@ -1,11 +1,11 @@
 -- Runs under the floor rule, tick by tick.
 use Rattle.qss_own_traces.proofs.Common
-use Common.{[], ℕ, ℤ, ◌*ℤ◌, ◌++◌, ◌+ℤ◌, ◌+◌, ◌-ℤ◌, ◌-◌, ◌<ℤ◌, ◌<◌, ◌^◌, ◌∙◌, ◌∷◌, ◌≡◌, ◌≤ℤ◌, ◌≤◌}
-use Common.{All, ap, append-nil, append_assoc, arith, Draft, Err, first_run, floor_level, floor_of}
-use Common.{Holds, ints, IsFirstRefusal, IsLegitimate, IsWithin, length, length-map, levels_from}
-use Common.{List, Machine, map-append, None, Ok, Over, pos, quanta, Result, Run, run_from}
-use Common.{runs_are_unique, Snapshot, Some, start_small, start_snapshot, start_states, state_count}
-use Common.{states_from, step, subst, suc, sym, zero}
+use Common.{[], ℕ, ℤ, ◌*ℤ◌, ◌++◌, ◌+ℤ◌, ◌+◌, ◌-ℤ◌, ◌-◌, ◌<ℤ◌, ◌<◌, ◌^◌, ◌∙◌, ◌∷◌, ◌≡◌, ◌≤◌, All, ap}
+use Common.{append-nil, append_assoc, arith, Err, first_run, floor_level, floor_of, ints}
+use Common.{IsFirstRefusal, IsLegitimate, IsWithin, length, levels_from, List, Machine, None, Ok}
+use Common.{Over, pos, quanta, Result, Run, run_from, runs_are_unique, Snapshot, Some, start_small}
+use Common.{start_snapshot, start_states, states_from, step, suc, sym, zero}
+use Rattle.std.proofs.Common.{◌≤ℤ◌}
 use Rattle.std.specs.Int.RustNames.{unsigned_abs}
 use Rattle.mu_num.proofs.Quotients.{floor_meets}
 use Rattle.qss_machine.specs.Ticks.{IsQuantizing}
@@ -13,7 +13,6 @@ use Rattle.qss_machine.specs.Runs.{run_with}
 use Rattle.qss_machine.proofs.Admitted.{runs_are_legitimate}
 use Rattle.qss_machine.proofs.Rules.{rules_are_free}
 use Rattle.qss_own_traces.specs.FirstCourses.{run_after}
-use Rattle.qss_own_traces.proofs.Placing.{holds_more}
 
 module _ (m : Machine) (tick : ℕ) (w : Snapshot) (snapshots : List Snapshot) where
   -- what is left of the run
@@ -49,13 +48,6 @@ module _ (m : Machine) (tick : ℕ) (w : Snapshot) (snapshots : List Snapshot) w
       let whole = left_over var h so_far e in
       (sym (ap (λ (run : Run). length run.snapshots + 1) whole ∙ ap (λ (k : ℕ). k + 1) count), ap (λ (run : Run). run.overflow) whole)
 
--- the states and levels of one snapshot more
-pub states_more : (w next : Snapshot) (snapshots : List Snapshot) → states_from w (snapshots ++ next ∷ []) ≡ states_from w snapshots ++ next.states ∷ []
-states_more w next snapshots = map-append (λ (v : Snapshot). v.states) (w ∷ snapshots) (next ∷ [])
-
-pub levels_more : (w next : Snapshot) (snapshots : List Snapshot) → levels_from w (snapshots ++ next ∷ []) ≡ levels_from w snapshots ++ next.levels ∷ []
-levels_more w next snapshots = map-append (λ (v : Snapshot). v.levels) (w ∷ snapshots) (next ∷ [])
-
 -- the greatest level at most a state is less than one away
 floor_quantizes : IsQuantizing floor_level
 floor_quantizes unit state old low high small old_small =
@@ -77,18 +69,3 @@ first_legitimate m plain own =
 -- what is small is small enough for a trace
 pub wider : (a b : ℕ) (xs : List ℤ) → 2 ^ a ≤ 2 ^ b → All (IsWithin a) xs → All (IsWithin b) xs
 wider a b xs le all k d h = let small = all k d h in omega arith
-
--- the draft of one snapshot more
-pub held_more : (m : Machine) (snapshots : List Snapshot) (next : Snapshot) (d e : Draft) → Holds (state_count m) (states_from (start_snapshot m) snapshots) (levels_from (start_snapshot m) snapshots) d →
-    length next.states ≡ state_count m → length next.levels ≡ state_count m → All (IsWithin 88) next.states → All (IsWithin 43) next.levels →
-    e.states.items ≡ d.states.items ++ next.states → e.levels.items ≡ d.levels.items ++ next.levels →
-    Holds (state_count m) (states_from (start_snapshot m) (snapshots ++ next ∷ [])) (levels_from (start_snapshot m) (snapshots ++ next ∷ [])) e
-held_more m snapshots next d e held of_states of_levels small_states small_levels states levels =
-    subst (λ (xs : List (List ℤ)). Holds (state_count m) xs (levels_from (start_snapshot m) (snapshots ++ next ∷ [])) e) (sym (states_more (start_snapshot m) next snapshots))
-    (subst (λ (ms : List (List ℤ)). Holds (state_count m) (states_from (start_snapshot m) snapshots ++ next.states ∷ []) ms e) (sym (levels_more (start_snapshot m) next snapshots))
-    (holds_more (state_count m) (states_from (start_snapshot m) snapshots) (levels_from (start_snapshot m) snapshots) next.states next.levels d e held of_states of_levels
-    (wider 88 108 next.states (omega arith) small_states) (wider 43 64 next.levels (omega arith) small_levels) states levels))
-
--- a list of states for each snapshot
-pub states_count : (m : Machine) (snapshots : List Snapshot) → length (states_from (start_snapshot m) snapshots) ≡ length snapshots + 1
-states_count m snapshots = omega (arith, length-map snapshots (λ (w : Snapshot). w.states))

@@ -1,11 +1,14 @@
 -- Steps of a machine without clauses under the floor rule.
 use Rattle.qss_own_traces.proofs.Common
 use Common.{[], ℕ, ℤ, ◌*ℤ◌, ◌∙◌, ◌∷◌, ◌≡◌, All, all_of, ap, ap₂, Bool, exceeds_row_limits}
-use Common.{first_exceeding, flat_map, floor_level, HandlerState, IsWithin, length, length-map}
-use Common.{level_below, level_unit, List, Machine, map, moved_states, next_levels, None, Option}
-use Common.{option_or, plain_world, pos, position, refl, run_clauses-none, Snapshot}
+use Common.{first_exceeding, flat_map, floor_level, Global, HandlerState, IsWithin, length}
+use Common.{length-map, length-map-range_with_len, level_unit, List, Machine, map, next_levels}
+use Common.{None, Option, option_or, plain_world, pos, position, refl, run_clauses-none, Snapshot}
 use Common.{snapshot_unless, Some, start_discretes, start_small, start_snapshot, start_states}
-use Common.{state_count, StateInfo, step, sym}
+use Common.{state_count, StateInfo, step, sym, tabulate, Vec}
+use Rattle.mu_num.specs.Levels.{level_below}
+use Rattle.qss_machine.specs.Ticks.{moved_states, handlers_at, finish_tick}
+use Rattle.qss_own_traces.specs.FirstPlaces.{AreOfStates}
 use Rattle.mu_num.proofs.Integers.{one-mul}
 use Rattle.qss_machine.specs.declared.machine_parts.BranchInfo.{BranchInfo}
 use Rattle.qss_machine.specs.declared.machine_parts.ClauseInfo.{ClauseInfo}
@@ -13,7 +16,6 @@ use Rattle.qss_machine.specs.declared.machine_parts.Condition.{Condition}
 use Rattle.qss_machine.specs.Machines.{truth}
 use Rattle.qss_machine.proofs.Ranges.{none_past}
 use Rattle.qss_machine.specs.Handlers.{truths}
-use Rattle.qss_machine.specs.Ticks.{handlers_at, finish_tick}
 
 arrival : Machine → Snapshot → HandlerState
 arrival m w = record { states = moved_states m w; discretes = w.discretes; rows = []; overflow = first_exceeding 88 (moved_states m w) }
@@ -49,17 +51,15 @@ module _ (m : Machine) (states levels : List ℤ) where
       ∙ ap (λ (ts : List Bool). snapshot_unless over (record { states = moved; levels = releveled; discretes = start_discretes m; at_arrival = ts; after_handlers = ts }))
       (no_truths m moved (start_discretes m) tick none)
 
-  pub step_far : (tick var : ℕ) (w : Snapshot) → m.clauses ≡ [] → first_exceeding 88 moved ≡ Some var →
-      step floor_level m tick (plain_world m states levels) ≡ snapshot_unless (Some var) w
-  step_far tick var w none far =
-      step_is tick none ∙ ap (λ (a : Option ℕ). snapshot_unless (option_or a (option_or (first_exceeding 43 releveled) heavy)) (plain_world m moved releveled)) far
-
-  pub step_settled : (tick : ℕ) (o : Option ℕ) (w : Snapshot) → m.clauses ≡ [] → first_exceeding 88 moved ≡ None → o ≡ option_or (first_exceeding 43 releveled) heavy → w ≡ plain_world m moved releveled →
+  -- the same by the first limit that is exceeded, and the snapshot if none is
+  pub step_as : (tick : ℕ) (o : Option ℕ) (w : Snapshot) → m.clauses ≡ [] →
+      o ≡ option_or (first_exceeding 88 moved) (option_or (first_exceeding 43 releveled) heavy) →
+      (o ≡ None → w ≡ plain_world m moved releveled) →
       step floor_level m tick (plain_world m states levels) ≡ snapshot_unless o w
-  step_settled tick o w none far e is =
-      step_is tick none
-      ∙ ap (λ (a : Option ℕ). snapshot_unless (option_or a (option_or (first_exceeding 43 releveled) heavy)) (plain_world m moved releveled)) far
-      ∙ ap₂ (λ (a : Option ℕ) (v : Snapshot). snapshot_unless a v) (sym e) (sym is)
+  step_as tick None w none e is = step_is tick none
+      ∙ ap₂ (λ (a : Option ℕ) (v : Snapshot). snapshot_unless a v) (sym e) (sym (is refl))
+  step_as tick (Some var) w none e is = step_is tick none
+      ∙ ap (λ (a : Option ℕ). snapshot_unless a (plain_world m moved releveled)) (sym e)
 
 -- numbers times one
 pub ones : (xs : List ℤ) → map (λ x. pos 1 *ℤ x) xs ≡ xs
@@ -86,3 +86,18 @@ start_small_levels m = all_of (IsWithin 43) (start_snapshot m).levels (state_cou
 -- what no test found past a limit
 pub none_small : (bits : ℕ) (xs : List ℤ) (n : ℕ) → length xs ≡ n → first_exceeding bits xs ≡ None → All (IsWithin bits) xs
 none_small bits xs n many none = all_of (IsWithin bits) xs n many (λ k h. none_past bits xs none k)
+
+pub all_within : (m : Machine) (bits : ℕ) (xs : List ℤ) (f : ℕ → ℤ) →
+    xs ≡ tabulate (state_count m) f → first_exceeding bits xs ≡ None → AreOfStates m bits xs
+all_within m bits xs f is none =
+    let many : length xs ≡ state_count m = ap length is
+    ∙ length-map-range_with_len f 0 (state_count m) in
+    record { one_each = many; small = none_small bits xs (state_count m) many none }
+
+-- some number is found, or none
+pub found_some : {A : Type 0} (o : Option ℕ) (var : ℕ) → o ≡ Some var → o ≡ None → A
+found_some o var e f = absurd (cc)
+
+-- equal lists in memory have the same numbers
+pub same_items : {v w : Vec ℤ Global} → v ≡ w → v.items ≡ w.items
+same_items e = ap (λ (v : Vec ℤ Global). v.items) e

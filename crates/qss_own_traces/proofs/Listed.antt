@@ -1,14 +1,14 @@
 -- Lists of states and levels as a trace.
 use Rattle.qss_own_traces.proofs.Common
-use Common.{[], ℕ, ℤ, ◌*◌, ◌/◌, ◌<◌, ◌^◌, ◌∙◌, ◌∷◌, ◌≡◌, ◌≤◌, All, All-append, All-nil, ap}
-use Common.{AreQuanta, arith, get_or, get_or-map, ints, IsSize, IsTraceOf, IsWithin, length}
-use Common.{length-map, length-places, List, Machine, mul-le-mul_right, place_count, places, pos}
-use Common.{quanta, refl, state_count, StateInfo, suc, sym, Trace}
+use Common.{[], ℕ, ℤ, ◌*◌, ◌/◌, ◌<◌, ◌^◌, ◌∙◌, ◌∷◌, ◌≡◌, ◌≤◌, All, All-append, All-nil, All-tail}
+use Common.{ap, AreQuanta, arith, get_or, get_or-map, ints, IsSize, IsTraceOf, IsWithin, length}
+use Common.{length-map, length-places, List, Machine, place_count, places, pos, quanta, refl}
+use Common.{state_count, StateInfo, sym, Trace}
 use Rattle.qss_trace.specs.TraceLimits.{IsFactor}
 use Rattle.qss_trace.proofs.Fields.{trace_of, same-trace}
 use Rattle.qss_trace.proofs.OneTrace.{numbers-same}
 use Rattle.qss_trace.proofs.Placing.{places-at}
-use Rattle.qss_own_traces.proofs.Placing.{joined, joined_length, count_of_joined, places_of_joined}
+use Rattle.qss_own_traces.proofs.Placing.{joined, joined_places, places_of_joined}
 
 -- ---- one trace
 
@@ -39,15 +39,13 @@ one-trace-of m scale states levels a b of-a of-b =
 abbrev AreSized : ℕ → List (List ℤ) → Type 0
 AreSized n xs = All (λ ys. length ys ≡ n) xs
 
-rest-all : {X : Type 0} (P : X → Type 0) (x : X) (xs : List X) → All P (x ∷ xs) → All P xs
-rest-all P x xs all k d h = all (suc k) d (omega arith)
-
 all-joined : (P : ℤ → Type 0) (xs : List (List ℤ)) → All (All P) xs → All P (joined xs)
 all-joined P [] all = All-nil P
-all-joined P (x ∷ xs) all = All-append P x (joined xs) (all 0 x (omega arith)) (all-joined P xs (rest-all (All P) x xs all))
+all-joined P (x ∷ xs) all = All-append P x (joined xs) (all 0 x (omega arith))
+    (all-joined P xs (All-tail (All P) x xs all))
 
 -- a machine's quanta are those of a trace
-quanta-sound : (m : Machine) → AreQuanta (state_count m) (quanta m)
+pub quanta-sound : (m : Machine) → AreQuanta (state_count m) (quanta m)
 quanta-sound m = record {
   one_each = length-map m.states (λ (state : StateInfo). state.quantum);
   each = λ k d h.
@@ -63,24 +61,14 @@ pub some-trace-of : (m : Machine) (scale : ℕ) (states levels : List (List ℤ)
     → AreSized (state_count m) states → AreSized (state_count m) levels → All (All (IsWithin 108)) states → All (All (IsWithin 64)) levels → (t : Trace) × IsTraceOf m scale states levels t
 some-trace-of m scale states levels size factor some few as_many sized-states sized-levels small-states small-levels =
     let n = state_count m in
-    let count = count_of_joined n states size.some sized-states in
-    let long = joined_length n states sized-states in
-    let long-levels = joined_length n levels sized-levels in
-    let low : 1 * n ≤ length states * n = mul-le-mul_right n some in
-    let high : length states * n ≤ 2 ^ 24 * n = mul-le-mul_right n few in
     let t : Trace = trace_of (record { n = n; scale = scale; refine = 1; q = quanta m; states = joined states; levels = joined levels }) (record {
       size = size;
       scale = factor;
       refine = record { some = omega arith; few = omega arith };
       quanta = quanta-sound m;
-      places = record {
-        whole = long ∙ ap (λ k. k * n) (sym count);
-        as_many = long-levels ∙ ap (λ k. k * n) as_many ∙ sym long;
-        some = omega (arith, long, low);
-        few = omega (arith, long, high);
-        small_states = all-joined (IsWithin 108) states small-states;
-        small_levels = all-joined (IsWithin 64) levels small-levels;
-      };
+      places = joined_places n states levels size some few as_many sized-states sized-levels
+          (all-joined (IsWithin 108) states small-states)
+          (all-joined (IsWithin 64) levels small-levels);
     }) in (
       t,
       record {

@@ -1,22 +1,19 @@
 -- Each of a machine's own runs has one trace, or overflows at one tick; its trace is a legitimate run.
 use Rattle.qss_own_traces.proofs.Common
-use Common.{[], ℕ, ℤ, ◌+◌, ◌<◌, ◌^◌, ◌∙◌, ◌∷◌, ◌≡◌, ◌≤◌, All, All-nil, all_of, ap, arith, Bool}
-use Common.{exceeds, false, first_run, first_wide, floor_level, get_or, get_or-map}
-use Common.{get_or-range_with_len, HandlerState, inl, inr, int_at, is_wide, IsFirstRefusal, IsRunOf}
-use Common.{IsSecondRefusal, IsSize, IsWithin, length, length-map, length-map-range_with_len}
-use Common.{length-places, length-range_with_len, level_below, level_unit, levels_from}
-use Common.{levels_from2, List, Machine, map, nat_tests, nearest_change, None, Ok, Option, Over}
-use Common.{Past, range_with_len, refl, run_clauses-none, runs_are_unique, second_order_run}
-use Common.{second_runs_are_unique, second_scale, second_snapshots, SecondSnapshot, SlopeRuleOf}
-use Common.{Snapshot, Some, start_small, start_snapshot, start_states, state_count, StateInfo}
-use Common.{states_from, states_from2, subst, suc, sym, take, Trace, true, zero}
+use Common.{[], ℕ, ℤ, ◌+◌, ◌<◌, ◌∙◌, ◌∷◌, ◌≡◌, ◌≤◌, All, All-cons, All-nil, all_of, ap, arith}
+use Common.{false, first_run, first_wide, floor_level, get_or, get_or-map, HandlerState, inl, inr}
+use Common.{int_at, is_wide, IsFirstRefusal, IsRunOf, IsSecondRefusal, IsSize, IsWithin, length}
+use Common.{length-map, length-map-range_with_len, length-places, levels_from, levels_from2, List}
+use Common.{Machine, nearest_change, None, Ok, Option, Over, Past, range_with_len, refl}
+use Common.{run_clauses-none, runs_are_unique, second_order_run, second_runs_are_unique}
+use Common.{second_scale, second_snapshots, SecondSnapshot, SlopeRuleOf, Snapshot, Some}
+use Common.{start_snapshot, state_count, states_from, states_from2, states_start, subst, suc, sym}
+use Common.{take, Trace, true, within-passes}
 use Rattle.std.proofs.Common.{◌⊎◌, lit≤}
-use Rattle.std.proofs.lemmas.Bool.{cases_lt}
+use Rattle.std.proofs.lemmas.Bool.{cases_lt, or_from}
 use Rattle.std.proofs.lemmas.List.{get_or-take, length-take}
-use Rattle.std.proofs.lemmas.List.Elements.{All-cons, All-map}
+use Rattle.std.proofs.lemmas.List.Elements.{All-map}
 use Rattle.std.proofs.lemmas.List.Quantifiers.{position-Some}
-use Rattle.qss_machine.specs.RunLaws.{HasSmallLevels}
-use Rattle.qss_machine.specs.MachineLimits.{IsStateInfo}
 use Rattle.qss_machine.specs.Runs.{IsExecutionBy, RunEndsBy}
 use Rattle.qss_machine.specs.Ticks.{IsStepBy, RuleOf, IsNextLevel}
 use Rattle.qss_machine.proofs.Near.{step_facts}
@@ -27,6 +24,8 @@ use Rattle.qss_trace.specs.Trace.{count_of}
 use Rattle.qss_own_traces.specs.FirstRuns.{IsFirstTrace}
 use Rattle.qss_own_traces.specs.SecondRuns.{IsSecondTrace, IsTooWide}
 use Rattle.qss_own_traces.proofs.FirstRuns.{first_legitimate, wider}
+use Rattle.qss_own_traces.proofs.FirstSteps.{level_count, start_count, start_small_levels}
+use Rattle.qss_own_traces.proofs.Flags.{range_at, range_count}
 use Rattle.qss_own_traces.proofs.Legitimate.{trace_legitimate}
 use Rattle.qss_own_traces.proofs.Listed.{one-trace-of, some-trace-of}
 use Rattle.qss_own_traces.proofs.SecondLegitimate.{second_legitimate}
@@ -38,24 +37,15 @@ use Rattle.qss_own_traces.proofs.Wides.{narrow_states, narrow_levels}
 record IsFit (m : Machine) (w : Snapshot) : Type 0 where
   each_state : length w.states ≡ state_count m
   each_level : length w.levels ≡ state_count m
-  small_states : (j : ℕ) → IsWithin 88 (int_at w.states j)
-  small_levels : HasSmallLevels w
-
--- a list of small numbers
-small-list : (narrow wide : ℕ) → 2 ^ narrow ≤ 2 ^ wide → (xs : List ℤ) → ((j : ℕ) → IsWithin narrow (int_at xs j)) → All (IsWithin wide) xs
-small-list narrow wide le xs each = wider narrow wide xs le (all_of (IsWithin narrow) xs (length xs) refl (λ k h. each k))
-
-starts_small : (unit : ℤ) (states : List StateInfo) → All (IsStateInfo unit) states → (j : ℕ) → IsWithin 88 (int_at (map (λ (s : StateInfo). s.x0) states) j)
-starts_small unit [] all j = omega arith
-starts_small unit (s ∷ states) all zero = (all 0 s (omega arith)).start
-starts_small unit (s ∷ states) all (suc j) = starts_small unit states (λ k d h. all (suc k) d (omega arith)) j
+  small_states : All (IsWithin 88) w.states
+  small_levels : All (IsWithin 43) w.levels
 
 start_fit : (m : Machine) → IsFit m (start_snapshot m)
 start_fit m = record {
-  each_state = length-map m.states (λ (state : StateInfo). state.x0);
-  each_level = length-map (start_states m) (level_below (level_unit m)) ∙ length-map m.states (λ (state : StateInfo). state.x0);
-  small_states = starts_small (level_unit m) m.states m.has_variables.each_state;
-  small_levels = start_small m;
+  each_state = start_count m;
+  each_level = level_count m;
+  small_states = states_start m;
+  small_levels = start_small_levels m;
 }
 
 step_fit : (Allows : ℕ → ℤ → ℤ → ℤ → Type 0) (m : Machine) (tick : ℕ) (w next : Snapshot) → m.clauses ≡ [] → IsStepBy Allows m tick w (Ok next) → IsFit m next
@@ -66,8 +56,10 @@ step_fit Allows m tick w next none s =
     record {
       each_state = ap length facts.states ∙ ap (λ (h : HandlerState). length h.states) idle ∙ length-map-range_with_len _ 0 (state_count m);
       each_level = facts.levels.one_each;
-      small_states = subst (λ xs. (j : ℕ) → IsWithin 88 (int_at xs j)) (sym facts.states) small;
-      small_levels = step_small Allows m tick w next s;
+      small_states = subst (All (IsWithin 88)) (sym facts.states)
+          (all_of (IsWithin 88) _ _ refl (λ k h. small k));
+      small_levels = all_of (IsWithin 43) next.levels _ refl
+          (λ k h. step_small Allows m tick w next s k);
     }
 
 fit_from : (Allows : ℕ → ℤ → ℤ → ℤ → Type 0) (m : Machine) (tick : ℕ) (w : Snapshot) (snapshots : List Snapshot) → m.clauses ≡ [] → IsFit m w → IsExecutionBy Allows m tick w snapshots → All (IsFit m) (w ∷ snapshots)
@@ -89,8 +81,10 @@ first-traced m none size short end =
     (omega (arith, many-states)) (omega (arith, many-states, reach, short)) (many-levels ∙ sym many-states)
     (All-map (λ xs. length xs ≡ state_count m) (λ (w : Snapshot). w.states) snapshots (λ k d h. (fits k d h).each_state))
     (All-map (λ xs. length xs ≡ state_count m) (λ (w : Snapshot). w.levels) snapshots (λ k d h. (fits k d h).each_level))
-    (All-map (All (IsWithin 108)) (λ (w : Snapshot). w.states) snapshots (λ k d h. small-list 88 108 (lit≤ tt) (get_or snapshots k d).states (fits k d h).small_states))
-    (All-map (All (IsWithin 64)) (λ (w : Snapshot). w.levels) snapshots (λ k d h. small-list 43 64 (lit≤ tt) (get_or snapshots k d).levels (fits k d h).small_levels)) in
+    (All-map (All (IsWithin 108)) (λ (w : Snapshot). w.states) snapshots
+    (λ k d h. wider 88 108 (get_or snapshots k d).states (lit≤ tt) (fits k d h).small_states))
+    (All-map (All (IsWithin 64)) (λ (w : Snapshot). w.levels) snapshots
+    (λ k d h. wider 43 64 (get_or snapshots k d).levels (lit≤ tt) (fits k d h).small_levels)) in
     (found.0, record { reaches_end = end; is_trace = found.1 })
 
 pub some-first : (m : Machine) → m.clauses ≡ [] → IsSize (state_count m) → m.last ≤ 65535 → ((t : Trace) × IsFirstTrace m t) ⊎ ((tick : ℕ) × (var : ℕ) × IsFirstRefusal m (Over tick var))
@@ -127,18 +121,16 @@ IsNarrow w = first_wide w ≡ None
 
 wide-at : (w : SecondSnapshot) (var : ℕ) → first_wide w ≡ Some var → (var < length w.states) × (is_wide w var ≡ true)
 wide-at w var e =
-    let xs = range_with_len 0 (length w.states) in
-    let found = position-Some (is_wide w) xs var 0 e in
-    let inside : var < length w.states = omega (arith, found.0, length-range_with_len 0 (length w.states)) in
-    let here : get_or xs var 0 ≡ var = get_or-range_with_len 0 (length w.states) var 0 inside ∙ omega arith in
-    (inside, subst (λ k. is_wide w k ≡ true) here found.1)
+    let n = length w.states in
+    let found = position-Some (is_wide w) (range_with_len 0 n) var 0 e in
+    let inside : var < n = omega (arith, found.0, range_count n) in
+    (inside, subst (λ k. is_wide w k ≡ true) (range_at n var inside) found.1)
 
 not-wide : (w : SecondSnapshot) (j : ℕ) → IsWithin 108 (int_at w.states j) → IsWithin 64 (int_at w.levels j) → is_wide w j ≡ true → ⊥
-not-wide w j a b e = by (exceeds 108 (int_at w.states j)) refl
-  where
-    by : (t : Bool) → exceeds 108 (int_at w.states j) ≡ t → ⊥
-    by true is = absurd (grind (arith, nat_tests, a, is))
-    by false is = let f : exceeds 64 (int_at w.levels j) ≡ true = rw is at e in absurd (grind (arith, nat_tests, b, f))
+not-wide w j a b e =
+    let f : is_wide w j ≡ false =
+    or_from _ _ (within-passes 108 (int_at w.states j) a)
+    (within-passes 64 (int_at w.levels j) b) in absurd (cc)
 
 -- all snapshots are narrow, or there is a first wide one
 abbrev IsFirstWide : List SecondSnapshot → ℕ → ℕ → Type 0

@@ -1,10 +1,10 @@
 -- Steps of a second-order run.
 use Rattle.qss_own_traces.proofs.Common
-use Common.{ℕ, ℤ, ◌*ℤ◌, ◌*◌, ◌+ℤ◌, ◌+◌, ◌<◌, ◌^◌, ◌||◌, ◌∙◌, ◌≡◌, ◌≤◌, abs_of, All, all_of, ap, ap₂}
-use Common.{AreHeld, arith, Bool, changed, false, fill_by_all, first_exceeding_limit, flag_at}
-use Common.{if◌then◌else◌, int_at, ints, is_limit_check, is_requantization, IsWithin}
-use Common.{leaves_quantum, length, level_unit, List, Machine, mul-le-mul_right, nearest_change}
-use Common.{next_states, None, Ok, Option, pos, refl, Result, rise_at, row_weight, same_table}
+use Common.{ℕ, ℤ, ◌*ℤ◌, ◌*◌, ◌+ℤ◌, ◌+◌, ◌<◌, ◌^◌, ◌||◌, ◌∙◌, ◌≡◌, ◌≤◌, abs_of, ap, ap₂, arith, Bool}
+use Common.{changed, false, fill_by_all, first_exceeding_limit, flag_at, if◌then◌else◌, int_at}
+use Common.{ints, is_limit_check, is_requantization, IsWithin, leaves_quantum, length, level_unit}
+use Common.{List, list_any, Machine, mul-le-mul_right, nearest_change, next_states, None, Ok}
+use Common.{Option, or_parts, pos, range_with_len, refl, Result, rise_at, row_weight, same_table}
 use Common.{second_snapshot_unless, second_step, SecondSnapshot, Some, start_coefficient}
 use Common.{start_constant_part, state_count, sum_below, sym, tabulate, true, unit_fits}
 use Common.{unsigned_abs, unsigned_abs-mul}
@@ -12,7 +12,7 @@ use Rattle.std.proofs.Common.{◌%◌, ◌==◌}
 use Rattle.std.proofs.Math.IntN.{zero-*ℤ}
 use Rattle.qss_order2.specs.SecondSteps.{rise_change_weight, next_levels, next_changes}
 use Rattle.qss_order2.specs.SecondSteps.{next_snapshot, limit_check_period}
-use Rattle.qss_own_traces.proofs.Flags.{none_each}
+use Rattle.qss_own_traces.proofs.Flags.{any_flag, none_each}
 
 -- a change of which a multiple is small is small
 factor_small : (k : ℕ) (z : ℤ) → 1 ≤ k → IsWithin 95 (pos k *ℤ z) → IsWithin 95 z
@@ -20,10 +20,9 @@ factor_small k z some small =
     let once : 1 * unsigned_abs z ≤ k * unsigned_abs z = mul-le-mul_right (unsigned_abs z) some in
     omega (arith, unsigned_abs-mul (pos k) z, once, small)
 
-pub held_small : (m : Machine) (changes : List ℤ) → length changes ≡ state_count m → AreHeld m changes → All (IsWithin 95) changes
-held_small m changes many held =
-    let u = unit_fits m in
-    all_of (IsWithin 95) changes (state_count m) many (λ k h. factor_small (2 ^ (m.p + m.k)) (int_at changes k) (omega (arith, ints, u.from_one)) (held k h))
+pub change_small : (m : Machine) (z : ℤ) → IsWithin 95 (level_unit m *ℤ z) → IsWithin 95 z
+change_small m z held = let u =
+    unit_fits m in factor_small (2 ^ (m.p + m.k)) z (omega (arith, ints, u.from_one)) held
 
 -- the absolute row sum of changes
 pub undriven : (m : Machine) (changes : List ℤ) → tabulate (state_count m) (row_weight m 0 changes) ≡ tabulate (state_count m) (rise_change_weight m changes)
@@ -31,11 +30,6 @@ undriven m changes = same_table (state_count m) (row_weight m 0 changes) (rise_c
   where
     none : (s d : ℤ) → s +ℤ pos 0 *ℤ d ≡ s
     none s d = let e = zero-*ℤ d in omega (arith, ints, e)
-
-or_last : (a b c : Bool) → (a || b || c) ≡ false → c ≡ false
-or_last true b c e = absurd (cc)
-or_last false true c e = absurd (cc)
-or_last false false c e = e
 
 module _ (m : Machine) (tick : ℕ) (w : SecondSnapshot) where
   -- the requantized states take new changes
@@ -45,6 +39,15 @@ module _ (m : Machine) (tick : ℕ) (w : SecondSnapshot) where
       (λ j. if flag_at left j then nearest_change (level_unit m) (rise_at m j (next_levels m w)) else int_at w.changes j)
       (λ j. if leaves_quantum m w j then nearest_change (level_unit m) (rise_at m j (next_levels m w)) else int_at w.changes j)
       (λ j h. ap (λ (b : Bool). if b then nearest_change (level_unit m) (rise_at m j (next_levels m w)) else int_at w.changes j) (flags j h))
+
+  -- some state is requantized
+  pub any_left : (left : List Bool) → length left ≡ state_count m →
+      ((j : ℕ) → j < state_count m → flag_at left j ≡ leaves_quantum m w j) →
+      list_any (λ flag. flag) left ≡ is_requantization m w
+  any_left left many flags =
+      ap (list_any (λ (flag : Bool). flag))
+      (fill_by_all (leaves_quantum m w) left (state_count m) false many flags)
+      ∙ any_flag (leaves_quantum m w) (range_with_len 0 (state_count m))
 
   -- the result of a tick at which the limits are checked, or not
   abbrev result_if : Bool → Result SecondSnapshot ℕ
@@ -68,7 +71,9 @@ module _ (m : Machine) (tick : ℕ) (w : SecondSnapshot) where
   pub step_calm : (v : SecondSnapshot) → is_limit_check m tick (is_requantization m w) ≡ false → v.states ≡ next_states m w → v.levels ≡ next_levels m w → v.changes ≡ w.changes → length w.changes ≡ state_count m →
       second_step nearest_change m tick w ≡ second_snapshot_unless None v
   step_calm v calm states levels changes many =
-      let none : is_requantization m w ≡ false = or_last (tick % limit_check_period == 0) (tick == m.last) (is_requantization m w) calm in
+      let none : is_requantization m w ≡ false =
+      (or_parts (tick % limit_check_period == 0 || tick == m.last)
+      (is_requantization m w) calm).1 in
       let same : w.changes ≡ next_changes nearest_change m w (next_levels m w) =
       fill_by_all (λ j. if leaves_quantum m w j then nearest_change (level_unit m) (rise_at m j (next_levels m w)) else int_at w.changes j) w.changes (state_count m) (pos 0) many
       (λ j h. sym (ap (λ (b : Bool). if b then nearest_change (level_unit m) (rise_at m j (next_levels m w)) else int_at w.changes j) (none_each (leaves_quantum m w) (state_count m) j none h))) in

@@ -1,15 +1,14 @@
 -- Snapshots that a trace can hold.
 use Rattle.qss_own_traces.proofs.Common
 use Common.{[], ℕ, ℤ, ◌*ℤ◌, ◌+◌, ◌<◌, ◌||◌, ◌∙◌, ◌∷◌, ◌≡◌, All, all_of, ap, ap₂, arith, Bool, false}
-use Common.{fine_count, fine_levels, first_wide, get_or, get_or-map, int_at, ints, is_wide}
-use Common.{IsWithin, length, length-map, List, Machine, nearest_change, None, pos, range_with_len}
-use Common.{refl, second_start, SecondSnapshot, Some, start_states, state_count, StateInfo}
-use Common.{states_start, suc, sym, true, zero}
+use Common.{fine_count, fine_levels, fine_states, first_wide, get_or, get_or-map, int_at, ints}
+use Common.{is_wide, IsWithin, length, length-map, List, Machine, nearest_change, None, or_parts}
+use Common.{pos, range_with_len, refl, second_start, SecondSnapshot, Some, start_states}
+use Common.{state_count, StateInfo, states_start, suc, sym, true, within-passes, zero}
 use Rattle.std.proofs.Common.{cond}
 use Rattle.std.proofs.lemmas.Iterator.Adapters.{position_from-zero}
 use Rattle.std.specs.List.{position_from}
-use Rattle.mu_num.proofs.SizeTests.{within-passes, passes-within}
-use Rattle.qss_order2.specs.SecondSteps.{fine_states}
+use Rattle.mu_num.proofs.SizeTests.{passes-within}
 use Rattle.qss_order2.proofs.Sizes.{start_level_small}
 use Rattle.qss_own_traces.proofs.Flags.{none_below, range_at, range_count}
 
@@ -30,21 +29,17 @@ none_wide w e k h =
     sym (ap (is_wide w) (range_at n k h))
     ∙ none_passes (is_wide w) 0 (range_with_len 0 n) (sym (position_from-zero (is_wide w) (range_with_len 0 n)) ∙ e) k 0 (omega (arith, h, range_count n))
 
-or_left : (a b : Bool) → (a || b) ≡ false → a ≡ false
-or_left true b e = e
-or_left false b e = refl
-
-or_right : (a b : Bool) → (a || b) ≡ false → b ≡ false
-or_right true b e = absurd (cc)
-or_right false b e = e
-
 pub narrow_states : (w : SecondSnapshot) (n : ℕ) → length w.states ≡ n → first_wide w ≡ None → All (IsWithin 108) w.states
 narrow_states w n many e =
-    all_of (IsWithin 108) w.states n many (λ k h. passes-within 108 (int_at w.states k) (or_left _ _ (none_wide w e k (omega (arith, h, many)))))
+    all_of (IsWithin 108) w.states n many
+    (λ k h. passes-within 108 (int_at w.states k)
+    (or_parts _ _ (none_wide w e k (omega (arith, h, many)))).0)
 
 pub narrow_levels : (w : SecondSnapshot) (n : ℕ) → length w.states ≡ n → length w.levels ≡ n → first_wide w ≡ None → All (IsWithin 64) w.levels
 narrow_levels w n many levels e =
-    all_of (IsWithin 64) w.levels n levels (λ k h. passes-within 64 (int_at w.levels k) (or_right _ _ (none_wide w e k (omega (arith, h, many)))))
+    all_of (IsWithin 64) w.levels n levels
+    (λ k h. passes-within 64 (int_at w.levels k)
+    (or_parts _ _ (none_wide w e k (omega (arith, h, many)))).1)
 
 -- the start is narrow
 start_state_small : (m : Machine) (k : ℕ) → k < state_count m → IsWithin 94 (int_at (fine_states m) k)

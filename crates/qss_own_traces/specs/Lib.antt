@@ -2,7 +2,6 @@ pub mod Words
 pub mod Prelude
 pub mod Traces
 pub mod TraceSnapshots
-pub mod WideValues
 pub mod RecordedTraces
 pub mod FirstRuns
 pub mod FirstPlaces

@@ -1,12 +1,14 @@
 -- One point of a second-order run.
-use Rattle.std.specs.Prelude.{◌≡◌, ℕ, ◌<◌, Bool, not, List, length, ℤ, pos, ◌+ℤ◌, ◌-ℤ◌, ◌*ℤ◌}
+use Rattle.std.specs.Prelude.{◌≡◌, ℕ, Bool, not, List, length, ℤ, pos, ◌+ℤ◌, ◌-ℤ◌, ◌*ℤ◌}
 use Rattle.std.specs.Prelude.{unsigned_abs, int_lt, All, if◌then◌else◌}
+use Rattle.mu_num.specs.Rounding.{floor_of}
 use Rattle.mu_num.specs.Sizes.{IsWithin}
 use Rattle.qss_machine.specs.declared.compiled_machine.Machine.{Machine}
 use Rattle.mu_num.specs.ListedPlaces.{flag_at}
 use Rattle.mu_num.specs.IndexedSums.{int_at, tabulate}
 use Rattle.qss_machine.specs.Machines.{state_count, level_unit}
 use Rattle.qss_order2.specs.SecondSteps.{SecondSnapshot, reach_of, rise_at, nearest_change}
+use Rattle.qss_order2.specs.SecondRunLimits.{AreHeld}
 use Rattle.qss_own_traces.specs.declared.second_order_trace.SecondPlace.{SecondPlace}
 
 -- the snapshot of a point
@@ -17,26 +19,12 @@ snapshot_of place = record { states = place.states.items; levels = place.levels.
 abbrev pub leaves_from : Machine → ℕ → ℤ → ℤ → ℤ → Bool
 leaves_from m j state level change = not (int_lt (pos (unsigned_abs (state -ℤ level_unit m *ℤ (level +ℤ change)))) (reach_of m j))
 
--- whether the state with index j of a list is at least a quantum from its level after one tick
-abbrev pub has_left : Machine → List ℤ → List ℤ → List ℤ → ℕ → Bool
-has_left m states levels changes j = leaves_from m j (int_at states j) (int_at levels j) (int_at changes j)
-
--- lists with one number for each state
-pub record AreSized (m : Machine) (states levels changes : List ℤ) : Type 0 where
-  pub of_states : length states ≡ state_count m
-  pub of_levels : length levels ≡ state_count m
-  pub of_changes : length changes ≡ state_count m
-
 -- a point with one number for each state in its lists
 pub record IsSized (m : Machine) (place : SecondPlace) : Type 0 where
   pub states : length place.states.items ≡ state_count m
   pub levels : length place.levels.items ≡ state_count m
   pub changes : length place.changes.items ≡ state_count m
   pub left : length place.left.items ≡ state_count m
-
--- the increments of the levels per tick, in units of a state, are at most 2^95
-abbrev pub AreHeld : Machine → List ℤ → Type 0
-AreHeld m changes = (j : ℕ) → j < state_count m → IsWithin 95 (level_unit m *ℤ int_at changes j)
 
 -- a point within the range of traces
 pub record IsWithinLimits (m : Machine) (place : SecondPlace) : Type 0 where
@@ -49,3 +37,24 @@ pub record IsWithinLimits (m : Machine) (place : SecondPlace) : Type 0 where
 abbrev pub changed : Machine → List Bool → List ℤ → List ℤ → List ℤ
 changed m left levels changes =
     tabulate (state_count m) (λ j. if flag_at left j then nearest_change (level_unit m) (rise_at m j levels) else int_at changes j)
+
+-- the level slopes of a point after the requantized states take the nearest ones, by state
+abbrev pub change_after : Machine → SecondPlace → ℕ → ℤ
+change_after m place j = if flag_at place.left.items j
+    then nearest_change (level_unit m) (rise_at m j place.levels.items)
+    else int_at place.changes.items j
+
+abbrev pub changes_after : Machine → SecondPlace → List ℤ
+changes_after m place = changed m place.left.items place.levels.items place.changes.items
+
+-- whether a state at a number is at least a quantum from its level after one tick
+abbrev pub leaves_at : Machine → SecondPlace → ℕ → ℤ → Bool
+leaves_at m place j state = leaves_from m j state (int_at place.levels.items j)
+    (int_at place.changes.items j)
+
+-- the level of a state after one tick, if the states have moved: the floor of the state if it is
+-- requantized
+abbrev pub level_after : Machine → SecondPlace → ℕ → ℤ
+level_after m place j = if flag_at place.left.items j
+    then floor_of (int_at place.states.items j) (level_unit m)
+    else int_at place.levels.items j +ℤ int_at place.changes.items j

@@ -1,7 +1,9 @@
 -- The trace of a machine's second-order run under the nearest rule.
-use Rattle.std.specs.Prelude.{◌≡◌, ℕ, ◌<◌, ◌⊎◌, Bool, List, ◌∷◌, length, take, All, slice_index_or}
+use Rattle.std.specs.Prelude.{◌≡◌, ℕ, ◌<◌, ◌||◌, ◌⊎◌, Bool, List, ◌∷◌, length, take, All, slice_index_or, ℤ}
 use Rattle.std.specs.Prelude.{position, Option, Some, None}
 use Rattle.std.specs.List.{range_with_len}
+use Rattle.mu_num.specs.IndexedSums.{int_at}
+use Rattle.mu_num.specs.Sizes.{exceeds}
 use Rattle.qss_machine.specs.declared.compiled_machine.Machine.{Machine}
 use Rattle.qss_order2.specs.SecondSteps.{SecondSnapshot, second_scale}
 use Rattle.qss_order2.specs.SecondRunLaws.{states_from2, levels_from2}
@@ -9,7 +11,6 @@ use Rattle.qss_trace.specs.declared.trace.Trace.{Trace}
 use Rattle.qss_own_traces.specs.declared.own_trace_draft.TraceOver.{TraceOver}
 use Rattle.qss_own_traces.specs.declared.own_trace_draft.TraceOver.TheVariants.{Over, Memory}
 use Rattle.qss_own_traces.specs.Traces.{IsTraceOf}
-use Rattle.qss_own_traces.specs.WideValues.{is_wide_at}
 use Rattle.qss_order2.specs.SecondRunTexts.{second_order_run}
 
 -- its snapshots from tick 0 on
@@ -17,6 +18,9 @@ abbrev pub second_snapshots : Machine → List SecondSnapshot
 second_snapshots m = (second_order_run m).start ∷ (second_order_run m).snapshots
 
 -- whether a state or its level exceeds the range of traces
+abbrev pub is_wide_at : List ℤ → List ℤ → ℕ → Bool
+is_wide_at states levels j = exceeds 108 (int_at states j) || exceeds 64 (int_at levels j)
+
 abbrev pub is_wide : SecondSnapshot → ℕ → Bool
 is_wide w j = is_wide_at w.states w.levels j
 

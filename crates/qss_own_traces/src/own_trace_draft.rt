@@ -1,12 +1,14 @@
-//! What traces of first and second order share: the start of a run, and the draft of its states and
-//! levels. A run without a trace has one of the listed reasons.
+//! What traces of first and second order share: the start of a run, a tick of a state, the sizes of
+//! numbers, and the draft of the states and levels. A run without a trace has one of the listed
+//! reasons.
 
-ghost use Rattle.std.specs.Prelude.{◌≡◌, ◌++◌, [], ◌<◌, ◌≤◌, ◌*ℤ◌, IfOk, OnOk, length, pos, map};
-ghost use Rattle.qss_own_traces.specs.Prelude.{IsSize, state_count, quanta, level_unit, start_states, IsFactor, ArePlaces, places, first_exceeding, floor_of, variable_limit};
+ghost use Rattle.std.specs.Prelude.{◌≡◌, ◌++◌, [], ◌<◌, ◌≤◌, ◌<ℤ◌, ◌+ℤ◌, ◌*ℤ◌, IfOk, IfSome, OnOk, length, pos, map};
+ghost use Rattle.qss_own_traces.specs.Prelude.{IsSize, IsWithin, state_count, quanta, start_states, IsFactor, ArePlaces, places, first_exceeding, floor_of, overflow_of, variable_limit};
 ghost use Rattle.qss_own_traces.specs.Traces.{IsTraceOf};
 
 use mu_io::Items;
 use mu_num::{exceeds_power_of_two, floor_div};
+use qss_hand::Over;
 use qss_machine::Machine;
 use qss_trace::{Trace, scale_trace_start};
 use std::alloc::{AllocError, AllocFailed, Global};
@@ -38,6 +40,26 @@ impl Draft {
         self.states.extend_from_slice(states)?;
         self.levels.extend_from_slice(levels)?;
         Ok(())
+    }
+
+    /// The trace with these states and levels, in units `scale` times finer than the machine's.
+    pub(crate) fn finish(self, alloc: Global, m: &Machine, scale: u32) -> Result<Trace, AllocError>
+        requires size { IsSize (state_count m.now) }
+        requires scale { IsFactor scale }
+        requires places { ArePlaces (state_count m.now) self.states.items self.levels.items }
+        ensures { IfOk result
+            (λ t. IsTraceOf m.now scale (places (state_count m.now) self.states.items)
+            (places (state_count m.now) self.levels.items) t) }
+    {
+        let q = quanta_of(alloc, m)?;
+        Ok(Trace {
+            n: m.states.as_slice().len() as u8,
+            scale,
+            refine: 1,
+            q: Items::new(q),
+            states: Items::new(self.states),
+            levels: Items::new(self.levels),
+        })
     }
 }
 
@@ -72,54 +94,50 @@ impl<T: Drop> From<AllocFailed<T>> for TraceOver {
     }
 }
 
-/// The trace with these states and levels, in units `scale` times finer than the machine's.
-pub(crate) fn finish_draft_trace(
-    alloc: Global,
-    m: &Machine,
-    scale: u32,
-    draft: Draft,
-) -> Result<Trace, AllocError>
-    requires size { IsSize (state_count m.now) }
-    requires scale { IsFactor scale }
-    requires places { ArePlaces (state_count m.now) draft.states.items draft.levels.items }
-    ensures { IfOk result
-        (λ t. IsTraceOf m.now scale (places (state_count m.now) draft.states.items)
-        (places (state_count m.now) draft.levels.items) t) }
-{
-    let q = trace_draft_quanta(alloc, m)?;
-    Ok(Trace {
-        n: m.states.as_slice().len() as u8,
-        scale,
-        refine: 1,
-        q: Items::new(q),
-        states: Items::new(draft.states),
-        levels: Items::new(draft.levels),
-    })
-}
-
-/// The least index of a number greater than 2^bits in absolute value.
-pub(crate) fn draft_number_exceeding(numbers: &[i128], bits: u8) -> Option<u32>
+/// Checks the sizes of numbers. The error is the least index of a number greater than 2^bits in
+/// absolute value.
+pub(crate) fn check_sizes(numbers: &[i128], bits: u8) -> Result<(), Over>
     requires count_limit { length numbers.now ≤ variable_limit }
     requires bits { bits < 100 }
-    ensures { result ≡ first_exceeding bits numbers.now }
+    ensures { overflow_of result ≡ first_exceeding bits numbers.now }
 {
-    for place in 0..numbers.len() {
-        if exceeds_power_of_two(numbers[place], bits) {
-            return Some(place as u32);
-        }
-    }
-    None
+    check_none(first_large(numbers, bits))
 }
 
-/// The number of state units of one level.
-pub(crate) fn trace_draft_unit(m: &Machine) -> i128
-    ensures { result ≡ level_unit m.now }
+// The least index of a number greater than 2^bits in absolute value.
+fn first_large(numbers: &[i128], bits: u8) -> Option<usize>
+    requires { bits < 100 }
+    ensures value { result ≡ first_exceeding bits numbers.now }
+    ensures bound { IfSome result (λ place. place < length numbers.now) }
 {
-    1i128 << (m.p + m.k)
+    numbers
+        .iter()
+        .position(|number| exceeds_power_of_two(*number, bits))
+}
+
+/// Checks that no index was found. The error is the index.
+pub(crate) fn check_none(found: Option<usize>) -> Result<(), Over>
+    requires { IfSome found (λ var. var ≤ variable_limit) }
+    ensures { overflow_of result ≡ found }
+{
+    match found {
+        Some(var) => Err(Over { var: var as u32 }),
+        None => Ok(()),
+    }
+}
+
+/// A state after one tick.
+pub(crate) fn risen(x: i128, slope: i128) -> i128
+    requires state { IsWithin 108 x }
+    requires slope { IsWithin 118 slope }
+    ensures value { result ≡ x +ℤ slope }
+    ensures bound { IsWithin 119 result }
+{
+    x + slope
 }
 
 /// The states at the start, in units `scale` times finer than the machine's.
-pub(crate) fn draft_states_at_start(
+pub(crate) fn states_at_start(
     alloc: Global,
     m: &Machine,
     scale: u32,
@@ -127,40 +145,33 @@ pub(crate) fn draft_states_at_start(
     requires { IsFactor scale }
     ensures { IfOk result (λ list. list.items ≡ map (λ x. pos scale *ℤ x) (start_states m.now)) }
 {
-    let states = m.states.as_slice();
-    let mut list: Vec<i128> = Vec::with_capacity(alloc, states.len())?;
-    for j in 0..states.len() {
-        list.push_reserved(scale_trace_start(scale, states[j].x0));
-    }
-    Ok(list)
+    m.states
+        .as_slice()
+        .iter()
+        .map(|state| state.x0)
+        .map(|x| scale_trace_start(scale, x))
+        .collect(alloc)
 }
 
 /// The levels of states: their floors.
-pub(crate) fn draft_levels_below(
+pub(crate) fn levels_below(
     alloc: Global,
-    m: &Machine,
     unit: i128,
     states: &[i128],
 ) -> Result<Vec<i128>, AllocError>
-    requires { unit ≡ level_unit m.now }
-    ensures { IfOk result
-        (λ list. list.items ≡ map (λ x. floor_of x (level_unit m.now)) states.now) }
+    requires { pos 0 <ℤ unit }
+    ensures { IfOk result (λ list. list.items ≡ map (λ x. floor_of x unit) states.now) }
 {
-    let mut list: Vec<i128> = Vec::with_capacity(alloc, states.len())?;
-    for j in 0..states.len() {
-        list.push_reserved(floor_div(states[j], unit));
-    }
-    Ok(list)
+    states.iter().map(|x| floor_div(*x, unit)).collect(alloc)
 }
 
 // The quanta of the states, in levels.
-fn trace_draft_quanta(alloc: Global, m: &Machine) -> Result<Vec<i128>, AllocError>
+fn quanta_of(alloc: Global, m: &Machine) -> Result<Vec<i128>, AllocError>
     ensures { IfOk result (λ list. list.items ≡ quanta m.now) }
 {
-    let states = m.states.as_slice();
-    let mut list: Vec<i128> = Vec::with_capacity(alloc, states.len())?;
-    for j in 0..states.len() {
-        list.push_reserved(i128::from(states[j].quantum));
-    }
-    Ok(list)
+    m.states
+        .as_slice()
+        .iter()
+        .map(|state| i128::from(state.quantum))
+        .collect(alloc)
 }

@@ -1,20 +1,20 @@
 //! The trace of a machine's second-order run under the nearest rule, computed tick by tick from
 //! sums over the rows of the affine system.
 
-ghost use Rattle.std.specs.Prelude.{◌≡◌, ◌<◌, ◌≤◌, ◌||◌, ◌+ℤ◌, ◌*ℤ◌, ◌<ℤ◌, if◌then◌else◌, [], ◌-ℤ◌, ◌+◌, ℕ, Bool, All, None, position, length, pos, replicate, true, IfOk, IfErr, MatchOption, unsigned_abs, OnOk};
-ghost use Rattle.qss_own_traces.specs.Prelude.{list_any, range_with_len, option_or, floor_of, IsWithin, exceeds, flag_at, state_count, level_unit, int_at, first_exceeding, tabulate, abs_of, variable_limit, tick_limit, sum_limit, bits_of_second_level, bits_of_second_state, rise_change_weight, is_limit_check, nearest_change, rise_at, rise_weight, IsSize, IsRunOf, table, IsSmall, fine_states, fine_levels, leaves_quantum, next_states, first_exceeding_limit, second_step, second_snapshot_unless};
+ghost use Rattle.std.specs.Prelude.{◌≡◌, ◌<◌, ◌≤◌, ◌||◌, ◌+ℤ◌, ◌*ℤ◌, ◌<ℤ◌, if◌then◌else◌, [], ◌-ℤ◌, ◌+◌, ℕ, All, None, length, pos, replicate, true, IfOk, IfErr, IfSome, MatchOption, position, unsigned_abs, OnOk};
+ghost use Rattle.qss_own_traces.specs.Prelude.{AreHeld, list_any, range_with_len, floor_of, IsWithin, exceeds, flag_at, state_count, level_unit, int_at, tabulate, abs_of, sum_limit, bits_of_second_state, is_limit_check, nearest_change, rise_at, IsSize, IsRunOf, overflow_of, table, IsSmall, fine_states, fine_levels, leaves_quantum, next_states, first_exceeding_limit, past_levels, second_step, second_snapshot_unless};
 ghost use Rattle.qss_order2.specs.SecondSteps.{next_levels};
-ghost use Rattle.qss_own_traces.specs.Words.{AreHeld, AreSized, changed, has_left, leaves_from, Fits, row_weight, system_weight, is_wide_at, IsSecondTrace, IsSecondRefusal};
+ghost use Rattle.qss_own_traces.specs.Words.{change_after, changes_after, is_wide_at, leaves_at, Fits, heavy_row, row_weight, system_weight, IsSecondTrace, IsSecondRefusal};
 
 use crate::own_trace_draft::{
-    Draft, TraceOver, draft_levels_below, draft_number_exceeding, draft_states_at_start,
-    finish_draft_trace,
+    Draft, TraceOver, check_none, check_sizes, levels_below, risen, states_at_start,
 };
 use cert_check::{AffineSystem, affine_system};
 use cert_matrix::RangedSum;
 use mu_num::{
     LOOK_SPAN, SECOND_LEVEL_BITS, SECOND_WEIGHT_BITS, exceeds_power_of_two, floor_div, near_div,
 };
+use qss_hand::Over;
 use qss_machine::Machine;
 use qss_sched::repeat_value;
 use qss_trace::{Trace, trace_level_in_states, trace_reach, trace_rise};
@@ -55,12 +55,15 @@ impl SecondCourse {
         ensures start { IfOk result (λ course. IsAt m.now 0 course) }
         ensures refused { IfErr result (λ why. IsSecondRefusal m.now why) }
     {
-        let mut place = SecondPlace::new(alloc, m, a)?;
-        if let Some(var) = place.settle(m, a) {
-            return Err(TraceOver::Over { tick: 0, var });
+        let mut place = SecondPlace::new(alloc, m)?;
+        if let Err(over) = place.settle(m, a) {
+            return Err(TraceOver::Over {
+                tick: 0,
+                var: over.var,
+            });
         }
         let mut draft = Draft::new(alloc);
-        draft.add(place.states.as_slice(), place.levels.as_slice())?;
+        draft.add(&place.states, &place.levels)?;
         Ok(SecondCourse { place, draft })
     }
 
@@ -73,14 +76,19 @@ impl SecondCourse {
         ensures refused { IfErr result (λ why. IsSecondRefusal m.now why) }
     {
         let tick = tick + 1;
-        if let Some(var) = self.place.advance_tick(m, a, tick) {
-            return Err(TraceOver::Over { tick, var });
+        if let Err(over) = self.place.advance_tick(m, a, tick) {
+            return Err(TraceOver::Over {
+                tick,
+                var: over.var,
+            });
         }
-        if let Some(var) = self.place.wide(m) {
-            return Err(TraceOver::Over { tick, var });
+        if let Err(over) = self.place.check_range(m) {
+            return Err(TraceOver::Over {
+                tick,
+                var: over.var,
+            });
         }
-        self.draft
-            .add(self.place.states.as_slice(), self.place.levels.as_slice())?;
+        self.draft.add(&self.place.states, &self.place.levels)?;
         Ok(())
     }
 
@@ -113,17 +121,12 @@ pub(crate) struct SecondPlace {
 }
 
 impl SecondPlace {
-    ghost use Rattle.qss_own_traces.specs.SecondPlaces.{IsSized, IsWithinLimits, snapshot_of};
+    ghost use Rattle.qss_own_traces.specs.SecondPlaces.{IsSized, IsWithinLimits, level_after, snapshot_of};
     ghost use Rattle.qss_own_traces.specs.SecondRuns.{first_wide};
 
     /// The states and levels at tick 0. All states are marked as requantized, with level slopes of
     /// 0.
-    pub(crate) fn new(
-        alloc: Global,
-        m: &Machine,
-        a: &AffineSystem,
-    ) -> Result<SecondPlace, AllocError>
-        requires { Fits m.now a.now }
+    pub(crate) fn new(alloc: Global, m: &Machine) -> Result<SecondPlace, AllocError>
         ensures sized { IfOk result (λ place. IsSized m.now place) }
         ensures states { IfOk result (λ place. place.states.items ≡ fine_states m.now) }
         ensures levels { IfOk result (λ place. place.levels.items ≡ fine_levels m.now) }
@@ -132,8 +135,8 @@ impl SecondPlace {
         ensures left { IfOk result
             (λ place. place.left.items ≡ replicate (state_count m.now) true) }
     {
-        let states = draft_states_at_start(alloc, m, FINENESS)?;
-        let levels = draft_levels_below(alloc, m, a.unit, states.as_slice())?;
+        let states = states_at_start(alloc, m, FINENESS)?;
+        let levels = levels_below(alloc, m.level_unit(), &states)?;
         let count = states.len();
         Ok(SecondPlace {
             states,
@@ -143,36 +146,69 @@ impl SecondPlace {
         })
     }
 
-    /// Sets the level slopes of the requantized states. Returns the least state that exceeds a
-    /// limit, if any.
-    pub(crate) fn settle(&mut self, m: &Machine, a: &AffineSystem) -> Option<u32>
+    /// Sets the level slopes of the requantized states. The error is the least state or row that
+    /// exceeds a limit: by its level, else by its absolute row sum of levels, else by that of level
+    /// slopes.
+    pub(crate) fn settle(&mut self, m: &Machine, a: &AffineSystem) -> Result<(), Over>
         requires fits { Fits m.now a.now }
         requires sized { IsSized m.now self.old }
         requires held { AreHeld m.now self.old.changes.items }
-        ensures unchanged { (self.new.states ≡ self.old.states) × (self.new.levels ≡ self.old.levels) }
-        ensures overflow { result
-            ≡ first_exceeding_limit m.now self.old.levels.items
-            (changed m.now self.old.left.items self.old.levels.items self.old.changes.items) }
-        ensures changes { result ≡ None
-            → self.new.changes.items
-            ≡ changed m.now self.old.left.items self.old.levels.items self.old.changes.items }
+        ensures overflow { overflow_of result
+            ≡ first_exceeding_limit m.now self.old.levels.items (changes_after m.now self.old) }
+        ensures changes { overflow_of result ≡ None
+            → self.new.changes.items ≡ changes_after m.now self.old }
+        ensures held { overflow_of result ≡ None → AreHeld m.now self.new.changes.items }
         ensures sized { IsSized m.now self.new }
-        ensures held { result ≡ None → AreHeld m.now self.new.changes.items }
+        ensures kept { (self.new.states ≡ self.old.states) × (self.new.levels ≡ self.old.levels) }
     {
-        if let Some(var) = second_trace_level_excess(m, a, self.levels.as_slice()) {
-            return Some(var);
-        }
-        set_second_trace_changes(
-            m,
-            a,
-            self.left.as_slice(),
-            self.levels.as_slice(),
-            self.changes.as_mut_slice(),
-        );
-        second_trace_change_excess(m, a, self.changes.as_slice())
+        check_levels(m, a, &self.levels)?;
+        self.update_changes(m, a);
+        check_row_sums(m, a, UNDRIVEN, &self.changes)
     }
 
-    // Moves states and levels by one tick.
+    // Sets the level slopes of the requantized states to the nearest ones.
+    fn update_changes(&mut self, m: &Machine, a: &AffineSystem)
+        requires fits { Fits m.now a.now }
+        requires sized { IsSized m.now self.old }
+        requires size_limit { All (IsWithin 64) self.old.levels.items }
+        ensures changes { self.new.changes.items ≡ changes_after m.now self.old }
+        ensures kept { (self.new.states ≡ self.old.states) × (self.new.levels ≡ self.old.levels) }
+        ensures left { self.new.left ≡ self.old.left }
+    {
+        for j in 0..a.n {
+            self.changes[j as usize] = self.next_change(m, a, j);
+        }
+    }
+
+    // The slope of a level: the nearest one to the state's slope if the state is requantized, else
+    // the old one.
+    fn next_change(&self, m: &Machine, a: &AffineSystem, state: u8) -> i128
+        requires fits { Fits m.now a.now }
+        requires sized { IsSized m.now self.now }
+        requires size_limit { All (IsWithin 64) self.now.levels.items }
+        requires state { state < state_count m.now }
+        ensures { result ≡ change_after m.now self.now state }
+    {
+        if self.left[state as usize] {
+            near_div(self.rise(m, a, state), a.unit)
+        } else {
+            self.changes[state as usize]
+        }
+    }
+
+    // The slope of a state per tick.
+    fn rise(&self, m: &Machine, a: &AffineSystem, state: u8) -> i128
+        requires fits { Fits m.now a.now }
+        requires levels { length self.now.levels.items ≡ state_count m.now }
+        requires size_limit { All (IsWithin 64) self.now.levels.items }
+        requires state { state < state_count m.now }
+        ensures value { result ≡ rise_at m.now state self.now.levels.items }
+        ensures bound { IsWithin 118 result }
+    {
+        trace_rise(a, FINENESS, &self.levels, state)
+    }
+
+    // Moves states and levels by one tick, and marks the requantized states.
     fn move_on(&mut self, m: &Machine, a: &AffineSystem)
         requires fits { Fits m.now a.now }
         requires stands { IsWithinLimits m.now self.old }
@@ -183,47 +219,97 @@ impl SecondPlace {
             → flag_at self.new.left.items j ≡ leaves_quantum m.now (snapshot_of self.old) j }
         ensures sized { IsSized m.now self.new }
     {
-        move_states(m, a, self.levels.as_slice(), self.states.as_mut_slice());
-        mark_second_trace_left(
-            m,
-            a,
-            self.states.as_slice(),
-            self.levels.as_slice(),
-            self.changes.as_slice(),
-            self.left.as_mut_slice(),
-        );
-        move_second_trace_levels(
-            m,
-            a.unit,
-            self.states.as_slice(),
-            self.changes.as_slice(),
-            self.left.as_slice(),
-            self.levels.as_mut_slice(),
-        );
+        self.move_states(m, a);
+        self.move_levels(m, a);
     }
 
-    /// Advances by one tick, to `tick`. Returns the state that overflows there, if any.
-    pub(crate) fn advance_tick(&mut self, m: &Machine, a: &AffineSystem, tick: u64) -> Option<u32>
+    // Moves all states by one tick, and marks those that are requantized.
+    fn move_states(&mut self, m: &Machine, a: &AffineSystem)
+        requires fits { Fits m.now a.now }
+        requires stands { IsWithinLimits m.now self.old }
+        ensures states { self.new.states.items ≡ next_states m.now (snapshot_of self.old) }
+        ensures left { (j : ℕ) → j < state_count m.now
+            → flag_at self.new.left.items j ≡ leaves_quantum m.now (snapshot_of self.old) j }
+        ensures bound { All (IsWithin 119) self.new.states.items }
+        ensures sized { IsSized m.now self.new }
+        ensures kept { (self.new.levels ≡ self.old.levels) × (self.new.changes ≡ self.old.changes) }
+    {
+        for j in 0..a.n {
+            let place = j as usize;
+            let x = risen(self.states[place], self.rise(m, a, j));
+            self.states[place] = x;
+            self.left[place] = self.leaves_level(m, a, j, x);
+        }
+    }
+
+    // Whether a state at `x` is at least a quantum from its level after one tick.
+    fn leaves_level(&self, m: &Machine, a: &AffineSystem, state: u8, x: i128) -> bool
+        requires fits { Fits m.now a.now }
+        requires sized { IsSized m.now self.now }
+        requires state { state < state_count m.now }
+        requires number { IsWithin 119 x }
+        requires level { IsWithin 64 (int_at self.now.levels.items state) }
+        requires change { IsWithin 95 (level_unit m.now *ℤ int_at self.now.changes.items state) }
+        ensures { result ≡ leaves_at m.now self.now state x }
+    {
+        let place = state as usize;
+        let is_near = distance_after(a.unit, x, self.levels[place], self.changes[place])
+            < trace_reach(FINENESS, a.unit, a.quantum.at(state));
+        !is_near
+    }
+
+    // Moves all levels by one tick, for states that have moved.
+    fn move_levels(&mut self, m: &Machine, a: &AffineSystem)
+        requires fits { Fits m.now a.now }
+        requires sized { IsSized m.now self.old }
+        requires small_states { All (IsWithin 119) self.old.states.items }
+        requires small_levels { All (IsWithin 64) self.old.levels.items }
+        requires held { AreHeld m.now self.old.changes.items }
+        ensures levels { self.new.levels.items
+            ≡ tabulate (state_count m.now) (level_after m.now self.old) }
+        ensures kept { (self.new.states ≡ self.old.states) × (self.new.changes ≡ self.old.changes) }
+        ensures left { self.new.left ≡ self.old.left }
+    {
+        for j in 0..a.n {
+            let place = j as usize;
+            self.levels[place] = next_level(
+                self.left[place],
+                a.unit,
+                self.states[place],
+                self.levels[place],
+                self.changes[place],
+            );
+        }
+    }
+
+    /// Advances by one tick, to `tick`. The error is the state that overflows there.
+    pub(crate) fn advance_tick(
+        &mut self,
+        m: &Machine,
+        a: &AffineSystem,
+        tick: u64,
+    ) -> Result<(), Over>
         requires fits { Fits m.now a.now }
         requires stands { IsWithinLimits m.now self.old }
         ensures step { second_step nearest_change m.now tick (snapshot_of self.old)
-            ≡ second_snapshot_unless result (snapshot_of self.new) }
+            ≡ second_snapshot_unless (overflow_of result) (snapshot_of self.new) }
         ensures sized { IsSized m.now self.new }
-        ensures held { result ≡ None → AreHeld m.now self.new.changes.items }
+        ensures held { overflow_of result ≡ None → AreHeld m.now self.new.changes.items }
     {
         self.move_on(m, a);
-        if is_second_trace_look(m, tick, has_second_trace_left(self.left.as_slice())) {
+        if is_check_due(m, tick, is_any_left(&self.left)) {
             return self.settle(m, a);
         }
-        None
+        Ok(())
     }
 
-    /// The least state that exceeds the range of traces, itself or by its level.
-    pub(crate) fn wide(&self, m: &Machine) -> Option<u32>
+    /// Checks the range of traces. The error is the least state that exceeds it, itself or by its
+    /// level.
+    pub(crate) fn check_range(&self, m: &Machine) -> Result<(), Over>
         requires { IsSized m.now self.now }
-        ensures { result ≡ first_wide (snapshot_of self.now) }
+        ensures { overflow_of result ≡ first_wide (snapshot_of self.now) }
     {
-        second_trace_wide_state(self.states.as_slice(), self.levels.as_slice())
+        check_none(first_out_of_range(&self.states, &self.levels))
     }
 }
 
@@ -242,42 +328,35 @@ pub fn second_trace(alloc: Global, m: &Machine) -> Result<Trace, TraceOver>
     let mut course = SecondCourse::new(alloc, m, &a)?;
     course.run_to_last_tick(m, &a)?;
     let SecondCourse { place: _, draft } = course;
-    Ok(finish_draft_trace(alloc, m, FINENESS, draft)?)
+    Ok(draft.finish(alloc, m, FINENESS)?)
 }
 
-// The least state whose level exceeds its limit. If there is none, the least row whose absolute row
-// sum does.
-fn second_trace_level_excess(m: &Machine, a: &AffineSystem, levels: &[i128]) -> Option<u32>
+// Checks the limits of levels. The error is the least state whose level exceeds its limit. If there
+// is none, it is the least row whose absolute row sum exceeds its limit.
+fn check_levels(m: &Machine, a: &AffineSystem, levels: &[i128]) -> Result<(), Over>
     requires fits { Fits m.now a.now }
     requires levels { length levels.now ≡ state_count m.now }
-    ensures { result
-        ≡ option_or (first_exceeding bits_of_second_level levels.now)
-        (first_exceeding bits_of_second_state (tabulate (state_count m.now) (rise_weight m.now levels.now))) }
+    ensures { overflow_of result ≡ past_levels m.now levels.now }
 {
-    if let Some(var) = draft_number_exceeding(levels, SECOND_LEVEL_BITS) {
-        return Some(var);
-    }
-    first_heavy(m, a, DRIVEN, levels)
+    check_sizes(levels, SECOND_LEVEL_BITS)?;
+    check_row_sums(m, a, DRIVEN, levels)
 }
 
-/// The least row whose absolute row sum exceeds its limit.
-pub(crate) fn first_heavy(
-    m: &Machine,
-    a: &AffineSystem,
-    share: u32,
-    numbers: &[i128],
-) -> Option<u32>
+// Checks the absolute row sums at some numbers, with the constant parts times `share`. The error is
+// the least row that exceeds its limit.
+fn check_row_sums(m: &Machine, a: &AffineSystem, share: u32, numbers: &[i128]) -> Result<(), Over>
     requires fits { Fits m.now a.now }
     requires numbers { length numbers.now ≡ state_count m.now }
-    ensures { result
-        ≡ first_exceeding bits_of_second_state (tabulate (state_count m.now) (row_weight m.now share numbers.now)) }
+    ensures { overflow_of result ≡ heavy_row m.now share numbers.now }
 {
     for row in 0..a.n {
         if is_heavy(m, a, share, numbers, row) {
-            return Some(u32::from(row));
+            return Err(Over {
+                var: u32::from(row),
+            });
         }
     }
-    None
+    Ok(())
 }
 
 // Whether the absolute row sum of a row exceeds its limit.
@@ -287,7 +366,7 @@ fn is_heavy(m: &Machine, a: &AffineSystem, share: u32, numbers: &[i128], row: u8
     requires numbers { length numbers.now ≡ state_count m.now }
     ensures { result ≡ exceeds bits_of_second_state (row_weight m.now share numbers.now row) }
 {
-    match weigh_second_trace_row(a, share, numbers, row) {
+    match row_sum(a, share, numbers, row) {
         Some(sum) => exceeds_power_of_two(sum, SECOND_WEIGHT_BITS),
         None => true,
     }
@@ -295,7 +374,7 @@ fn is_heavy(m: &Machine, a: &AffineSystem, share: u32, numbers: &[i128], row: u8
 
 // The absolute row sum of a row at some numbers, with the constant part times `share`, or `None` if
 // it exceeds 2^126.
-fn weigh_second_trace_row(a: &AffineSystem, share: u32, numbers: &[i128], row: u8) -> Option<i128>
+fn row_sum(a: &AffineSystem, share: u32, numbers: &[i128], row: u8) -> Option<i128>
     requires size_limit { IsSmall a.now }
     requires row { row < a.now.n }
     requires numbers { length numbers.now ≡ a.now.n }
@@ -304,16 +383,13 @@ fn weigh_second_trace_row(a: &AffineSystem, share: u32, numbers: &[i128], row: u
 {
     let mut sum = RangedSum::new().plus_size(a.constant.at(row), i128::from(share))?;
     for k in 0..a.n {
-        sum = sum.plus_size(
-            numbers[k as usize],
-            second_trace_coefficient_size(a, row, k),
-        )?;
+        sum = sum.plus_size(numbers[k as usize], coefficient_size(a, row, k))?;
     }
     Some(sum.total())
 }
 
 // The absolute value of a coefficient.
-fn second_trace_coefficient_size(a: &AffineSystem, row: u8, column: u8) -> i128
+fn coefficient_size(a: &AffineSystem, row: u8, column: u8) -> i128
     requires size_limit { IsSmall a.now }
     requires row { row < a.now.n }
     requires column { column < a.now.n }
@@ -322,169 +398,24 @@ fn second_trace_coefficient_size(a: &AffineSystem, row: u8, column: u8) -> i128
     a.coef.get(row, column).abs()
 }
 
-// Sets the level slopes of the requantized states to the nearest ones.
-fn set_second_trace_changes(
-    m: &Machine,
-    a: &AffineSystem,
-    left: &[bool],
-    levels: &[i128],
-    changes: &mut [i128],
-)
-    requires fits { Fits m.now a.now }
-    requires left { length left.now ≡ state_count m.now }
-    requires levels { length levels.now ≡ state_count m.now }
-    requires changes { length changes.old ≡ state_count m.now }
-    requires size_limit { All (IsWithin 64) levels.now }
-    ensures { changes.new ≡ changed m.now left.now levels.now changes.old }
-{
-    for j in 0..a.n {
-        let place = j as usize;
-        changes[place] = second_trace_change(m, a, left[place], levels, changes[place], j);
-    }
-}
-
-// The slope of a level: the nearest one to the state's slope if the state is requantized, else the
-// old one.
-fn second_trace_change(
-    m: &Machine,
-    a: &AffineSystem,
-    left: bool,
-    levels: &[i128],
-    old: i128,
-    state: u8,
-) -> i128
-    requires fits { Fits m.now a.now }
-    requires state { state < state_count m.now }
-    requires levels { length levels.now ≡ state_count m.now }
-    requires size_limit { All (IsWithin 64) levels.now }
-    ensures { result
-        ≡ (if left then nearest_change (level_unit m.now) (rise_at m.now state levels.now) else old) }
-{
-    if left {
-        near_div(second_trace_rise(m, a, levels, state), a.unit)
-    } else {
-        old
-    }
-}
-
-/// The slope of a state per tick at some levels.
-pub(crate) fn second_trace_rise(m: &Machine, a: &AffineSystem, levels: &[i128], state: u8) -> i128
-    requires fits { Fits m.now a.now }
-    requires state { state < state_count m.now }
-    requires levels { length levels.now ≡ state_count m.now }
-    requires size_limit { All (IsWithin 64) levels.now }
-    ensures value { result ≡ rise_at m.now state levels.now }
-    ensures bound { IsWithin 118 result }
-{
-    trace_rise(a, FINENESS, levels, state)
-}
-
-// The least row whose absolute row sum of level slopes exceeds its limit.
-fn second_trace_change_excess(m: &Machine, a: &AffineSystem, changes: &[i128]) -> Option<u32>
-    requires fits { Fits m.now a.now }
-    requires changes { length changes.now ≡ state_count m.now }
-    ensures { result
-        ≡ first_exceeding bits_of_second_state (tabulate (state_count m.now) (rise_change_weight m.now changes.now)) }
-{
-    first_heavy(m, a, UNDRIVEN, changes)
-}
-
-// Moves all states by one tick.
-fn move_states(m: &Machine, a: &AffineSystem, levels: &[i128], states: &mut [i128])
-    requires fits { Fits m.now a.now }
-    requires levels { length levels.now ≡ state_count m.now }
-    requires states { length states.old ≡ state_count m.now }
-    requires small_levels { All (IsWithin 64) levels.now }
-    requires small_states { All (IsWithin 108) states.old }
-    ensures moved { states.new
-        ≡ tabulate (state_count m.now) (λ j. int_at states.old j +ℤ rise_at m.now j levels.now) }
-    ensures bound { All (IsWithin 119) states.new }
-{
-    for j in 0..a.n {
-        states[j as usize] = risen(states[j as usize], second_trace_rise(m, a, levels, j));
-    }
-}
-
-// A state after one tick.
-fn risen(x: i128, rise: i128) -> i128
-    requires state { IsWithin 108 x }
-    requires rise { IsWithin 118 rise }
-    ensures value { result ≡ x +ℤ rise }
-    ensures bound { IsWithin 119 result }
-{
-    x + rise
-}
-
-// Marks the states that are requantized after one tick.
-fn mark_second_trace_left(
-    m: &Machine,
-    a: &AffineSystem,
-    states: &[i128],
-    levels: &[i128],
-    changes: &[i128],
-    left: &mut [bool],
-)
-    requires fits { Fits m.now a.now }
-    requires sizes { AreSized m.now states.now levels.now changes.now }
-    requires small_states { All (IsWithin 119) states.now }
-    requires small_levels { All (IsWithin 64) levels.now }
-    requires held { AreHeld m.now changes.now }
-    requires left { length left.old ≡ state_count m.now }
-    ensures { (j : ℕ) → j < state_count m.now
-        → flag_at left.new j ≡ has_left m.now states.now levels.now changes.now j }
-{
-    for j in 0..a.n {
-        let place = j as usize;
-        left[place] = leaves_second_trace_level(
-            m,
-            a,
-            states[place],
-            levels[place],
-            changes[place],
-            j,
-        );
-    }
-}
-
-// Whether a state is at least a quantum from its level after one tick.
-fn leaves_second_trace_level(
-    m: &Machine,
-    a: &AffineSystem,
-    x: i128,
-    level: i128,
-    change: i128,
-    state: u8,
-) -> bool
-    requires fits { Fits m.now a.now }
-    requires state { state < state_count m.now }
-    requires number { IsWithin 119 x }
-    requires level { IsWithin 64 level }
-    requires change { IsWithin 95 (level_unit m.now *ℤ change) }
-    ensures { result ≡ leaves_from m.now state x level change }
-{
-    let is_near = second_trace_distance_after(a.unit, x, level, change)
-        < trace_reach(FINENESS, a.unit, a.quantum.at(state));
-    !is_near
-}
-
 /// The distance of a state from its level after one tick.
-pub(crate) fn second_trace_distance_after(unit: i128, x: i128, level: i128, change: i128) -> i128
+pub(crate) fn distance_after(unit: i128, x: i128, level: i128, change: i128) -> i128
     requires unit { IsWithin 44 unit }
     requires state { IsWithin 119 x }
     requires level { IsWithin 64 level }
     requires change { IsWithin 95 (unit *ℤ change) }
     ensures { result ≡ pos (unsigned_abs (x -ℤ unit *ℤ (level +ℤ change))) }
 {
-    second_trace_less_two(
+    less_two(
         x,
         trace_level_in_states(unit, level),
-        second_trace_state_change(unit, change),
+        state_change(unit, change),
     )
     .abs()
 }
 
 // The difference x - a - b.
-fn second_trace_less_two(x: i128, a: i128, b: i128) -> i128
+fn less_two(x: i128, a: i128, b: i128) -> i128
     requires number { IsWithin 119 x }
     requires first { IsWithin 108 a }
     requires second { IsWithin 95 b }
@@ -494,7 +425,7 @@ fn second_trace_less_two(x: i128, a: i128, b: i128) -> i128
 }
 
 // The increment of a level per tick, in units of a state.
-fn second_trace_state_change(unit: i128, change: i128) -> i128
+fn state_change(unit: i128, change: i128) -> i128
     requires { IsWithin 95 (unit *ℤ change) }
     ensures value { result ≡ unit *ℤ change }
     ensures bound { IsWithin 95 result }
@@ -502,35 +433,9 @@ fn second_trace_state_change(unit: i128, change: i128) -> i128
     unit * change
 }
 
-// Moves all levels by one tick.
-fn move_second_trace_levels(
-    m: &Machine,
-    unit: i128,
-    states: &[i128],
-    changes: &[i128],
-    left: &[bool],
-    levels: &mut [i128],
-)
-    requires unit { unit ≡ level_unit m.now }
-    requires states { length states.now ≡ length levels.old }
-    requires changes { length changes.now ≡ length levels.old }
-    requires left { length left.now ≡ length levels.old }
-    requires small_levels { All (IsWithin 64) levels.old }
-    requires small_changes { All (IsWithin 95) changes.now }
-    ensures { levels.new
-        ≡ tabulate (length levels.old)
-        (λ j. if flag_at left.now j
-        then floor_of (int_at states.now j) (level_unit m.now)
-        else int_at levels.old j +ℤ int_at changes.now j) }
-{
-    for j in 0..levels.len() {
-        levels[j] = second_trace_level_after(left[j], unit, states[j], levels[j], changes[j]);
-    }
-}
-
 // A level after one tick: the floor of the state if the state is requantized, else a point of its
 // line.
-fn second_trace_level_after(left: bool, unit: i128, x: i128, level: i128, change: i128) -> i128
+fn next_level(left: bool, unit: i128, x: i128, level: i128, change: i128) -> i128
     requires unit { pos 0 <ℤ unit }
     requires level { IsWithin 64 level }
     requires change { IsWithin 95 change }
@@ -544,41 +449,31 @@ fn second_trace_level_after(left: bool, unit: i128, x: i128, level: i128, change
 }
 
 // Whether the limits are checked at a tick.
-fn is_second_trace_look(m: &Machine, tick: u64, requantized: bool) -> bool
+fn is_check_due(m: &Machine, tick: u64, requantized: bool) -> bool
     ensures { result ≡ is_limit_check m.now tick requantized }
 {
     tick % LOOK_SPAN == 0 || tick == m.last || requantized
 }
 
 // Whether a state is requantized.
-fn has_second_trace_left(left: &[bool]) -> bool
-    ensures { result ≡ list_any (flag_at left.now) (range_with_len 0 (length left.now)) }
+fn is_any_left(left: &[bool]) -> bool
+    ensures { result ≡ list_any (λ flag. flag) left.now }
 {
-    for j in 0..left.len() {
-        if left[j] {
-            return true;
-        }
-    }
-    false
+    left.iter().any(|left| *left)
 }
 
-// The least state that does, itself or by its level.
-fn second_trace_wide_state(states: &[i128], levels: &[i128]) -> Option<u32>
-    requires count_limit { length states.now ≤ variable_limit }
-    requires levels { length levels.now ≡ length states.now }
-    ensures { result
+// The least state that exceeds the range of traces, itself or by its level.
+fn first_out_of_range(states: &[i128], levels: &[i128]) -> Option<usize>
+    requires { length levels.now ≡ length states.now }
+    ensures value { result
         ≡ position (is_wide_at states.now levels.now) (range_with_len 0 (length states.now)) }
+    ensures bound { IfSome result (λ j. j < length states.now) }
 {
-    for j in 0..states.len() {
-        if is_second_trace_wide(states[j], levels[j]) {
-            return Some(j as u32);
-        }
-    }
-    None
+    (0..states.len()).position(|j| is_out_of_range(states[j], levels[j]))
 }
 
 // Whether a state or its level exceeds the range of traces.
-fn is_second_trace_wide(x: i128, level: i128) -> bool
+fn is_out_of_range(x: i128, level: i128) -> bool
     ensures { result ≡ exceeds 108 x || exceeds 64 level }
 {
     x.unsigned_abs() > WIDEST_STATE || level.unsigned_abs() > WIDEST_LEVEL

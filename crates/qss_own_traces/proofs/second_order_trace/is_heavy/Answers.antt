@@ -1,7 +1,8 @@
 -- The absolute row sum by the system is the row's.
 use Rattle.qss_own_traces.proofs.Common
-use Common.{ℕ, ◌<◌, ◌^◌, ◌∙◌, ◌≡◌, ap, arith, exceeds, FitsSigned, nat_tests, pos, sym}
-use Common.{system_weight, to_z-of_z, true, w128}
+use Common.{ℕ, ◌<◌, ◌^◌, ◌∙◌, ◌≡◌, ap, arith, exceeds, FitsSigned, pos, sym, system_weight}
+use Common.{to_z-of_z, true, w128}
+use Rattle.std.proofs.lemmas.Bool.Decides.{nat_tests}
 use Rattle.qss_own_traces.proofs.SecondSums.{weight_is}
 use Rattle.qss_own_traces.proofs.second_order_trace.is_heavy.Goals as goal
 

@@ -1,9 +1,9 @@
 -- The run's states and levels are the trace's places.
 use Rattle.qss_own_traces.proofs.Common
-use Common.{arith, levels_from2, second_order_run, second_scale, state_count, states_from2}
+use Common.{◌∷◌, arith, length-map, levels_from2, second_order_run, second_scale, SecondSnapshot}
+use Common.{state_count, states_from2}
 use Rattle.qss_trace.proofs.Small.{small-system}
 use Rattle.qss_own_traces.proofs.SecondLegitimate.{second_legitimate}
-use Rattle.qss_own_traces.proofs.SecondRuns.{states_count}
 use Rattle.qss_own_traces.proofs.Legitimate.{held_trace, trace_legitimate}
 use Rattle.qss_own_traces.proofs.Placing.{held_places}
 use Rattle.qss_own_traces.proofs.second_order_trace.second_trace.Goals as goal
@@ -21,12 +21,12 @@ run_to_last_tick-requires-clause-fits c =
     let a = c.affine_system-a.ensures in
     record { same_size = a.size; same = a.system; small = small-system c.args.m.now c.affine_system-a.result c.requires.size.few a.size a.coef a.system }
 
-pub finish_draft_trace-requires-clause-places : goal.finish_draft_trace-requires-clause-places
-finish_draft_trace-requires-clause-places c =
+pub finish-requires-clause-places : goal.finish-requires-clause-places
+finish-requires-clause-places c =
     let m = c.args.m.now in
     let end = c.in_ok-run_to_last_tick.ensures.end in
     let run = second_order_run m in
-    let count = states_count run.start run.snapshots in
+    let count = length-map (run.start ∷ run.snapshots) (λ (w : SecondSnapshot). w.states) in
     held_places (state_count m) (states_from2 run.start run.snapshots) (levels_from2 run.start run.snapshots) c.run_to_last_tick.new.self.draft c.requires.size (omega (arith, count)) (omega (arith, count, end.as_many, c.requires.short)) end.held
 
 pub returns-clause-traced : goal.returns-clause-traced
@@ -36,7 +36,9 @@ returns-clause-traced c =
     let run = second_order_run m in
     record {
       reaches_end = end.reaches_end;
-      is_trace = held_trace m second_scale (states_from2 run.start run.snapshots) (levels_from2 run.start run.snapshots) c.run_to_last_tick.new.self.draft _ c.requires.size end.held c.in_ok-finish_draft_trace.ensures;
+      is_trace = held_trace m second_scale (states_from2 run.start run.snapshots)
+          (levels_from2 run.start run.snapshots) c.run_to_last_tick.new.self.draft _ c.requires.size
+          end.held c.in_ok-finish.ensures;
     }
 
 pub returns-clause-legitimate : goal.returns-clause-legitimate

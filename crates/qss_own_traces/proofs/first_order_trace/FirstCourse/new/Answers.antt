@@ -14,8 +14,11 @@ returns c =
     let states : place.states.items ≡ (start_snapshot m).states = ap (λ (w : Snapshot). w.states) c.in_ok-place.ensures.start in
     let levels : place.levels.items ≡ (start_snapshot m).levels = ap (λ (w : Snapshot). w.levels) c.in_ok-place.ensures.start in
     let all : m.last ≡ m.last - 0 = omega arith in
-    let of_states = c.in_ok-add.ensures.states ∙ ap₂ (λ (a b : List ℤ). a ++ b) c.new-draft.ensures.states (c.as_slice.ensures.value ∙ states) in
-    let of_levels = c.in_ok-add.ensures.levels ∙ ap₂ (λ (a b : List ℤ). a ++ b) c.new-draft.ensures.levels (c.as_slice-2.ensures.value ∙ levels) in
+    let of_states = c.in_ok-add.ensures.states
+    ∙ ap₂ (λ (a b : List ℤ). a ++ b) c.new-draft.ensures.states (c.deref.ensures.value ∙ states) in
+    let of_levels = c.in_ok-add.ensures.levels
+    ∙ ap₂ (λ (a b : List ℤ). a ++ b) c.new-draft.ensures.levels
+    (c.deref-2.ensures.value ∙ levels) in
     record {
       snapshots = [];
       as_many = refl;

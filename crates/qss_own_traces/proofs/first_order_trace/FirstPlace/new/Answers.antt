@@ -1,41 +1,58 @@
 -- The states and levels of the start.
 use Rattle.qss_own_traces.proofs.Common
-use Common.{ℤ, ◌∙◌, ◌≡◌, All, ap, floor_of, IsWithin, length, level_unit, map, start_snapshot}
-use Common.{start_states, states_start, subst, sym, with_items, with_items_is}
+use Common.{ℤ, ◌∙◌, ◌≡◌, ap, FitsSigned, floor_of, length, level_unit, map, start_snapshot}
+use Common.{start_states, states_start, sym, to_z-of_z, unit_positive, w128}
 use Rattle.qss_own_traces.proofs.FirstSteps.{ones, start_plain, start_count, level_count}
-use Rattle.qss_own_traces.proofs.FirstSteps.{start_small_levels}
+use Rattle.qss_own_traces.proofs.FirstSteps.{same_items, start_small_levels}
 use Rattle.qss_own_traces.proofs.first_order_trace.FirstPlace.new.Goals as goal
 
-pub shorten_first_trace_levels-requires-clause-size_limit : goal.shorten_first_trace_levels-requires-clause-size_limit
-shorten_first_trace_levels-requires-clause-size_limit c =
-    let m = c.args.m.now in
-    let states : c.in_ok-states.states.items ≡ start_states m = c.in_ok-states.ensures ∙ ones (start_states m) in
-    let levels : c.in_ok-levels.levels.items ≡ (start_snapshot m).levels =
-    c.in_ok-levels.ensures ∙ ap (map (λ (x : ℤ). floor_of x (level_unit m))) (c.as_slice.ensures.value ∙ states) in
-    subst (All (IsWithin 43)) (sym (c.as_slice-2.ensures.value ∙ levels)) (start_small_levels m)
+pub levels_below-requires : goal.levels_below-requires
+levels_below-requires c =
+    let of_unit : FitsSigned w128 c.level_unit.result = record { sfits = c.level_unit.type_inv } in
+    rw (to_z-of_z w128 c.level_unit.result of_unit, c.level_unit.ensures)
+    (unit_positive c.args.m.now)
 
-pub returns-clause-start : goal.returns-clause-start
-returns-clause-start c =
+pub shorten_levels-requires-clause-size_limit : goal.shorten_levels-requires-clause-size_limit
+shorten_levels-requires-clause-size_limit c =
     let m = c.args.m.now in
-    let states : c.in_ok-states.states.items ≡ start_states m = c.in_ok-states.ensures ∙ ones (start_states m) in
-    let levels : c.in_ok-levels.levels.items ≡ (start_snapshot m).levels =
-    c.in_ok-levels.ensures ∙ ap (map (λ (x : ℤ). floor_of x (level_unit m))) (c.as_slice.ensures.value ∙ states) in
-    start_plain m c.in_ok-states.states.items c.in_ok-levels.levels.items c.requires.plain states levels
+    let of_unit : FitsSigned w128 c.level_unit.result = record { sfits = c.level_unit.type_inv } in
+    let floors = rw (
+      to_z-of_z w128 c.level_unit.result of_unit,
+      c.level_unit.ensures,
+      c.deref.ensures.value,
+      c.in_ok-states.ensures,
+    ) at c.in_ok-levels.ensures in
+    let levels : c.in_ok-levels.levels.items ≡ (start_snapshot m).levels = floors
+    ∙ ap (map (λ (x : ℤ). floor_of x (level_unit m))) (ones (start_states m)) in
+    rw levels (start_small_levels m)
 
-pub returns-clause-stands : goal.returns-clause-stands
-returns-clause-stands c =
+pub returns : goal.returns
+returns c =
     let m = c.args.m.now in
-    let states : c.in_ok-states.states.items ≡ start_states m = c.in_ok-states.ensures ∙ ones (start_states m) in
-    let levels : c.in_ok-levels.levels.items ≡ (start_snapshot m).levels =
-    c.in_ok-levels.ensures ∙ ap (map (λ (x : ℤ). floor_of x (level_unit m))) (c.as_slice.ensures.value ∙ states) in
-    let short : (with_items c.in_ok-short_levels.short_levels c.shorten_first_trace_levels.new.short).items ≡ c.in_ok-levels.levels.items =
-    with_items_is c.in_ok-short_levels.short_levels c.shorten_first_trace_levels.new.short (c.shorten_first_trace_levels.auto.short ∙ c.as_mut_slice.ensures.len) ∙ c.shorten_first_trace_levels.ensures ∙ c.as_slice-2.ensures.value in
+    let new = c.shorten_levels.new.self in
+    let kept = c.shorten_levels.ensures.kept in
+    let of_unit : FitsSigned w128 c.level_unit.result = record { sfits = c.level_unit.type_inv } in
+    let floors = rw (
+      to_z-of_z w128 c.level_unit.result of_unit,
+      c.level_unit.ensures,
+      c.deref.ensures.value,
+      c.in_ok-states.ensures,
+    ) at c.in_ok-levels.ensures in
+    let states : new.states.items ≡ start_states m = same_items kept.0 ∙ c.in_ok-states.ensures
+    ∙ ones (start_states m) in
+    let levels : new.levels.items ≡ (start_snapshot m).levels = same_items kept.1 ∙ floors
+    ∙ ap (map (λ (x : ℤ). floor_of x (level_unit m))) (ones (start_states m)) in
     record {
-      states = record { one_each = ap length states ∙ start_count m; small = subst (All (IsWithin 88)) (sym states) (states_start m) };
-      levels = record {
-        one_each = ap length levels ∙ level_count m;
-        short_each = ap length (short ∙ levels) ∙ level_count m;
-        same = short;
-        small = subst (All (IsWithin 43)) (sym levels) (start_small_levels m);
+      start = start_plain m new.states.items new.levels.items c.requires states levels;
+      stands = record {
+        states = record {
+          one_each = ap length states ∙ start_count m;
+          small = rw states (states_start m);
+        };
+        levels = record {
+          one_each = ap length levels ∙ level_count m;
+          small = rw levels (start_small_levels m);
+        };
+        short = c.shorten_levels.ensures.shortened ∙ sym (same_items kept.1);
       };
     }
