@@ -64,7 +64,8 @@ pub use Rattle.qss_trace.specs.TracePlaces.{places}
 pub use Rattle.qss_trace.specs.declared.trace.Trace.{Trace}
 pub use Rattle.qss_own_traces.specs.FirstRuns.{first_run, IsFirstRefusal}
 pub use Rattle.qss_own_traces.specs.RecordedTraces.{Holds}
-pub use Rattle.qss_own_traces.specs.SecondPlaces.{change_after, changed, level_after, snapshot_of}
+pub use Rattle.qss_own_traces.specs.SecondPlaces.{change_after, changed, changes_after, level_after}
+pub use Rattle.qss_own_traces.specs.SecondPlaces.{snapshot_of}
 pub use Rattle.qss_own_traces.specs.SecondRuns.{first_wide, is_wide, IsSecondRefusal}
 pub use Rattle.qss_own_traces.specs.SecondRuns.{second_snapshots}
 pub use Rattle.qss_own_traces.specs.TraceSnapshots.{plain_world}

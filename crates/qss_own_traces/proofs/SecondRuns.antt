@@ -1,15 +1,16 @@
 -- Second-order runs under the nearest rule, tick by tick.
 use Rattle.qss_own_traces.proofs.Common
 use Common.{[], ℕ, ℤ, ◌*ℤ◌, ◌++◌, ◌+◌, ◌-◌, ◌<◌, ◌∙◌, ◌∷◌, ◌≡◌, ◌≤◌, All, All-append, All-cons}
-use Common.{All-nil, ap, append-nil, append_assoc, ap₂, AreHeld, arith, Bool, changed, Err, false}
-use Common.{fine_levels, first_exceeding_limit, first_wide, flag_at, get_or as slice_index_or}
-use Common.{if◌then◌else◌, inl, inr, int_at, ints, IsSecondRefusal, IsWithin, length, length-append}
-use Common.{level_unit, List, Machine, nearest_change, None, Ok, Option, Over, Past, pos, refl}
-use Common.{replicate, Result, rise_at, Run2, same_table, second_order_run, second_snapshots}
-use Common.{second_start, second_step, SecondSnapshot, Some, state_count, subst, suc, sym, take}
-use Common.{take-append_seam, true, zero}
+use Common.{All-nil, ap, append-nil, append_assoc, ap₂, AreHeld, arith, Bool, change_after}
+use Common.{changes_after, Err, false, fine_levels, first_exceeding_limit, first_wide, flag_at}
+use Common.{get_or as slice_index_or, if◌then◌else◌, inl, inr, int_at, ints, IsSecondRefusal}
+use Common.{IsWithin, length, length-append, level_unit, List, Machine, nearest_change, None, Ok}
+use Common.{Option, Over, Past, pos, refl, replicate, Result, rise_at, Run2, same_table}
+use Common.{second_order_run, second_snapshots, second_start, second_step, SecondSnapshot, Some}
+use Common.{state_count, subst, suc, sym, take, take-append_seam, true, zero}
 use Rattle.qss_order2.specs.SecondRuns.{snapshots_from, snapshots_with, snapshots_unless}
 use Rattle.qss_own_traces.specs.SecondCourses.{run2_after}
+use Rattle.qss_own_traces.specs.declared.second_order_trace.SecondPlace.{SecondPlace}
 use Rattle.std.proofs.lemmas.List.{get_or_at, get_or-replicate}
 use Rattle.cert_matrix.proofs.Rows.{get_or-zeros}
 
@@ -90,14 +91,15 @@ zeros_held m j h =
     subst (IsWithin 95) (sym e) (omega (arith, ints))
 
 -- where all states left, all have the nearest changes
-pub all_changed : (m : Machine) (old : List ℤ) → changed m (replicate (state_count m) true) (fine_levels m) old ≡ (second_start nearest_change m).changes
-all_changed m old =
-    same_table (state_count m)
-    (λ j. if flag_at (replicate (state_count m) true) j then nearest_change (level_unit m) (rise_at m j (fine_levels m)) else int_at old j)
+pub all_changed : (m : Machine) (p : SecondPlace) → p.left.items ≡ replicate (state_count m) true →
+    p.levels.items ≡ fine_levels m → changes_after m p ≡ (second_start nearest_change m).changes
+all_changed m p left levels =
+    same_table (state_count m) (change_after m p)
     (λ j. nearest_change (level_unit m) (rise_at m j (fine_levels m)))
-    (λ j h. ap (λ (b : Bool). if b then nearest_change (level_unit m)
-    (rise_at m j (fine_levels m)) else int_at old j)
-    (get_or-replicate (state_count m) j true false h))
+    (λ j h. ap₂ (λ (b : Bool) (ms : List ℤ). if b then nearest_change (level_unit m)
+    (rise_at m j ms) else int_at p.changes.items j)
+    (ap (λ (l : List Bool). flag_at l j) left ∙ get_or-replicate (state_count m) j true false h)
+    levels)
 
 abbrev run_unless : Machine → Option ℕ → Run2
 run_unless m over =

@@ -31,6 +31,9 @@ undriven m changes = same_table (state_count m) (row_weight m 0 changes) (rise_c
     none : (s d : ℤ) → s +ℤ pos 0 *ℤ d ≡ s
     none s d = let e = zero-*ℤ d in omega (arith, ints, e)
 
+abbrev pub with_changes : List ℤ → List ℤ → List ℤ → SecondSnapshot
+with_changes states levels changes = record { states = states; levels = levels; changes = changes }
+
 module _ (m : Machine) (tick : ℕ) (w : SecondSnapshot) where
   -- the requantized states take new changes
   pub changed_are : (left : List Bool) → ((j : ℕ) → j < state_count m → flag_at left j ≡ leaves_quantum m w j) → changed m left (next_levels m w) w.changes ≡ next_changes nearest_change m w (next_levels m w)
@@ -56,9 +59,6 @@ module _ (m : Machine) (tick : ℕ) (w : SecondSnapshot) where
   unless_same : (o : Option ℕ) (u v : SecondSnapshot) → (o ≡ None → u ≡ v) → second_snapshot_unless o u ≡ second_snapshot_unless o v
   unless_same None u v same = ap (λ (x : SecondSnapshot). Ok x) (same refl)
   unless_same (Some var) u v same = refl
-
-  abbrev with_changes : List ℤ → List ℤ → List ℤ → SecondSnapshot
-  with_changes states levels changes = record { states = states; levels = levels; changes = changes }
 
   pub step_looked : (o : Option ℕ) (v : SecondSnapshot) → is_limit_check m tick (is_requantization m w) ≡ true → o ≡ first_exceeding_limit m (next_levels m w) (next_changes nearest_change m w (next_levels m w)) →
       v.states ≡ next_states m w → v.levels ≡ next_levels m w → (o ≡ None → v.changes ≡ next_changes nearest_change m w (next_levels m w)) → second_step nearest_change m tick w ≡ second_snapshot_unless o v

@@ -12,7 +12,7 @@ pub use Rattle.qss_hand.specs.Works.{overflow_of}
 pub use Rattle.qss_machine.specs.Machines.{level_unit, quanta, row_at, start_discretes, start_states, state_count}
 pub use Rattle.qss_machine.specs.Ticks.{exceeds_row_limits, is_within_quantum, moved_states, next_levels, snapshot_unless, start_snapshot, step}
 pub use Rattle.qss_order2.specs.SecondRunLimits.{AreHeld, past_levels}
-pub use Rattle.qss_order2.specs.SecondSteps.{fine_levels, fine_states, first_exceeding_limit, is_limit_check, leaves_quantum, nearest_change, next_states, rise_at, second_snapshot_unless, second_step}
+pub use Rattle.qss_order2.specs.SecondSteps.{fine_levels, fine_states, first_exceeding_limit, is_limit_check, is_requantization, leaves_quantum, nearest_change, next_states, rise_at, second_snapshot_unless, second_step}
 pub use Rattle.qss_trace.specs.Trace.{IsRunOf}
 pub use Rattle.qss_trace.specs.TraceLimits.{ArePlaces, IsFactor}
 pub use Rattle.qss_trace.specs.TracePlaces.{places}

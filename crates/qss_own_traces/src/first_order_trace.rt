@@ -29,8 +29,7 @@ impl FirstCourse {
         ensures { IfOk result (λ course. IsAt m.now 0 course) }
     {
         let place = FirstPlace::new(alloc, m)?;
-        let mut draft = Draft::new(alloc);
-        draft.add(&place.states, &place.levels)?;
+        let draft = Draft::new(alloc, &place.states, &place.levels)?;
         Ok(FirstCourse { place, draft })
     }
 
@@ -91,7 +90,7 @@ impl FirstPlace {
         ensures stands { IfOk result (λ place. IsWithinLimits m.now place) }
     {
         let states = states_at_start(alloc, m, 1)?;
-        let levels = levels_below(alloc, m.level_unit(), &states)?;
+        let levels = levels_below(alloc, m, &states)?;
         let short_levels = repeat_value(alloc, 0, levels.len())?;
         let mut place = FirstPlace {
             states,

@@ -2,8 +2,8 @@
 //! numbers, and the draft of the states and levels. A run without a trace has one of the listed
 //! reasons.
 
-ghost use Rattle.std.specs.Prelude.{◌≡◌, ◌++◌, [], ◌<◌, ◌≤◌, ◌<ℤ◌, ◌+ℤ◌, ◌*ℤ◌, IfOk, IfSome, OnOk, length, pos, map};
-ghost use Rattle.qss_own_traces.specs.Prelude.{IsSize, IsWithin, state_count, quanta, start_states, IsFactor, ArePlaces, places, first_exceeding, floor_of, overflow_of, variable_limit};
+ghost use Rattle.std.specs.Prelude.{◌≡◌, ◌++◌, ◌<◌, ◌≤◌, ◌<ℤ◌, ◌+ℤ◌, ◌*ℤ◌, IfOk, IfSome, OnOk, length, pos, map};
+ghost use Rattle.qss_own_traces.specs.Prelude.{IsSize, IsWithin, state_count, quanta, level_unit, start_states, IsFactor, ArePlaces, places, first_exceeding, floor_of, overflow_of, variable_limit};
 ghost use Rattle.qss_own_traces.specs.Traces.{IsTraceOf};
 
 use mu_io::Items;
@@ -21,15 +21,17 @@ pub(crate) struct Draft {
 }
 
 impl Draft {
-    /// An empty draft.
-    pub(crate) fn new(alloc: Global) -> Draft
-        ensures states { result.states.items ≡ [] }
-        ensures levels { result.levels.items ≡ [] }
+    /// The states and levels of tick 0.
+    pub(crate) fn new(alloc: Global, states: &[i128], levels: &[i128]) -> Result<Draft, AllocError>
+        ensures states { IfOk result (λ draft. draft.states.items ≡ states.now) }
+        ensures levels { IfOk result (λ draft. draft.levels.items ≡ levels.now) }
     {
-        Draft {
+        let mut draft = Draft {
             states: Vec::new(alloc),
             levels: Vec::new(alloc),
-        }
+        };
+        draft.add(states, levels)?;
+        Ok(draft)
     }
 
     /// Appends the states and levels of a tick.
@@ -156,12 +158,13 @@ pub(crate) fn states_at_start(
 /// The levels of states: their floors.
 pub(crate) fn levels_below(
     alloc: Global,
-    unit: i128,
+    m: &Machine,
     states: &[i128],
 ) -> Result<Vec<i128>, AllocError>
-    requires { pos 0 <ℤ unit }
-    ensures { IfOk result (λ list. list.items ≡ map (λ x. floor_of x unit) states.now) }
+    ensures { IfOk result
+        (λ list. list.items ≡ map (λ x. floor_of x (level_unit m.now)) states.now) }
 {
+    let unit = m.level_unit();
     states.iter().map(|x| floor_div(*x, unit)).collect(alloc)
 }
 

@@ -2,7 +2,7 @@
 //! sums over the rows of the affine system.
 
 ghost use Rattle.std.specs.Prelude.{◌≡◌, ◌<◌, ◌≤◌, ◌||◌, ◌+ℤ◌, ◌*ℤ◌, ◌<ℤ◌, if◌then◌else◌, [], ◌-ℤ◌, ◌+◌, ℕ, All, None, length, pos, replicate, true, IfOk, IfErr, IfSome, MatchOption, position, unsigned_abs, OnOk};
-ghost use Rattle.qss_own_traces.specs.Prelude.{AreHeld, list_any, range_with_len, floor_of, IsWithin, exceeds, flag_at, state_count, level_unit, int_at, tabulate, abs_of, sum_limit, bits_of_second_state, is_limit_check, nearest_change, rise_at, IsSize, IsRunOf, overflow_of, table, IsSmall, fine_states, fine_levels, leaves_quantum, next_states, first_exceeding_limit, past_levels, second_step, second_snapshot_unless};
+ghost use Rattle.qss_own_traces.specs.Prelude.{AreHeld, list_any, range_with_len, floor_of, IsWithin, exceeds, flag_at, state_count, level_unit, int_at, tabulate, abs_of, sum_limit, bits_of_second_state, is_limit_check, is_requantization, nearest_change, rise_at, IsSize, IsRunOf, overflow_of, table, IsSmall, fine_states, fine_levels, leaves_quantum, next_states, first_exceeding_limit, past_levels, second_step, second_snapshot_unless};
 ghost use Rattle.qss_order2.specs.SecondSteps.{next_levels};
 ghost use Rattle.qss_own_traces.specs.Words.{change_after, changes_after, is_wide_at, leaves_at, Fits, heavy_row, row_weight, system_weight, IsSecondTrace, IsSecondRefusal};
 
@@ -62,8 +62,7 @@ impl SecondCourse {
                 var: over.var,
             });
         }
-        let mut draft = Draft::new(alloc);
-        draft.add(&place.states, &place.levels)?;
+        let draft = Draft::new(alloc, &place.states, &place.levels)?;
         Ok(SecondCourse { place, draft })
     }
 
@@ -136,7 +135,7 @@ impl SecondPlace {
             (λ place. place.left.items ≡ replicate (state_count m.now) true) }
     {
         let states = states_at_start(alloc, m, FINENESS)?;
-        let levels = levels_below(alloc, m.level_unit(), &states)?;
+        let levels = levels_below(alloc, m, &states)?;
         let count = states.len();
         Ok(SecondPlace {
             states,
@@ -208,8 +207,9 @@ impl SecondPlace {
         trace_rise(a, FINENESS, &self.levels, state)
     }
 
-    // Moves states and levels by one tick, and marks the requantized states.
-    fn move_on(&mut self, m: &Machine, a: &AffineSystem)
+    // Moves states and levels by one tick, and marks the requantized states. Returns whether there
+    // are some.
+    fn move_on(&mut self, m: &Machine, a: &AffineSystem) -> bool
         requires fits { Fits m.now a.now }
         requires stands { IsWithinLimits m.now self.old }
         ensures states { self.new.states.items ≡ next_states m.now (snapshot_of self.old) }
@@ -218,9 +218,11 @@ impl SecondPlace {
         ensures left { (j : ℕ) → j < state_count m.now
             → flag_at self.new.left.items j ≡ leaves_quantum m.now (snapshot_of self.old) j }
         ensures sized { IsSized m.now self.new }
+        ensures value { result ≡ is_requantization m.now (snapshot_of self.old) }
     {
         self.move_states(m, a);
         self.move_levels(m, a);
+        is_any_left(&self.left)
     }
 
     // Moves all states by one tick, and marks those that are requantized.
@@ -296,8 +298,8 @@ impl SecondPlace {
         ensures sized { IsSized m.now self.new }
         ensures held { overflow_of result ≡ None → AreHeld m.now self.new.changes.items }
     {
-        self.move_on(m, a);
-        if is_check_due(m, tick, is_any_left(&self.left)) {
+        let requantized = self.move_on(m, a);
+        if is_check_due(m, tick, requantized) {
             return self.settle(m, a);
         }
         Ok(())

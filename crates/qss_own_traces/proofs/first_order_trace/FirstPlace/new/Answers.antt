@@ -1,29 +1,17 @@
 -- The states and levels of the start.
 use Rattle.qss_own_traces.proofs.Common
-use Common.{ℤ, ◌∙◌, ◌≡◌, ap, FitsSigned, floor_of, length, level_unit, map, start_snapshot}
-use Common.{start_states, states_start, sym, to_z-of_z, unit_positive, w128}
+use Common.{ℤ, ◌∙◌, ◌≡◌, ap, floor_of, length, level_unit, map, start_snapshot, start_states}
+use Common.{states_start, sym}
 use Rattle.qss_own_traces.proofs.FirstSteps.{ones, start_plain, start_count, level_count}
 use Rattle.qss_own_traces.proofs.FirstSteps.{same_items, start_small_levels}
 use Rattle.qss_own_traces.proofs.first_order_trace.FirstPlace.new.Goals as goal
 
-pub levels_below-requires : goal.levels_below-requires
-levels_below-requires c =
-    let of_unit : FitsSigned w128 c.level_unit.result = record { sfits = c.level_unit.type_inv } in
-    rw (to_z-of_z w128 c.level_unit.result of_unit, c.level_unit.ensures)
-    (unit_positive c.args.m.now)
-
 pub shorten_levels-requires-clause-size_limit : goal.shorten_levels-requires-clause-size_limit
 shorten_levels-requires-clause-size_limit c =
     let m = c.args.m.now in
-    let of_unit : FitsSigned w128 c.level_unit.result = record { sfits = c.level_unit.type_inv } in
-    let floors = rw (
-      to_z-of_z w128 c.level_unit.result of_unit,
-      c.level_unit.ensures,
-      c.deref.ensures.value,
-      c.in_ok-states.ensures,
-    ) at c.in_ok-levels.ensures in
-    let levels : c.in_ok-levels.levels.items ≡ (start_snapshot m).levels = floors
-    ∙ ap (map (λ (x : ℤ). floor_of x (level_unit m))) (ones (start_states m)) in
+    let levels : c.in_ok-levels.levels.items ≡ (start_snapshot m).levels = c.in_ok-levels.ensures
+    ∙ ap (map (λ (x : ℤ). floor_of x (level_unit m)))
+    (c.deref.ensures.value ∙ c.in_ok-states.ensures ∙ ones (start_states m)) in
     rw levels (start_small_levels m)
 
 pub returns : goal.returns
@@ -31,17 +19,12 @@ returns c =
     let m = c.args.m.now in
     let new = c.shorten_levels.new.self in
     let kept = c.shorten_levels.ensures.kept in
-    let of_unit : FitsSigned w128 c.level_unit.result = record { sfits = c.level_unit.type_inv } in
-    let floors = rw (
-      to_z-of_z w128 c.level_unit.result of_unit,
-      c.level_unit.ensures,
-      c.deref.ensures.value,
-      c.in_ok-states.ensures,
-    ) at c.in_ok-levels.ensures in
-    let states : new.states.items ≡ start_states m = same_items kept.0 ∙ c.in_ok-states.ensures
-    ∙ ones (start_states m) in
-    let levels : new.levels.items ≡ (start_snapshot m).levels = same_items kept.1 ∙ floors
-    ∙ ap (map (λ (x : ℤ). floor_of x (level_unit m))) (ones (start_states m)) in
+    let own : c.in_ok-states.states.items ≡ start_states m =
+    c.in_ok-states.ensures ∙ ones (start_states m) in
+    let states : new.states.items ≡ start_states m = same_items kept.0 ∙ own in
+    let levels : new.levels.items ≡ (start_snapshot m).levels =
+    same_items kept.1 ∙ c.in_ok-levels.ensures
+    ∙ ap (map (λ (x : ℤ). floor_of x (level_unit m))) (c.deref.ensures.value ∙ own) in
     record {
       start = start_plain m new.states.items new.levels.items c.requires states levels;
       stands = record {

@@ -1,16 +1,15 @@
 -- The run from tick 0 on.
 use Rattle.qss_own_traces.proofs.Common
-use Common.{[], ℤ, ◌++◌, ◌∙◌, ◌≡◌, All, ap, ap₂, AreHeld, Bool, changed, first_exceeding_limit}
-use Common.{Global, IsWithin, length, List, nearest_change, None, overflow_of, refl, second_start}
-use Common.{SecondSnapshot, snapshot_of, state_count, subst, sym, Vec}
+use Common.{[], ℤ, ◌∙◌, ◌≡◌, All, ap, ap₂, AreHeld, first_exceeding_limit, IsWithin, length, List}
+use Common.{nearest_change, None, overflow_of, refl, second_start, snapshot_of, state_count, subst}
+use Common.{sym}
+use Rattle.qss_own_traces.proofs.FirstSteps.{same_items}
 use Rattle.qss_own_traces.proofs.Placing.{holds_one}
+use Rattle.qss_own_traces.proofs.SecondSteps.{with_changes}
 use Rattle.qss_own_traces.proofs.SecondRuns.{all_changed, narrow_one, start_left, start_over}
 use Rattle.qss_own_traces.proofs.SecondRuns.{zeros_held}
 use Rattle.qss_own_traces.proofs.Wides.{narrow_levels, narrow_states, start_narrow}
 use Rattle.qss_own_traces.proofs.second_order_trace.SecondCourse.new.Goals as goal
-
-abbrev with_changes : List ℤ → List ℤ → List ℤ → SecondSnapshot
-with_changes states levels changes = record { states = states; levels = levels; changes = changes }
 
 pub settle-requires-clause-held : goal.settle-requires-clause-held
 settle-requires-clause-held c = subst (AreHeld c.args.m.now) (sym c.in_ok-place.ensures.changes) (zeros_held c.args.m.now)
@@ -19,8 +18,7 @@ pub returns-in-Err-clause-refused : goal.returns-in-Err-clause-refused
 returns-in-Err-clause-refused c =
     let m = c.args.m.now in
     let p = c.in_ok-place.place in
-    let changes : changed m p.left.items p.levels.items p.changes.items ≡ (second_start nearest_change m).changes =
-    ap₂ (λ (l : List Bool) (ms : List ℤ). changed m l ms p.changes.items) c.in_ok-place.ensures.left c.in_ok-place.ensures.levels ∙ all_changed m p.changes.items in
+    let changes = all_changed m p c.in_ok-place.ensures.left c.in_ok-place.ensures.levels in
     start_over m c.in-Err.over.var (start_narrow m)
     (sym (ap₂ (first_exceeding_limit m) c.in_ok-place.ensures.levels changes)
     ∙ sym c.settle.ensures.overflow ∙ ap overflow_of c.in-Err.is)
@@ -32,15 +30,14 @@ returns-clause-start c =
     let q = c.settle.new.self in
     let start = second_start nearest_change m in
     let sized = c.settle.ensures.sized in
-    let changes : changed m p.left.items p.levels.items p.changes.items ≡ start.changes =
-    ap₂ (λ (l : List Bool) (ms : List ℤ). changed m l ms p.changes.items) c.in_ok-place.ensures.left c.in_ok-place.ensures.levels ∙ all_changed m p.changes.items in
+    let changes = all_changed m p c.in_ok-place.ensures.left c.in_ok-place.ensures.levels in
     let none : first_exceeding_limit m start.levels start.changes ≡ None =
     sym (ap₂ (first_exceeding_limit m) c.in_ok-place.ensures.levels changes)
     ∙ sym c.settle.ensures.overflow ∙ ap overflow_of c.in_default.is in
     let states : q.states.items ≡ start.states =
-    ap (λ (v : Vec ℤ Global). v.items) c.settle.ensures.kept.0 ∙ c.in_ok-place.ensures.states in
+    same_items c.settle.ensures.kept.0 ∙ c.in_ok-place.ensures.states in
     let levels : q.levels.items ≡ start.levels =
-    ap (λ (v : Vec ℤ Global). v.items) c.settle.ensures.kept.1 ∙ c.in_ok-place.ensures.levels in
+    same_items c.settle.ensures.kept.1 ∙ c.in_ok-place.ensures.levels in
     let taken : q.changes.items ≡ start.changes =
     c.settle.ensures.changes (ap overflow_of c.in_default.is) ∙ changes in
     let of_states : length start.states ≡ state_count m = ap length (sym states) ∙ sized.states in
@@ -60,11 +57,7 @@ returns-clause-start c =
         small_states = subst (All (IsWithin 108)) (sym states) small_states;
         small_levels = subst (All (IsWithin 64)) (sym levels) small_levels;
       };
-      held = holds_one (state_count m) start.states start.levels c.add.new.self of_states of_levels small_states small_levels
-          (c.in_ok-add.ensures.states
-          ∙ ap₂ (λ (a b : List ℤ). a ++ b) c.new-draft.ensures.states
-          (c.deref.ensures.value ∙ states))
-          (c.in_ok-add.ensures.levels
-          ∙ ap₂ (λ (a b : List ℤ). a ++ b) c.new-draft.ensures.levels
-          (c.deref-2.ensures.value ∙ levels));
+      held = holds_one (state_count m) start.states start.levels c.in_ok-draft.draft of_states of_levels small_states small_levels
+          (c.in_ok-draft.ensures.states ∙ c.deref.ensures.value ∙ states)
+          (c.in_ok-draft.ensures.levels ∙ c.deref-2.ensures.value ∙ levels);
     }

@@ -1,54 +1,51 @@
 -- The distance is not below the reach.
 use Rattle.qss_own_traces.proofs.Common
 use Common.{ℤ, ◌*ℤ◌, ◌+ℤ◌, ◌-ℤ◌, ◌∙◌, ◌≡◌, ap, ap₂, arith, FitsSigned, get_or_read, int_at, int_lt}
-use Common.{ints, IsWithin, level_unit, not, pos, quanta, subst, sym, to_z-of_z, unsigned_abs, w128}
+use Common.{ints, IsWithin, level_unit, not, pos, quanta, to_z-of_z, unsigned_abs, w128}
 use Rattle.qss_order2.proofs.Sizes.{quantum_fits}
 use Rattle.qss_own_traces.proofs.SecondSteps.{change_small}
 use Rattle.qss_own_traces.proofs.SecondSums.{unit_is, quantum_is}
 use Rattle.qss_own_traces.proofs.second_order_trace.SecondPlace.leaves_level.Goals as goal
 
-pub distance_after-requires-clause-unit : goal.distance_after-requires-clause-unit
-distance_after-requires-clause-unit c =
-    let small : IsWithin 44 c.args.a.now.unit = c.requires.fits.small.unit in
-    let of_unit : FitsSigned w128 c.args.a.now.unit = omega (arith, ints, small) in
-    simp to_z-of_z small
-
-pub distance_after-requires-clause-level : goal.distance_after-requires-clause-level
-distance_after-requires-clause-level c =
+pub distance_after-requires : goal.distance_after-requires
+distance_after-requires c =
+    let m = c.args.m.now in
     let p = c.args.self.now in
-    let small : IsWithin 64 c.index.result.now =
-    rw (get_or_read p.levels.items c.args.state _
-    (omega (arith, c.requires.state, c.requires.sized.levels)) c.index.ensures (pos 0))
-    c.requires.level in
-    let fits : FitsSigned w128 c.index.result.now = omega (arith, ints, small) in
-    simp to_z-of_z small
-
-pub distance_after-requires-clause-change : goal.distance_after-requires-clause-change
-distance_after-requires-clause-change c =
-    let p = c.args.self.now in
+    let j = c.args.state in
     let small : IsWithin 44 c.args.a.now.unit = c.requires.fits.small.unit in
     let of_unit : FitsSigned w128 c.args.a.now.unit = omega (arith, ints, small) in
-    let held : IsWithin 95 (level_unit c.args.m.now *ℤ c.index-2.result.now) =
-    rw (get_or_read p.changes.items c.args.state _
-    (omega (arith, c.requires.state, c.requires.sized.changes)) c.index-2.ensures (pos 0))
-    c.requires.change in
-    let fits : FitsSigned w128 c.index-2.result.now =
-    omega (arith, ints, change_small c.args.m.now _ held) in
-    simp to_z-of_z (rw (unit_is c.args.m.now c.args.a.now c.requires.fits) held)
+    let of_x : FitsSigned w128 c.args.x = record { sfits = c.ranges.x.sfits } in
+    let level : IsWithin 64 c.index.result.now =
+    rw (get_or_read p.levels.items j _ (omega (arith, c.requires.state, c.requires.sized.levels))
+    c.index.ensures (pos 0)) c.requires.level in
+    let held : IsWithin 95 (level_unit m *ℤ c.index-2.result.now) =
+    rw (get_or_read p.changes.items j _ (omega (arith, c.requires.state, c.requires.sized.changes))
+    c.index-2.ensures (pos 0)) c.requires.change in
+    let of_level : FitsSigned w128 c.index.result.now = omega (arith, ints, level) in
+    let of_change : FitsSigned w128 c.index-2.result.now =
+    omega (arith, ints, change_small m _ held) in
+    record {
+      unit = simp to_z-of_z small;
+      state = simp to_z-of_z c.requires.number;
+      level = simp to_z-of_z level;
+      change = simp to_z-of_z (rw (unit_is m c.args.a.now c.requires.fits) held);
+    }
 
-pub trace_reach-requires-clause-unit : goal.trace_reach-requires-clause-unit
-trace_reach-requires-clause-unit c =
+pub trace_reach-requires : goal.trace_reach-requires
+trace_reach-requires c =
+    let m = c.args.m.now in
     let small : IsWithin 44 c.args.a.now.unit = c.requires.fits.small.unit in
     let of_unit : FitsSigned w128 c.args.a.now.unit = omega (arith, ints, small) in
-    simp to_z-of_z small
-
-pub trace_reach-requires-clause-quantum : goal.trace_reach-requires-clause-quantum
-trace_reach-requires-clause-quantum c =
-    let q = quantum_fits c.args.m.now c.args.state c.requires.state in
-    let is : c.at.result ≡ int_at (quanta c.args.m.now) c.args.state = c.at.ensures ∙ quantum_is c.args.m.now c.args.a.now c.args.state c.requires.fits in
-    let small : IsWithin 43 c.at.result = subst (IsWithin 43) (sym is) (omega (arith, q.within)) in
     let of_at : FitsSigned w128 c.at.result = record { sfits = c.at.type_inv } in
-    simp to_z-of_z small
+    let q = quantum_fits m c.args.state c.requires.state in
+    let quantum : IsWithin 43 c.at.result =
+    rw (c.at.ensures, quantum_is m c.args.a.now c.args.state c.requires.fits)
+    (omega (arith, q.within)) in
+    record {
+      scale = record { some = omega arith; few = omega arith };
+      unit = simp to_z-of_z small;
+      quantum = simp to_z-of_z quantum;
+    }
 
 pub returns : goal.returns
 returns c =

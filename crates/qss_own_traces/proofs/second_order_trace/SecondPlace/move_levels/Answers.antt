@@ -1,9 +1,8 @@
 -- One more level.
 use Rattle.qss_own_traces.proofs.Common
-use Common.{ℕ, ◌*ℤ◌, ◌+ℤ◌, ◌<ℤ◌, ◌<◌, ◌∙◌, ◌≡◌, ◌≤◌, ap, arith, false, filled_more, filled_table}
+use Common.{ℕ, ◌+ℤ◌, ◌<ℤ◌, ◌<◌, ◌∙◌, ◌≡◌, ◌≤◌, ap, arith, false, filled_more, filled_table}
 use Common.{FitsSigned, flag_at, floor_of, get_or_read, if◌then◌else◌, int_at, ints, IsWithin}
-use Common.{length, level_after, level_unit, pos, refl, state_count, tabulate, to_z-of_z}
-use Common.{unit_positive, w128}
+use Common.{length, level_after, pos, refl, state_count, tabulate, to_z-of_z, unit_positive, w128}
 use Rattle.qss_own_traces.proofs.SecondSteps.{change_small}
 use Rattle.qss_own_traces.proofs.SecondSums.{unit_is}
 use Rattle.qss_own_traces.proofs.second_order_trace.SecondPlace.move_levels.Goals as goal
@@ -19,17 +18,15 @@ next_level-requires-clause-unit c =
 pub next_level-requires-clause-change : goal.next_level-requires-clause-change
 next_level-requires-clause-change c =
     let j = c.loop-j.j in
+    let m = c.args.m.now in
     let p = c.args.self.now in
-    let kept = c.loop-j.invariant.kept.1 in
-    let inside : j < length p.changes.items =
-    omega (arith, c.loop-j-test.true, c.requires.fits.same_size, c.requires.sized.changes) in
-    let held : IsWithin 95 (level_unit c.args.m.now *ℤ c.index-in-loop-j-3.result.now) =
-    rw (
-      get_or_read c.loop-j.self.changes.items j _ (rw kept inside) c.index-in-loop-j-3.ensures
-          (pos 0),
-      kept,
-    ) (c.requires.held j (omega (arith, inside, c.requires.sized.changes))) in
-    let small = change_small c.args.m.now _ held in
+    let h : j < state_count m = omega (arith, c.loop-j-test.true, c.requires.fits.same_size) in
+    let by : c.index-in-loop-j-3.result.now ≡ int_at p.changes.items j =
+    rw c.loop-j.invariant.kept.1 at (get_or_read c.loop-j.self.changes.items j _
+    (rw c.loop-j.invariant.kept.1 (omega (arith, h, c.requires.sized.changes)))
+    c.index-in-loop-j-3.ensures (pos 0)) in
+    let small : IsWithin 95 c.index-in-loop-j-3.result.now =
+    rw by (change_small m _ (c.requires.held j h)) in
     let of_change : FitsSigned w128 c.index-in-loop-j-3.result.now = omega (arith, ints, small) in
     simp to_z-of_z small
 
@@ -64,13 +61,8 @@ loop-j-preserved c =
     ∙ rw inv.kept.1 refl in
     let fits : FitsSigned w128 c.next_level.result = record { sfits = c.next_level.type_inv } in
     let of_unit : FitsSigned w128 unit = omega (arith, ints, c.requires.fits.small.unit) in
-    let of_x : FitsSigned w128 x =
-    rw state (omega (
-      arith,
-      ints,
-      c.requires.small_states j (pos 0)
-          (omega (arith, h, sized.states)),
-    )) in
+    let small = c.requires.small_states j (pos 0) (omega (arith, h, sized.states)) in
+    let of_x : FitsSigned w128 x = rw state (omega (arith, ints, small)) in
     let of_level : FitsSigned w128 level =
     rw was (omega (arith, ints, c.requires.small_levels j (pos 0) inside)) in
     let of_change : FitsSigned w128 change =

@@ -1,11 +1,12 @@
 -- States and levels are those of the next tick.
 use Rattle.qss_own_traces.proofs.Common
-use Common.{ℕ, ℤ, ◌+ℤ◌, ◌∙◌, ◌≡◌, ap, ap₂, Bool, flag_at, floor_of, if◌then◌else◌, int_at}
-use Common.{leaves_quantum, length, length-map-range_with_len, level_unit, List, moved_state}
-use Common.{next_states, same_table, snapshot_of, state_count, tabulate}
+use Common.{ℕ, ℤ, ◌+ℤ◌, ◌∙◌, ◌≡◌, ap, ap₂, Bool, flag_at, floor_of, Global, if◌then◌else◌, int_at}
+use Common.{leaves_quantum, length, length-map-range_with_len, level_unit, List, list_any}
+use Common.{moved_state, next_states, same_table, snapshot_of, state_count, tabulate, Vec}
 use Rattle.qss_order2.specs.SecondSteps.{moved_level}
 use Rattle.mu_num.proofs.Tables.{int_at-tabulate}
 use Rattle.qss_own_traces.proofs.FirstSteps.{same_items}
+use Rattle.qss_own_traces.proofs.SecondSteps.{any_left}
 use Rattle.qss_own_traces.proofs.second_order_trace.SecondPlace.move_on.Goals as goal
 
 pub move_levels-requires-clause-small_levels : goal.move_levels-requires-clause-small_levels
@@ -41,6 +42,10 @@ returns c =
       levels = levels;
       changes = kept.1 ∙ moves.kept.1;
       left = rw c.move_levels.ensures.left moves.left;
+      value = c.is_any_left.ensures
+          ∙ ap (list_any (λ (flag : Bool). flag)) (c.deref.ensures.value
+          ∙ ap (λ (v : Vec Bool Global). v.items) c.move_levels.ensures.left)
+          ∙ any_left m 0 w on.left.items moves.sized.left moves.left;
       sized = record {
         states = ap length (same_items kept.0) ∙ moves.sized.states;
         levels = ap length levels ∙ length-map-range_with_len g 0 n;

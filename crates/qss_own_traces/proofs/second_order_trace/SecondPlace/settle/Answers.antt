@@ -1,6 +1,6 @@
 -- Limits are checked in their order.
 use Rattle.qss_own_traces.proofs.Common
-use Common.{◌∙◌, ◌≡◌, ap, AreHeld, arith, first_exceeding, flag_at, length}
+use Common.{◌∙◌, ◌≡◌, ap, AreHeld, arith, changes_after, first_exceeding, flag_at, length}
 use Common.{length-map-range_with_len, None, overflow_of, refl, rules, Some, state_count, subst}
 use Common.{sym, true}
 use Rattle.qss_order2.specs.SecondRunLimits.{past_levels}
@@ -10,7 +10,6 @@ use Rattle.qss_order2.proofs.Settlings.{of_changes, past_first, past_then, near_
 use Rattle.qss_own_traces.proofs.FirstRuns.{wider}
 use Rattle.qss_own_traces.proofs.FirstSteps.{found_some, none_small, same_items}
 use Rattle.qss_own_traces.proofs.SecondSteps.{undriven}
-use Rattle.qss_own_traces.specs.SecondPlaces.{changes_after}
 use Rattle.qss_own_traces.proofs.second_order_trace.SecondPlace.settle.Goals as goal
 
 pub returns-in_err-check_levels : goal.returns-in_err-check_levels
