@@ -1,19 +1,22 @@
 -- Names from outside the lemmas of this crate that several of its proofs cite, passed on from one place.
 pub use Rattle.std.proofs.Common.{[], ℕ, ℤ, ◌*ℤ◌, ◌*◌, ◌++◌, ◌+ℤ◌, ◌+◌, ◌-ℤ◌, ◌-◌, ◌/◌, ◌<ℤ◌, ◌<◌}
 pub use Rattle.std.proofs.Common.{◌^◌, ◌||◌, ◌∙◌, ◌∷◌, ◌≡◌, ◌≤◌, ap, append_assoc, ap₂, arith, Bool}
-pub use Rattle.std.proofs.Common.{false, get_or, Global, inl, inr, length, List, map, pos, refl}
-pub use Rattle.std.proofs.Common.{replicate, rules, subst, suc, sym, take, true, unsigned_abs, Vec}
-pub use Rattle.std.proofs.Common.{zero}
+pub use Rattle.std.proofs.Common.{cond, false, get_or, Global, inl, inr, length, List, map, pos}
+pub use Rattle.std.proofs.Common.{refl, replicate, rules, subst, suc, sym, take, tests, true}
+pub use Rattle.std.proofs.Common.{unsigned_abs, Vec, zero}
 pub use Rattle.std.proofs.Math.Nat.{mul-le-mul_right}
 pub use Rattle.std.proofs.Math.Seq.{take-append_seam}
 pub use Rattle.std.proofs.lemmas.Bool.{or_parts}
 pub use Rattle.std.proofs.lemmas.Int.{ints, to_z-of_z, unsigned_abs-mul}
+pub use Rattle.std.proofs.lemmas.Iterator.{YieldsList-from_range}
+pub use Rattle.std.proofs.lemmas.Iterator.Adapters.{position_from-zero}
+pub use Rattle.std.proofs.lemmas.Iterator.Search.{position_from_yields_List}
 pub use Rattle.std.proofs.lemmas.List.{append-nil, get_or-map, get_or_read, length-append}
 pub use Rattle.std.proofs.lemmas.List.{length-map}
 pub use Rattle.std.proofs.lemmas.List.Elements.{All-append, All-cons, All-nil, All-tail}
 pub use Rattle.std.proofs.lemmas.List.FromFn.{fill_by_all, length-map-range_with_len}
 pub use Rattle.std.specs.Int.RustNames.{FitsSigned, int_lt}
-pub use Rattle.std.specs.List.{list_any, range_with_len}
+pub use Rattle.std.specs.List.{list_any, position_from, range_with_len}
 pub use Rattle.std.specs.Option.{option_or}
 pub use Rattle.std.specs.Prelude.{All, Err, flat_map, if◌then◌else◌, IsTrue, None, not, Ok, Option}
 pub use Rattle.std.specs.Prelude.{position, Result, Some}
@@ -45,8 +48,7 @@ pub use Rattle.qss_hand.specs.Works.{overflow_of}
 pub use Rattle.cert_check.proofs.Starts.{starts-fit}
 pub use Rattle.cert_check.specs.CertificateLimits.{IsSize}
 pub use Rattle.qss_order2.proofs.Starts.{fine_count}
-pub use Rattle.qss_order2.proofs.Tables.{all_of, filled_more, filled_table, first_is, IsFilled}
-pub use Rattle.qss_order2.proofs.Tables.{none_is, same_table}
+pub use Rattle.qss_order2.proofs.Tables.{all_of, filled_more, filled_table, IsFilled, same_table}
 pub use Rattle.qss_order2.proofs.Uniqueness.{second_runs_are_unique}
 pub use Rattle.qss_order2.specs.SecondRunLaws.{levels_from2, states_from2}
 pub use Rattle.qss_order2.specs.SecondRunLimits.{AreHeld}

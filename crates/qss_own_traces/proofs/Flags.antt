@@ -1,7 +1,9 @@
 -- Whether a test holds below a number, and the least place where one does.
 use Rattle.qss_own_traces.proofs.Common
-use Common.{[], ℕ, ◌<◌, ◌||◌, ◌∙◌, ◌∷◌, ◌≡◌, ap, arith, Bool, false, first_is, get_or, length, List}
-use Common.{list_any, map, None, none_is, position, range_with_len, refl, Some, true}
+use Common.{[], ℕ, ◌+◌, ◌<◌, ◌||◌, ◌∙◌, ◌∷◌, ◌≡◌, ap, arith, Bool, cond, false, get_or, length}
+use Common.{List, list_any, map, None, Option, position, position_from, position_from-zero}
+use Common.{range_with_len, refl, Some, sym, true}
+use Rattle.qss_order2.proofs.Tables.{none_is}
 use Rattle.std.proofs.lemmas.List.FromFn.{get_or-range_with_len, length-range_with_len}
 use Rattle.std.proofs.lemmas.List.Folds.{list_any_at}
 
@@ -27,10 +29,16 @@ none_each p n k e h = by (p k) refl
         (ap p (range_at n k h) ∙ f) in absurd (cc)
     by false f = f
 
--- the least number below n that passes a test
-pub first_below : (p : ℕ → Bool) (n k : ℕ) → k < n → ((i : ℕ) → i < k → p i ≡ false) → p k ≡ true → position p (range_with_len 0 n) ≡ Some k
-first_below p n k h before here =
-    first_is p (range_with_len 0 n) k 0 (omega (arith, h, range_count n)) (λ i l. ap p (range_at n i (omega arith)) ∙ before i l) (ap p (range_at n k h) ∙ here)
+-- the first that passes a test in a table
+pub position_map : {X Y : Type 0} (p : Y → Bool) (f : X → Y) (xs : List X) →
+    position p (map f xs) ≡ position (λ x. p (f x)) xs
+position_map {X} p f xs = position_from-zero p (map f xs) ∙ from 0 xs
+    ∙ sym (position_from-zero (λ x. p (f x)) xs)
+  where
+    from : (i : ℕ) (ys : List X) → position_from p i (map f ys) ≡ position_from (λ x. p (f x)) i ys
+    from i [] = refl
+    from i (y ∷ ys) = ap (λ (o : Option ℕ). cond (p (f y)) (Some i) o) (from (i + 1) ys)
 
+-- no number below n passes a test
 pub none_below : (p : ℕ → Bool) (n : ℕ) → ((k : ℕ) → k < n → p k ≡ false) → position p (range_with_len 0 n) ≡ None
 none_below p n each = none_is p (range_with_len 0 n) 0 (λ k h. let l : k < n = omega (arith, h, range_count n) in ap p (range_at n k l) ∙ each k l)

@@ -1,13 +1,11 @@
 -- Snapshots that a trace can hold.
 use Rattle.qss_own_traces.proofs.Common
-use Common.{[], ℕ, ℤ, ◌*ℤ◌, ◌+◌, ◌<◌, ◌||◌, ◌∙◌, ◌∷◌, ◌≡◌, All, all_of, ap, ap₂, arith, Bool, false}
-use Common.{fine_count, fine_levels, fine_states, first_wide, get_or, get_or-map, int_at, ints}
-use Common.{is_wide, IsWithin, length, length-map, List, Machine, nearest_change, None, or_parts}
-use Common.{pos, range_with_len, refl, second_start, SecondSnapshot, Some, start_states}
-use Common.{state_count, StateInfo, states_start, suc, sym, true, within-passes, zero}
-use Rattle.std.proofs.Common.{cond}
-use Rattle.std.proofs.lemmas.Iterator.Adapters.{position_from-zero}
-use Rattle.std.specs.List.{position_from}
+use Common.{[], ℕ, ℤ, ◌*ℤ◌, ◌+◌, ◌<◌, ◌||◌, ◌∙◌, ◌∷◌, ◌≡◌, All, all_of, ap, ap₂, arith, Bool, cond}
+use Common.{false, fine_count, fine_levels, fine_states, first_wide, get_or, get_or-map, int_at}
+use Common.{ints, is_wide, IsWithin, length, length-map, List, Machine, nearest_change, None}
+use Common.{or_parts, pos, position_from, position_from-zero, range_with_len, refl, second_start}
+use Common.{SecondSnapshot, Some, start_states, state_count, StateInfo, states_start, suc, sym}
+use Common.{true, within-passes, zero}
 use Rattle.mu_num.proofs.SizeTests.{passes-within}
 use Rattle.qss_order2.proofs.Sizes.{start_level_small}
 use Rattle.qss_own_traces.proofs.Flags.{none_below, range_at, range_count}

@@ -4,7 +4,9 @@ ghost use Rattle.std.specs.Prelude.{◌≡◌, [], ◌<◌, ◌≤◌, ◌+◌, 
 ghost use Rattle.qss_own_traces.specs.Prelude.{floor_level, IsPositiveWithin, IsLevel, AreLevels, IsState, state_count, level_unit, start_discretes, row_at, is_within_quantum, exceeds_row_limits, moved_states, next_levels, IsSize, IsRunOf, overflow_of, start_snapshot, step, snapshot_unless};
 ghost use Rattle.qss_own_traces.specs.FirstRuns.{IsFirstTrace, IsFirstRefusal};
 
-use crate::own_trace_draft::{Draft, TraceOver, check_sizes, levels_below, risen, states_at_start};
+use crate::own_trace_draft::{
+    Draft, TraceOver, check_none, check_sizes, levels_below, risen, states_at_start,
+};
 use mu_num::{LEVEL_BITS, STATE_BITS, WEIGHT_BITS, exceeds_power_of_two, floor_div};
 use qss_hand::Over;
 use qss_machine::Machine;
@@ -222,12 +224,7 @@ fn check_row_sums(m: &Machine, levels: &[i64], discretes: &[i64]) -> Result<(), 
     ensures { overflow_of result
         ≡ position (exceeds_row_limits m.now levels.now (start_discretes m.now)) m.now.rows }
 {
-    for row in 0..levels.len() {
-        if is_heavy(m, row as u32, levels, discretes) {
-            return Err(Over { var: row as u32 });
-        }
-    }
-    Ok(())
+    check_none((0..levels.len()).position(|row| is_heavy(m, row as u32, levels, discretes)))
 }
 
 // Whether the absolute row sum of a row exceeds its limit.

@@ -351,14 +351,7 @@ fn check_row_sums(m: &Machine, a: &AffineSystem, share: u32, numbers: &[i128]) -
     requires numbers { length numbers.now ≡ state_count m.now }
     ensures { overflow_of result ≡ heavy_row m.now share numbers.now }
 {
-    for row in 0..a.n {
-        if is_heavy(m, a, share, numbers, row) {
-            return Err(Over {
-                var: u32::from(row),
-            });
-        }
-    }
-    Ok(())
+    check_none((0..a.n).position(|row| is_heavy(m, a, share, numbers, row)))
 }
 
 // Whether the absolute row sum of a row exceeds its limit.

@@ -1,18 +1,22 @@
--- The first one is the least.
+-- The first of the rows.
 use Rattle.qss_own_traces.proofs.Common
-use Common.{[], ◌∙◌, arith, exceeds_row_limits, first_is, none_is, pos, start_discretes, sym}
+use Common.{[], ℕ, ◌∙◌, ap, arith, exceeds_row_limits, fill_by_all, pos, position}
+use Common.{position_from_yields_List, range_with_len, refl, row_at, rules, start_discretes}
+use Common.{state_count, sym, tests, YieldsList-from_range}
 use Rattle.qss_machine.specs.declared.machine_parts.SlopeRow.{SlopeRow}
+use Rattle.qss_own_traces.proofs.Flags.{position_map}
 use Rattle.qss_own_traces.proofs.first_order_trace.check_row_sums.Goals as goal
-
-pub returns-then-is_heavy : goal.returns-then-is_heavy
-returns-then-is_heavy c =
-    let m = c.args.m.now in
-    let none : SlopeRow = record { entries = []; products = []; beta = pos 0 } in
-    sym (first_is (exceeds_row_limits m c.args.levels.now (start_discretes m)) m.rows c.loop-row.row none (omega (arith, c.loop-row-test.true, c.requires.levels, m.has_rows.one_each)) c.loop-row.invariant
-    (sym c.is_heavy.ensures ∙ c.if-is_heavy.true))
 
 pub returns : goal.returns
 returns c =
     let m = c.args.m.now in
+    let n = state_count m in
     let none : SlopeRow = record { entries = []; products = []; beta = pos 0 } in
-    sym (none_is (exceeds_row_limits m c.args.levels.now (start_discretes m)) m.rows none (λ k h. c.loop-row.invariant k (omega (arith, h, c.loop-row-test.false, c.requires.levels, m.has_rows.one_each))))
+    let test = exceeds_row_limits m c.args.levels.now (start_discretes m) in
+    c.check_none.ensures
+    ∙ position_from_yields_List (λ (j : ℕ). test (row_at m j)) _ _ c.position.result
+    c.position.ensures.ran (YieldsList-from_range 0 n n (cc) (omega arith))
+    (λ x b q k. search (rules, tests))
+    ∙ sym (position_map test (row_at m) (range_with_len 0 n))
+    ∙ sym (ap (position test) (fill_by_all (row_at m) m.rows n none m.has_rows.one_each
+    (λ k h. refl)))

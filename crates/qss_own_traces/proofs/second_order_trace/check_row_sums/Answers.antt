@@ -1,16 +1,17 @@
--- The first one is the least.
+-- The first of the rows.
 use Rattle.qss_own_traces.proofs.Common
-use Common.{ℕ, ◌∙◌, ap, arith, exceeds, row_weight, Some, state_count, sym}
-use Rattle.qss_order2.proofs.Tables.{first_of_table, none_of_table}
+use Common.{ℕ, ◌∙◌, arith, exceeds, position_from_yields_List, range_with_len, row_weight, rules}
+use Common.{state_count, sym, tests, YieldsList-from_range}
+use Rattle.qss_own_traces.proofs.Flags.{position_map}
 use Rattle.qss_own_traces.proofs.second_order_trace.check_row_sums.Goals as goal
-
-pub returns-then-is_heavy : goal.returns-then-is_heavy
-returns-then-is_heavy c =
-    let m = c.args.m.now in
-    ap (λ (k : ℕ). Some k) c.from.ensures
-    ∙ sym (first_of_table (exceeds 94) (state_count m) (row_weight m c.args.share c.args.numbers.now) c.loop-row.row (omega (arith, c.loop-row-test.true, c.requires.fits.same_size)) c.loop-row.invariant (sym c.is_heavy.ensures ∙ c.if-is_heavy.true))
 
 pub returns : goal.returns
 returns c =
     let m = c.args.m.now in
-    sym (none_of_table (exceeds 94) (state_count m) (row_weight m c.args.share c.args.numbers.now) (λ k h. c.loop-row.invariant k (omega (arith, h, c.loop-row-test.false, c.requires.fits.same_size))))
+    let n = state_count m in
+    let weight = row_weight m c.args.share c.args.numbers.now in
+    c.check_none.ensures
+    ∙ position_from_yields_List (λ (j : ℕ). exceeds 94 (weight j)) _ _ c.position.result
+    c.position.ensures.ran (YieldsList-from_range 0 n n (cc) (omega arith))
+    (λ x b q k. search (rules, tests))
+    ∙ sym (position_map (exceeds 94) weight (range_with_len 0 n))
