@@ -4,10 +4,9 @@ pub use Rattle.std.proofs.Common.{◌^◌, ◌||◌, ◌∙◌, ◌∷◌, ◌�
 pub use Rattle.std.proofs.Common.{cond, false, get_or, Global, inl, inr, length, List, map, pos}
 pub use Rattle.std.proofs.Common.{refl, replicate, rules, subst, suc, sym, take, tests, true}
 pub use Rattle.std.proofs.Common.{unsigned_abs, Vec, zero}
-pub use Rattle.std.proofs.Math.Nat.{mul-le-mul_right}
 pub use Rattle.std.proofs.Math.Seq.{take-append_seam}
 pub use Rattle.std.proofs.lemmas.Bool.{or_parts}
-pub use Rattle.std.proofs.lemmas.Int.{ints, to_z-of_z, unsigned_abs-mul}
+pub use Rattle.std.proofs.lemmas.Int.{ints, to_z-of_z}
 pub use Rattle.std.proofs.lemmas.Iterator.{YieldsList-from_range}
 pub use Rattle.std.proofs.lemmas.Iterator.Adapters.{position_from-zero}
 pub use Rattle.std.proofs.lemmas.Iterator.Search.{position_from_yields_List}
@@ -68,7 +67,7 @@ pub use Rattle.qss_own_traces.specs.FirstRuns.{first_run, IsFirstRefusal}
 pub use Rattle.qss_own_traces.specs.RecordedTraces.{Holds}
 pub use Rattle.qss_own_traces.specs.SecondPlaces.{change_after, changed, changes_after, level_after}
 pub use Rattle.qss_own_traces.specs.SecondPlaces.{snapshot_of}
-pub use Rattle.qss_own_traces.specs.SecondRuns.{first_wide, is_wide, IsSecondRefusal}
+pub use Rattle.qss_own_traces.specs.SecondRuns.{first_wide, is_wide, IsNarrow, IsSecondRefusal}
 pub use Rattle.qss_own_traces.specs.SecondRuns.{second_snapshots}
 pub use Rattle.qss_own_traces.specs.TraceSnapshots.{plain_world}
 pub use Rattle.qss_own_traces.specs.TraceSystems.{row_weight, system_weight}

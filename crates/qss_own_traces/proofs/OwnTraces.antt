@@ -2,9 +2,9 @@
 use Rattle.qss_own_traces.proofs.Common
 use Common.{[], ℕ, ℤ, ◌+◌, ◌<◌, ◌∙◌, ◌∷◌, ◌≡◌, ◌≤◌, All, All-cons, All-nil, all_of, ap, arith}
 use Common.{false, first_run, first_wide, floor_level, get_or, get_or-map, HandlerState, inl, inr}
-use Common.{int_at, is_wide, IsFirstRefusal, IsRunOf, IsSecondRefusal, IsSize, IsWithin, length}
-use Common.{length-map, length-map-range_with_len, length-places, levels_from, levels_from2, List}
-use Common.{Machine, nearest_change, None, Ok, Option, Over, Past, range_with_len, refl}
+use Common.{int_at, is_wide, IsFirstRefusal, IsNarrow, IsRunOf, IsSecondRefusal, IsSize, IsWithin}
+use Common.{length, length-map, length-map-range_with_len, length-places, levels_from, levels_from2}
+use Common.{List, Machine, nearest_change, None, Ok, Option, Over, Past, range_with_len, refl}
 use Common.{run_clauses-none, runs_are_unique, second_order_run, second_runs_are_unique}
 use Common.{second_scale, second_snapshots, SecondSnapshot, SlopeRuleOf, Snapshot, Some}
 use Common.{start_snapshot, state_count, states_from, states_from2, states_start, subst, suc, sym}
@@ -114,10 +114,6 @@ second-legitimate m t p =
     trace_legitimate m second_scale (states_from2 (second_order_run m).start (second_order_run m).snapshots) (levels_from2 (second_order_run m).start (second_order_run m).snapshots) t p.is_trace (second_legitimate m)
 
 -- ---- what a trace cannot hold
-
--- no state of the snapshot is wide
-abbrev IsNarrow : SecondSnapshot → Type 0
-IsNarrow w = first_wide w ≡ None
 
 wide-at : (w : SecondSnapshot) (var : ℕ) → first_wide w ≡ Some var → (var < length w.states) × (is_wide w var ≡ true)
 wide-at w var e =

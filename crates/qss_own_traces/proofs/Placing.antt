@@ -2,8 +2,9 @@
 use Rattle.qss_own_traces.proofs.Common
 use Common.{[], ℕ, ℤ, ◌*◌, ◌++◌, ◌+◌, ◌/◌, ◌<◌, ◌^◌, ◌∙◌, ◌∷◌, ◌≡◌, ◌≤◌, All, All-append, All-cons}
 use Common.{All-nil, All-tail, ap, append-nil, ArePlaces, arith, Draft, fill_by_all, flat_map}
-use Common.{get_or, Holds, IsSize, IsWithin, length, length-append, List, map, mul-le-mul_right}
-use Common.{place_count, places, refl, subst, suc, sym, tabulate, take, take-append_seam, zero}
+use Common.{get_or, Holds, IsSize, IsWithin, length, length-append, List, map, place_count, places}
+use Common.{refl, subst, suc, sym, tabulate, take, take-append_seam, zero}
+use Rattle.std.proofs.Math.Nat.{mul-le-mul_right}
 use Rattle.std.proofs.Common.{drop}
 use Rattle.std.proofs.Math.Seq.{drop-append-add}
 use Rattle.std.proofs.lemmas.List.Concat.{flat_map-append}

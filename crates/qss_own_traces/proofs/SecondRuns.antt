@@ -3,11 +3,11 @@ use Rattle.qss_own_traces.proofs.Common
 use Common.{[], ℕ, ℤ, ◌*ℤ◌, ◌++◌, ◌+◌, ◌-◌, ◌<◌, ◌∙◌, ◌∷◌, ◌≡◌, ◌≤◌, All, All-append, All-cons}
 use Common.{All-nil, ap, append-nil, append_assoc, ap₂, AreHeld, arith, Bool, change_after}
 use Common.{changes_after, Err, false, fine_levels, first_exceeding_limit, first_wide, flag_at}
-use Common.{get_or as slice_index_or, if◌then◌else◌, inl, inr, int_at, ints, IsSecondRefusal}
-use Common.{IsWithin, length, length-append, level_unit, List, Machine, nearest_change, None, Ok}
-use Common.{Option, Over, Past, pos, refl, replicate, Result, rise_at, Run2, same_table}
-use Common.{second_order_run, second_snapshots, second_start, second_step, SecondSnapshot, Some}
-use Common.{state_count, subst, suc, sym, take, take-append_seam, true, zero}
+use Common.{get_or as slice_index_or, if◌then◌else◌, inl, inr, int_at, ints, IsNarrow}
+use Common.{IsSecondRefusal, IsWithin, length, length-append, level_unit, List, Machine}
+use Common.{nearest_change, None, Ok, Option, Over, Past, pos, refl, replicate, Result, rise_at}
+use Common.{Run2, same_table, second_order_run, second_snapshots, second_start, second_step}
+use Common.{SecondSnapshot, Some, state_count, subst, suc, sym, take, take-append_seam, true, zero}
 use Rattle.qss_order2.specs.SecondRuns.{snapshots_from, snapshots_with, snapshots_unless}
 use Rattle.qss_own_traces.specs.SecondCourses.{run2_after}
 use Rattle.qss_own_traces.specs.declared.second_order_trace.SecondPlace.{SecondPlace}
@@ -16,14 +16,12 @@ use Rattle.cert_matrix.proofs.Rows.{get_or-zeros}
 
 -- ---- one snapshot more of a list
 
-pub narrow_one : (w : SecondSnapshot) → first_wide w ≡ None → All (λ (v : SecondSnapshot). first_wide v ≡ None) (w ∷ [])
-narrow_one w e = All-cons (λ (v : SecondSnapshot). first_wide v ≡ None) w [] e
-    (All-nil (λ (v : SecondSnapshot). first_wide v ≡ None))
+pub narrow_one : (w : SecondSnapshot) → IsNarrow w → All IsNarrow (w ∷ [])
+narrow_one w e = All-cons IsNarrow w [] e (All-nil IsNarrow)
 
-pub narrow_more : (ws : List SecondSnapshot) (next : SecondSnapshot) → All (λ (v : SecondSnapshot). first_wide v ≡ None) ws → first_wide next ≡ None → All (λ (v : SecondSnapshot). first_wide v ≡ None) (ws ++ next ∷ [])
-narrow_more ws next before e =
-    All-append (λ (v : SecondSnapshot). first_wide v ≡ None) ws (next ∷ []) before
-    (narrow_one next e)
+pub narrow_more : (ws : List SecondSnapshot) (next : SecondSnapshot) → All IsNarrow ws →
+    IsNarrow next → All IsNarrow (ws ++ next ∷ [])
+narrow_more ws next before e = All-append IsNarrow ws (next ∷ []) before (narrow_one next e)
 
 module _ (m : Machine) (tick : ℕ) (w : SecondSnapshot) (snapshots : List SecondSnapshot) where
   -- what is left of the run
@@ -52,7 +50,7 @@ module _ (m : Machine) (tick : ℕ) (w : SecondSnapshot) (snapshots : List Secon
       ∙ ap (λ (ws : List SecondSnapshot). record { start = second_start nearest_change m; snapshots = ws; overflow = None }) (append-nil snapshots)
 
   -- the run overflows
-  pub left_over : (var : ℕ) → tick < m.last → All (λ (v : SecondSnapshot). first_wide v ≡ None) (second_start nearest_change m ∷ snapshots) → second_order_run m ≡ left →
+  pub left_over : (var : ℕ) → tick < m.last → All IsNarrow (second_start nearest_change m ∷ snapshots) → second_order_run m ≡ left →
       second_step nearest_change m (tick + 1) w ≡ Err var → IsSecondRefusal m (Over (tick + 1) var)
   left_over var h narrow so_far e =
       let past : Option Past = Some (record { tick = tick + 1; var = var }) in
@@ -60,11 +58,11 @@ module _ (m : Machine) (tick : ℕ) (w : SecondSnapshot) (snapshots : List Secon
       so_far ∙ one_tick h ∙ ap left_after e ∙ ap (λ (ws : List SecondSnapshot). record { start = second_start nearest_change m; snapshots = ws; overflow = past }) (append-nil snapshots) in
       inl (record {
         overflow = ap (λ (run : Run2). run.overflow) whole;
-        before = subst (λ (run : Run2). All (λ (v : SecondSnapshot). first_wide v ≡ None) (run.start ∷ run.snapshots)) (sym whole) narrow;
+        before = subst (λ (run : Run2). All IsNarrow (run.start ∷ run.snapshots)) (sym whole) narrow;
       })
 
   -- a snapshot is too wide
-  pub left_wide : (next : SecondSnapshot) (var : ℕ) → tick < m.last → length snapshots ≡ tick → All (λ (v : SecondSnapshot). first_wide v ≡ None) (second_start nearest_change m ∷ snapshots) → second_order_run m ≡ left →
+  pub left_wide : (next : SecondSnapshot) (var : ℕ) → tick < m.last → length snapshots ≡ tick → All IsNarrow (second_start nearest_change m ∷ snapshots) → second_order_run m ≡ left →
       second_step nearest_change m (tick + 1) w ≡ Ok next → first_wide next ≡ Some var → IsSecondRefusal m (Over (tick + 1) var)
   left_wide next var h count narrow so_far e wide =
       let rest = snapshots_from nearest_change m (m.last - (tick + 1)) (tick + 1) next in
@@ -78,7 +76,7 @@ module _ (m : Machine) (tick : ℕ) (w : SecondSnapshot) (snapshots : List Secon
       inr (record {
         inside = omega (arith, ap length whole, length-append ws (next ∷ rest.0), many);
         least = ap first_wide there ∙ wide;
-        before = subst (All (λ (v : SecondSnapshot). first_wide v ≡ None)) (sym front) narrow;
+        before = subst (All IsNarrow) (sym front) narrow;
       })
 
 -- ---- tick 0
@@ -111,7 +109,7 @@ start_over m var narrow over =
     let whole : second_order_run m ≡ run_unless m (Some var) = ap (run_unless m) over in
     inl (record {
       overflow = ap (λ (run : Run2). run.overflow) whole;
-      before = subst (λ (run : Run2). All (λ (v : SecondSnapshot). first_wide v ≡ None)
+      before = subst (λ (run : Run2). All IsNarrow
           (run.start ∷ run.snapshots)) (sym whole)
           (narrow_one (second_start nearest_change m) narrow);
     })

@@ -1,25 +1,20 @@
 -- Steps of a second-order run.
 use Rattle.qss_own_traces.proofs.Common
-use Common.{ℕ, ℤ, ◌*ℤ◌, ◌*◌, ◌+ℤ◌, ◌+◌, ◌<◌, ◌^◌, ◌||◌, ◌∙◌, ◌≡◌, ◌≤◌, abs_of, ap, ap₂, arith, Bool}
-use Common.{changed, false, fill_by_all, first_exceeding_limit, flag_at, if◌then◌else◌, int_at}
-use Common.{ints, is_limit_check, is_requantization, IsWithin, leaves_quantum, length, level_unit}
-use Common.{List, list_any, Machine, mul-le-mul_right, nearest_change, next_states, None, Ok}
-use Common.{Option, or_parts, pos, range_with_len, refl, Result, rise_at, row_weight, same_table}
-use Common.{second_snapshot_unless, second_step, SecondSnapshot, Some, start_coefficient}
-use Common.{start_constant_part, state_count, sum_below, sym, tabulate, true, unit_fits}
-use Common.{unsigned_abs, unsigned_abs-mul}
+use Common.{ℕ, ℤ, ◌*ℤ◌, ◌+ℤ◌, ◌+◌, ◌<◌, ◌^◌, ◌||◌, ◌∙◌, ◌≡◌, abs_of, ap, ap₂, arith, Bool, changed}
+use Common.{false, fill_by_all, first_exceeding_limit, flag_at, if◌then◌else◌, int_at, ints}
+use Common.{is_limit_check, is_requantization, IsWithin, leaves_quantum, length, level_unit, List}
+use Common.{list_any, Machine, nearest_change, next_states, None, Ok, Option, or_parts, pos}
+use Common.{range_with_len, refl, Result, rise_at, row_weight, same_table, second_snapshot_unless}
+use Common.{second_step, SecondSnapshot, Some, start_coefficient, start_constant_part, state_count}
+use Common.{sum_below, sym, tabulate, true, unit_fits}
 use Rattle.std.proofs.Common.{◌%◌, ◌==◌}
 use Rattle.std.proofs.Math.IntN.{zero-*ℤ}
 use Rattle.qss_order2.specs.SecondSteps.{rise_change_weight, next_levels, next_changes}
 use Rattle.qss_order2.specs.SecondSteps.{next_snapshot, limit_check_period}
 use Rattle.qss_own_traces.proofs.Flags.{any_flag, none_each}
+use Rattle.qss_order2.proofs.Bounds.{factor_small}
 
--- a change of which a multiple is small is small
-factor_small : (k : ℕ) (z : ℤ) → 1 ≤ k → IsWithin 95 (pos k *ℤ z) → IsWithin 95 z
-factor_small k z some small =
-    let once : 1 * unsigned_abs z ≤ k * unsigned_abs z = mul-le-mul_right (unsigned_abs z) some in
-    omega (arith, unsigned_abs-mul (pos k) z, once, small)
-
+-- a level slope of which the multiple in units of a state is small
 pub change_small : (m : Machine) (z : ℤ) → IsWithin 95 (level_unit m *ℤ z) → IsWithin 95 z
 change_small m z held = let u =
     unit_fits m in factor_small (2 ^ (m.p + m.k)) z (omega (arith, ints, u.from_one)) held

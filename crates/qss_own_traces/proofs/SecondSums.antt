@@ -3,7 +3,8 @@ use Rattle.qss_own_traces.proofs.Common
 use Common.{ℕ, ℤ, ◌*ℤ◌, ◌*◌, ◌+ℤ◌, ◌+◌, ◌-ℤ◌, ◌<◌, ◌∙◌, ◌≡◌, abs_of, ap, ap₂, arith, int_at, ints}
 use Common.{level_unit, List, Machine, pos, quanta, refl, rise_at, row_weight, start_coefficient}
 use Common.{start_constant_part, state_count, suc, sum_below, sym, system_weight, table}
-use Common.{unsigned_abs, unsigned_abs-mul, vector, weight, zero}
+use Common.{unsigned_abs, vector, weight, zero}
+use Rattle.std.proofs.lemmas.Int.{unsigned_abs-mul}
 use Rattle.std.proofs.Math.IntN.{pos-*ℤ-pos}
 use Rattle.std.proofs.Math.Nat.{mul_comm}
 use Rattle.mu_num.proofs.Integers.{mul-add}

@@ -8,7 +8,7 @@ use Rattle.qss_order2.specs.SecondRunLaws.{states_from2, levels_from2}
 use Rattle.qss_own_traces.specs.declared.second_order_trace.SecondCourse.{SecondCourse}
 use Rattle.qss_own_traces.specs.RecordedTraces.{Holds}
 use Rattle.qss_own_traces.specs.SecondPlaces.{snapshot_of, IsWithinLimits}
-use Rattle.qss_own_traces.specs.SecondRuns.{first_wide}
+use Rattle.qss_own_traces.specs.SecondRuns.{IsNarrow}
 use Rattle.qss_order2.specs.SecondRunTexts.{second_order_run}
 
 -- a run with these snapshots first
@@ -21,7 +21,7 @@ pub record IsAt (m : Machine) (tick : ℕ) (course : SecondCourse) : Type 0 wher
   pub snapshots : List SecondSnapshot
   pub as_many : length snapshots ≡ tick
   pub rest : second_order_run m ≡ run2_after (second_start nearest_change m) snapshots (snapshots_from nearest_change m (m.last - tick) tick (snapshot_of course.place))
-  pub narrow : All (λ w. first_wide w ≡ None) (second_start nearest_change m ∷ snapshots)
+  pub narrow : All IsNarrow (second_start nearest_change m ∷ snapshots)
   pub stands : IsWithinLimits m course.place
   pub held : Holds (state_count m) (states_from2 (second_start nearest_change m) snapshots) (levels_from2 (second_start nearest_change m) snapshots) course.draft
 

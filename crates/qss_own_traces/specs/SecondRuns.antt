@@ -28,6 +28,10 @@ is_wide w j = is_wide_at w.states w.levels j
 abbrev pub first_wide : SecondSnapshot → Option ℕ
 first_wide w = position (is_wide w) (range_with_len 0 (length w.states))
 
+-- a snapshot within the range of traces
+abbrev pub IsNarrow : SecondSnapshot → Type 0
+IsNarrow w = first_wide w ≡ None
+
 -- the run reaches the last tick, and the trace has its states and levels from tick 0 on, in units
 -- 64 times finer than the machine's
 pub record IsSecondTrace (m : Machine) (t : Trace) : Type 0 where
@@ -38,14 +42,14 @@ pub record IsSecondTrace (m : Machine) (t : Trace) : Type 0 where
 -- traces
 pub record IsOverflow (m : Machine) (tick var : ℕ) : Type 0 where
   pub overflow : (second_order_run m).overflow ≡ Some (record { tick = tick; var = var })
-  pub before : All (λ w. first_wide w ≡ None) (second_snapshots m)
+  pub before : All IsNarrow (second_snapshots m)
 
 -- the snapshot at the tick is the first that exceeds the range of traces, and `var` is its least
 -- state that does
 pub record IsTooWide (m : Machine) (tick var : ℕ) : Type 0 where
   pub inside : tick < length (second_snapshots m)
   pub least : first_wide (slice_index_or (second_snapshots m) tick (second_order_run m).start) ≡ Some var
-  pub before : All (λ w. first_wide w ≡ None) (take tick (second_snapshots m))
+  pub before : All IsNarrow (take tick (second_snapshots m))
 
 -- the reason why the run has no trace
 abbrev pub IsSecondRefusal : Machine → TraceOver → Type 0
