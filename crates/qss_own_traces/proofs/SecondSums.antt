@@ -1,6 +1,6 @@
 -- Sums along the rows of a machine's affine system.
 use Rattle.qss_own_traces.proofs.Common
-use Common.{ℕ, ℤ, ◌*ℤ◌, ◌*◌, ◌+ℤ◌, ◌+◌, ◌-ℤ◌, ◌<◌, ◌∙◌, ◌≡◌, abs_of, ap, ap₂, arith, int_at, ints}
+use Common.{ℕ, ℤ, ◌*ℤ◌, ◌*◌, ◌+ℤ◌, ◌+◌, ◌-ℤ◌, ◌<◌, ◌∙◌, ◌≡◌, abs_of, ap, arith, int_at, ints}
 use Common.{level_unit, List, Machine, pos, quanta, refl, rise_at, row_weight, start_coefficient}
 use Common.{start_constant_part, state_count, suc, sum_below, sym, system_weight, table}
 use Common.{unsigned_abs, vector, weight, zero}
@@ -9,8 +9,7 @@ use Rattle.std.proofs.Math.IntN.{pos-*ℤ-pos}
 use Rattle.std.proofs.Math.Nat.{mul_comm}
 use Rattle.mu_num.proofs.Integers.{mul-add}
 use Rattle.mu_num.proofs.Sums.{sum_below-same}
-use Rattle.cert_matrix.specs.Form.{Vector, times}
-use Rattle.cert_matrix.proofs.Weights.{weight-more}
+use Rattle.cert_matrix.specs.Form.{times}
 use Rattle.cert_check.specs.declared.affine_data.AffineSystem.{AffineSystem}
 use Rattle.cert_check.specs.Inequalities.{System}
 use Rattle.cert_check.specs.Systems.{start_matrix, start_drives}
@@ -52,11 +51,6 @@ same_more s s' x y c w w' same of_y total weighs =
     let whole : s' ≡ s +ℤ abs_of x *ℤ abs_of c = total ∙ ap (λ (z : ℤ). s +ℤ abs_of x *ℤ z) of_y in
     let count : w' ≡ w + unsigned_abs x * unsigned_abs c = weighs ∙ ap (λ (z : ℤ). w + unsigned_abs x * unsigned_abs z) of_y in
     omega (arith, ints, same, whole, count, product)
-
-pub weight_step : (f g : Vector) (k base : ℕ) (x y : ℤ) (w w' : ℕ) → w ≡ base + weight k f g → x ≡ f k → y ≡ g k → w' ≡ w + unsigned_abs x * unsigned_abs y → w' ≡ base + weight (k + 1) f g
-weight_step f g k base x y w w' so_far of_x of_y more =
-    let product : unsigned_abs x * unsigned_abs y ≡ unsigned_abs (f k) * unsigned_abs (g k) = ap₂ (λ (p q : ℤ). unsigned_abs p * unsigned_abs q) of_x of_y in
-    omega (arith, so_far, more, product, weight-more k f g)
 
 sizes_are : (n : ℕ) (f g : ℕ → ℤ) → sum_below n (λ i. abs_of (f i *ℤ g i)) ≡ pos (weight n g (λ i. abs_of (f i)))
 sizes_are zero f g = refl

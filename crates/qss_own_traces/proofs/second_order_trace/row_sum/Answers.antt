@@ -2,8 +2,8 @@
 use Rattle.qss_own_traces.proofs.Common
 use Common.{ℕ, ℤ, ◌*ℤ◌, ◌*◌, ◌+ℤ◌, ◌+◌, ◌∙◌, ◌≡◌, abs_of, ap, arith, FitsSigned, int_at, ints, pos}
 use Common.{refl, table, to_z-of_z, unsigned_abs, vector, w128, weight}
-use Rattle.cert_matrix.proofs.Weights.{beyond-base}
-use Rattle.qss_own_traces.proofs.SecondSums.{same_more, weight_step}
+use Rattle.cert_matrix.proofs.Weights.{beyond-base, weight-more}
+use Rattle.qss_own_traces.proofs.SecondSums.{same_more}
 use Rattle.qss_own_traces.proofs.second_order_trace.row_sum.Goals as goal
 
 pub loop-k-init : goal.loop-k-init
@@ -35,9 +35,11 @@ loop-k-preserved c =
       same = same_more c.loop-k.sum.total _ x c.coefficient_size.result
           (table c.args.a.now.coef c.args.row k) c.loop-k.sum.weight _ inv.same
           c.coefficient_size.ensures total weighs;
-      so_far = weight_step (vector c.args.numbers.now) (λ i. abs_of (table c.args.a.now.coef c.args.row i)) k (unsigned_abs (vector c.args.a.now.constant c.args.row) * c.args.share)
-          x c.coefficient_size.result c.loop-k.sum.weight _ inv.so_far refl
-          c.coefficient_size.ensures weighs;
+      so_far = weighs ∙ rw (
+        inv.so_far,
+        c.coefficient_size.ensures,
+        weight-more k (vector c.args.numbers.now) (λ i. abs_of (table c.args.a.now.coef c.args.row i)),
+      ) (omega arith);
     }
 
 pub returns-in_err-sum-2 : goal.returns-in_err-sum-2
