@@ -3,15 +3,16 @@ use Rattle.qss_run.proofs.Common
 use Common.{[], ℕ, ℤ, ◌*ℤ◌, ◌*◌, ◌++◌, ◌+ℤ◌, ◌+◌, ◌-◌, ◌<◌, ◌==◌, ◌^◌, ◌||◌, ◌∙◌, ◌∷◌, ◌≡◌, Action}
 use Common.{action_reads, ap, AreArrived, AreBranches, AreRisingBelow, arith, assign}
 use Common.{assigned_value, Bool, branch_at, BranchInfo, BranchPlace, cases_Bool, cases_eq}
-use Common.{cases_lt, ClauseInfo, drop, eqb-true, exceeds, false, fire_row, fired_reads}
-use Common.{first_place, flag_at, flags_of, fold, Form, get_or, get_or-append_right, get_or-drop}
-use Common.{get_or-set_other, get_or-set_same, get_or-take, get_or_append_left, get_or_past}
-use Common.{HandlerState, handling_of_fired, has_entry, if◌then◌else◌, index_of, inl, inr, int_at}
+use Common.{cases_lt, ClauseInfo, drop, exceeds, false, fire_row, fired_reads, first_place, flag_at}
+use Common.{flags_of, fold, Form, get_or, get_or-append_right, get_or-drop, get_or-set_other}
+use Common.{get_or-set_same, get_or-take, get_or_append_left, get_or_past, HandlerState}
+use Common.{handling_of_fired, has_entry, if◌then◌else◌, index_of, inl, inr, int_at}
 use Common.{is_reinitialized, is_some, length, length-append, length-set, level_unit, List}
 use Common.{list_any, list_any-append, list_any_at, Machine, map, no_branch, None, or_cases}
 use Common.{or_left, or_right, pos, refl, Reinit, Row, run_action, run_branch, run_clauses}
 use Common.{run_first_due, Set, set, state_count, subst, suc, sum_by-cons, sym, take, true}
 use Common.{value_of, zero-*ℤ}
+use Rattle.mu_num.proofs.Tests.{eqb-true}
 use Rattle.mu_num.specs.Rounding.{nearest_of}
 use Rattle.mu_num.proofs.Sums.{sum_below-same}
 use Rattle.qss_machine.specs.Handlers.{run_clause}

@@ -1,10 +1,11 @@
 -- Conditions that are not after the handlers as on arrival, and the places at which they are.
 use Rattle.qss_run.proofs.Common
 use Common.{[], ℕ, ◌&&◌, ◌++◌, ◌<◌, ◌==◌, ◌||◌, ◌∙◌, ◌∷◌, ◌≡◌, ◌⊎◌, All, ap, AreAlikeBut, arith}
-use Common.{Bool, cases_Bool, Conditions, differ, eqb-true, eqb-yes, false, flag_at}
-use Common.{get_or-set_same, inl, inr, is_listed, IsWritten, length, List, list_any-append}
-use Common.{ListsFlipped, Machine, or_cases, or_parts, PlaceList, readers_before, refl, same_lists}
-use Common.{set, subst, sym, touched_after, touched_by, true}
+use Common.{Bool, cases_Bool, Conditions, differ, eqb-yes, false, flag_at, get_or-set_same, inl}
+use Common.{inr, is_listed, IsWritten, length, List, list_any-append, ListsFlipped, Machine}
+use Common.{or_cases, or_parts, PlaceList, readers_before, refl, same_lists, set, subst, sym}
+use Common.{touched_after, touched_by, true}
+use Rattle.mu_num.proofs.Tests.{eqb-true}
 use Rattle.qss_run.specs.DetectorUpdates.{AreMarkedChanged}
 
 -- flags that are alike but for some places are equal where those are written too

@@ -1,23 +1,25 @@
 -- Conditions on arrival, and what the handlers of the branches do that are then due.
 use Rattle.qss_run.proofs.Common
-use Common.{[], ℕ, ℤ, ◌&&◌, ◌+◌, ◌<◌, ◌^◌, ◌||◌, ◌∙◌, ◌≡◌, ◌≤◌, ◌⊎◌, All, all_within, among_at, ap}
-use Common.{AreRisingBelow, AreValuesOf, arith, assigned_of, became_true, Bool, cases_Bool}
-use Common.{condition_at, Conditions, conditions, detector_at, discrete_count, eqb, false, filter}
-use Common.{firing_flags, first_exceeding, flag_at, flags_of, get_or, get_or-map-range_with_len}
-use Common.{get_or_default, HandlerState, handling_from, handling_of_fired, holds_at, if◌then◌else◌}
-use Common.{inl, inr, int_at, int_at-states_at, int_at-tabulate, is_listed, is_reinitialized}
-use Common.{IsHandlerEffect, IsWithin, IsWritten, length, length-map-range_with_len, Line, line_at}
-use Common.{List, ListsFlipped, Machine, None, not, Option, or_cases, or_parts, pos, refl, row_room}
-use Common.{rows_clauses, run_clauses, same_lists, state_at, state_count, states_at, states_with}
-use Common.{subst, sym, true, truth, truths, truths_are, Values}
-use Rattle.std.proofs.lemmas.Bool.{eqb-true}
+use Common.{[], ℕ, ℤ, ◌&&◌, ◌+◌, ◌<◌, ◌^◌, ◌||◌, ◌∙◌, ◌∷◌, ◌≡◌, ◌≤◌, ◌⊎◌, All, all_within, among_at}
+use Common.{ap, AreRisingBelow, AreValuesOf, arith, assigned_of, became_true, Bool, cases_Bool}
+use Common.{ChangedConditions, condition_at, Conditions, conditions, detector_at, discrete_count}
+use Common.{eqb, eqb-true, false, filter, firing_flags, first_exceeding, flag_at, flags_of, get_or}
+use Common.{get_or-map-range_with_len, get_or_default, HandlerState, handling_from}
+use Common.{handling_of_fired, holds_at, if◌then◌else◌, inl, inr, int_at, int_at-states_at}
+use Common.{int_at-tabulate, is_listed, is_reinit, is_reinitialized, IsHandlerEffect, IsWithin}
+use Common.{IsWritten, length, length-map-range_with_len, length-states_at, Line, line_at, List}
+use Common.{list_any, ListsFlipped, Machine, map, None, not, Option, or_cases, or_parts, pos}
+use Common.{range_with_len, refl, Row, row_room, rows_clauses, run_clauses, same_lists, state_at}
+use Common.{state_count, states_at, states_with, subst, sym, true, truth, truths, truths_are}
+use Common.{Values}
 use Rattle.std.proofs.lemmas.List.Elements.{All-filter}
 use Rattle.std.proofs.lemmas.List.Kept.{IsStrictlyIncreasing-filter}
 use Rattle.std.proofs.lemmas.Map.Views.{any-filter_same}
-use Rattle.qss_run.specs.declared.run_conditions.ChangedConditions.{ChangedConditions}
 use Rattle.qss_run.specs.ConditionContexts.{AreSmallAt, MayBeRead, KnowsArrival}
 use Rattle.qss_run.proofs.Reported.{AreLogged, among_assigned, logged, small_after}
 use Rattle.qss_events.proofs.Flags.{due_flags_are}
+use Rattle.qss_run.proofs.Reinitialized.{joins_nothing}
+use Rattle.qss_events.proofs.Quiet.{clauses-idle}
 
 -- a flag that is known at once
 known_flag : (looked holds after_handlers : Bool) → (looked ≡ false → holds ≡ after_handlers) → (if looked then holds else after_handlers) ≡ holds
@@ -148,6 +150,18 @@ module _ (at : ChangedConditions) (all : Conditions) (d : List ℤ) (known : Kno
   read_handling begun fired calm same are =
       fired_handling all.after_handlers.items all.at_arrival.items at.changed.now holds_there now many_arrived read at.machine.now at.tick (states_at at.states.now.lines.items at.tick) d known.fits.after_handlers own_truth other_truth begun fired calm same are
 
+-- where no branch is due, the handlers do nothing
+none_flagged : (places : List ℕ) → list_any (λ flag. flag) (map (is_listed []) places) ≡ false
+none_flagged [] = refl
+none_flagged (place ∷ places) = none_flagged places
+
+pub idle : (m : Machine) (tick : ℕ) (x d : List ℤ) (fired : List ℕ) → fired ≡ [] →
+    handling_of_fired m tick x d fired ≡ record { states = x; discretes = d; rows = []; overflow = None }
+idle m tick x d fired none =
+    let start : HandlerState = record { states = x; discretes = d; rows = []; overflow = None } in
+    ap (handling_of_fired m tick x d) none
+    ∙ clauses-idle m tick d 0 start m.clauses _ (none_flagged (range_with_len 0 (length (conditions m))))
+
 -- the branches that fired have room for their rows
 pub rows_fired : (m : Machine) (tick : ℕ) (x d : List ℤ) (fired : List ℕ) → length (handling_of_fired m tick x d fired).rows ≤ row_room m.clauses
 rows_fired m tick x d fired =
@@ -214,3 +228,18 @@ module _ (m : Machine) (tick : ℕ) (lines : List Line) (due fired : List ℕ) (
         small_before = fits.small_before;
       };
     }
+
+  -- where no branch is due, the due states have moved, and nothing else happened
+  pub idle_effect : fired ≡ [] → begun ≡ record old { x = begun.x } → new ≡ record begun { tick = tick; pre = begun.d; log = [] } → AreValuesOf m new →
+      AreRisingBelow (state_count m) due → IsHandlerEffect m tick lines due due (assigned_of done.rows) old new done
+  idle_effect none begins began fits numbers =
+      let is = idle m tick (states_at lines tick) begun.d fired none in
+      let moved_x : new.x ≡ begun.x = ap (λ (v : Values). v.x) began in
+      let left : List ℤ → HandlerState → Values = λ x h. record { x = x; d = h.discretes; pre = begun.d; tick = tick; log = h.rows; room = begun.room } in
+      let start : HandlerState = record { states = states_at lines tick; discretes = begun.d; rows = []; overflow = None } in
+      is_handled begins (began ∙ ap (λ x. left x start) (sym moved_x) ∙ ap (left new.x) (sym is))
+      (ap (λ (h : HandlerState). length h.states) is ∙ length-states_at lines tick ∙ many)
+      (λ j e. ap (λ x. int_at x j) moved_x ∙ e ∙ ap (λ (h : HandlerState). int_at h.states j) (sym is))
+      (λ j e. let both : true ≡ false = sym e ∙ ap (λ (h : HandlerState). is_reinitialized h.rows j) is in absurd (cc))
+      due (joins_nothing done.rows (ap (λ (h : HandlerState). list_any (λ (row : Row). is_reinit row.kind) h.rows) is) due)
+      fits numbers

@@ -1,12 +1,12 @@
 -- Numbers that arrive one after another.
 use Rattle.qss_run.proofs.Common
 use Common.{ℕ, ℤ, ◌+◌, ◌<◌, ◌==◌, ◌||◌, ◌∙◌, ◌≡◌, ◌≤◌, ap, AreArrived, arith, Bool, cases_Bool}
-use Common.{eqb-true, FitsSigned, get_or, get_or-set_other, get_or-set_same, get_or_default}
-use Common.{get_or_past, inl, inr, int_at, int_at-states_at, IsWithin, length, length-set, Line}
-use Common.{List, list_any, list_any_more, of_z, or_cases, or_parts, pos, refl, set, state_at}
-use Common.{states_at, subst, sym, take, to_z, to_z-of_z, w128}
+use Common.{FitsSigned, get_or, get_or-set_other, get_or-set_same, get_or_default, get_or_past, inl}
+use Common.{inr, int_at, int_at-states_at, IsWithin, length, length-set, Line, List, list_any}
+use Common.{list_any_more, of_z, or_cases, or_parts, pos, refl, set, state_at, states_at, subst}
+use Common.{sym, take, to_z, to_z-of_z, w128}
+use Rattle.mu_num.proofs.Tests.{eqb-true, eqb-false}
 use Rattle.std.specs.List.{All}
-use Rattle.mu_num.proofs.Tests.{eqb-false}
 use Rattle.qss_events.specs.Schedules.{no_line}
 
 -- some arrive, then others

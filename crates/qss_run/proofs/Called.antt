@@ -1,11 +1,10 @@
 -- Conditions that became true during the handlers, scheduled for a tick.
 use Rattle.qss_run.proofs.Common
 use Common.{[], ℕ, ◌&&◌, ◌+◌, ◌<◌, ◌∙◌, ◌≡◌, ◌≢◌, ◌≤◌, ◌⊎◌, ap, AreAlikeBut, AreRisenDue, arith}
-use Common.{became_true, Bool, cases_Bool, cases_eq, Conditions, due_at, eqb, false, flag_at}
-use Common.{get_or, get_or-set_other, get_or-set_same, index_of, inl, inr, is_listed, length}
-use Common.{length-set, List, None, not, Option, or_cases, refl, set, Some, sym, take, take_all}
-use Common.{true}
-use Rattle.std.proofs.lemmas.Bool.{eqb-true}
+use Common.{became_true, Bool, cases_Bool, cases_eq, Conditions, due_at, eqb, eqb-true, false}
+use Common.{flag_at, get_or, get_or-set_other, get_or-set_same, index_of, inl, inr, is_listed}
+use Common.{length, length-set, List, None, not, Option, or_cases, refl, set, Some, sym, take}
+use Common.{take_all, true}
 use Rattle.mu_num.proofs.Writes.{among_more}
 
 not_risen : (at_arrival after_handlers : Bool) → at_arrival ≡ after_handlers → (after_handlers && not at_arrival) ≡ false

@@ -6,7 +6,8 @@ pub use Rattle.std.proofs.Common.{length, List, map, of_z, pos, refl, rules, set
 pub use Rattle.std.proofs.Common.{take, to_z, true, Vec, zero}
 pub use Rattle.std.proofs.Math.IntN.{zero-*ℤ}
 pub use Rattle.std.proofs.lemmas.Bool.{both_ways, cases_Bool, cases_eq, cases_lt, eqb-false}
-pub use Rattle.std.proofs.lemmas.Bool.{false_from_ne_true, or_cases, or_left, or_parts, or_right}
+pub use Rattle.std.proofs.lemmas.Bool.{eqb-true, false_from_ne_true, or_cases, or_left, or_parts}
+pub use Rattle.std.proofs.lemmas.Bool.{or_right}
 pub use Rattle.std.proofs.lemmas.Bool.Decides.{nat_tests}
 pub use Rattle.std.proofs.lemmas.Int.{ints, to_z-of_z}
 pub use Rattle.std.proofs.lemmas.List.{get_or-append_right, get_or-drop, get_or-map}
@@ -29,7 +30,7 @@ pub use Rattle.std.specs.Vec.{with_items}
 pub use mir.Syntax.{w128, w64}
 pub use Rattle.mu_num.proofs.InPlace.{same_length}
 pub use Rattle.mu_num.proofs.Tables.{int_at-tabulate, tabulate-same}
-pub use Rattle.mu_num.proofs.Tests.{eqb-true, eqb-yes, if_cases}
+pub use Rattle.mu_num.proofs.Tests.{eqb-yes, if_cases}
 pub use Rattle.mu_num.proofs.Writes.{among_at, index_of, written_all}
 pub use Rattle.mu_num.specs.IndexedSums.{first_exceeding, int_at, sum_over, tabulate}
 pub use Rattle.mu_num.specs.Limits.{tick_limit}
@@ -132,5 +133,6 @@ pub use Rattle.qss_run.specs.Stores.{CanStart, FitsMachine, HasDueRemovedFrom, I
 pub use Rattle.qss_run.specs.Stores.{snapshot_of}
 pub use Rattle.qss_run.specs.TouchCounts.{MovesTouched, touches_at, touches_left}
 pub use Rattle.qss_run.specs.declared.run_conditions.BranchPlace.{BranchPlace}
+pub use Rattle.qss_run.specs.declared.run_conditions.ChangedConditions.{ChangedConditions}
 pub use Rattle.qss_run.specs.declared.run_conditions.Conditions.{Conditions}
 pub use Rattle.qss_run.specs.declared.run_start.Store.{Store}

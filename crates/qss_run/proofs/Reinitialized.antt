@@ -2,11 +2,11 @@
 use Rattle.qss_run.proofs.Common
 use Common.{[], ℕ, ◌&&◌, ◌++◌, ◌+◌, ◌<◌, ◌==◌, ◌||◌, ◌∙◌, ◌∷◌, ◌≡◌, ◌≢◌, ◌⊎◌, ap, append-nil}
 use Common.{AreDue, AreRisingBelow, arith, Bool, cases_Bool, cases_eq, cond, due_at, eqb, eqb-false}
-use Common.{false, filter, get_or, get_or-set_other, get_or-set_same, index_of, inl, inr, is_listed}
-use Common.{is_reinit, is_reinitialized, IsWithout, length, length-set, List, list_any, list_any_at}
-use Common.{list_any_more, map, Option, or_cases, or_left, or_parts, or_right, refl}
+use Common.{eqb-true, false, filter, get_or, get_or-set_other, get_or-set_same, index_of, inl, inr}
+use Common.{is_listed, is_reinit, is_reinitialized, IsWithout, length, length-set, List, list_any}
+use Common.{list_any_at, list_any_more, map, Option, or_cases, or_left, or_parts, or_right, refl}
 use Common.{reinitialized_of, Row, set, Some, subst, sym, take, true}
-use Rattle.std.proofs.lemmas.Bool.{eqb-true, eq-eqb}
+use Rattle.std.proofs.lemmas.Bool.{eq-eqb}
 use Rattle.std.proofs.lemmas.List.{map-append}
 use Rattle.std.proofs.lemmas.List.Elements.{filter_more}
 

@@ -1,12 +1,11 @@
 -- Handlers change what their rows say, and no more.
 use Rattle.qss_run.proofs.Common
 use Common.{[], ℕ, ℤ, ◌&&◌, ◌++◌, ◌+◌, ◌-◌, ◌<◌, ◌||◌, ◌∙◌, ◌∷◌, ◌≡◌, ◌≢◌, ◌≤◌, ◌⊎◌, Action, All}
-use Common.{ap, arith, assign, assigned_of, Bool, cond, discrete_count, eqb, eqb-false, exceeds}
-use Common.{false, filter, fire_row, Form, get_or-set_other, HandlerState, if_cases, inl, inr}
-use Common.{int_at, is_listed, is_reinit, is_reinitialized, IsWithin, List, list_any}
+use Common.{ap, arith, assign, assigned_of, Bool, cond, discrete_count, eqb, eqb-false, eqb-true}
+use Common.{exceeds, false, filter, fire_row, Form, get_or-set_other, HandlerState, if_cases, inl}
+use Common.{inr, int_at, is_listed, is_reinit, is_reinitialized, IsWithin, List, list_any}
 use Common.{list_any-append, Machine, map, nat_tests, Option, or_cases, or_parts, pos, refl, Reinit}
 use Common.{Row, run_clauses, Set, set, Some, state_count, subst, sym, true}
-use Rattle.std.proofs.lemmas.Bool.{eqb-true}
 use Rattle.std.proofs.lemmas.List.Elements.{All-set}
 use Rattle.std.specs.Prelude.{IsTrue}
 use Rattle.qss_machine.specs.MachineLimits.{IsAction, has_target}

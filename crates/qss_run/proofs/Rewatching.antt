@@ -1,12 +1,13 @@
 -- Conditions of which some settle at a tick, step by step.
 use Rattle.qss_run.proofs.Common
 use Common.{[], ℕ, ℤ, ◌++◌, ◌+◌, ◌<◌, ◌==◌, ◌∙◌, ◌∷◌, ◌≡◌, ap, AreSettled, arith, Bool, cases_Bool}
-use Common.{compares, condition_at, detector_at, DetectorStates, DetectorView, due_at, eqb-true}
-use Common.{eqb-yes, false, flag_at, get_or-map-range_with_len, get_or-set_other, get_or-set_same}
-use Common.{inl, inr, is_listed, IsChange, IsDetectorAt, IsSettled, length}
-use Common.{length-map-range_with_len, length-set, List, list_any-append, list_any_at, Machine}
-use Common.{map-range_with_len_more, no_detector, None, Option, or_cases, or_left, or_parts, refl}
-use Common.{set, speed_of, state_count, subst, sym, tabulate, true, truth, value_of}
+use Common.{compares, condition_at, detector_at, DetectorStates, DetectorView, due_at, eqb-yes}
+use Common.{false, flag_at, get_or-map-range_with_len, get_or-set_other, get_or-set_same, inl, inr}
+use Common.{is_listed, IsChange, IsDetectorAt, IsSettled, length, length-map-range_with_len}
+use Common.{length-set, List, list_any-append, list_any_at, Machine, map-range_with_len_more}
+use Common.{no_detector, None, Option, or_cases, or_left, or_parts, refl, set, speed_of}
+use Common.{state_count, subst, sym, tabulate, true, truth, value_of}
+use Rattle.mu_num.proofs.Tests.{eqb-true}
 use Rattle.qss_run.specs.DetectorUpdates.{IsKept}
 
 -- a condition that is as it was is settled as it was

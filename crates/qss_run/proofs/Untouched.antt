@@ -3,13 +3,14 @@ use Rattle.qss_run.proofs.Common
 use Common.{[], ℕ, ℤ, ◌*ℤ◌, ◌++◌, ◌+◌, ◌-◌, ◌<◌, ◌==◌, ◌∙◌, ◌∷◌, ◌≡◌, ◌≤◌, among_conditions}
 use Common.{Any-from_list_any, ap, AreDetectorsUpTo, AreSettled, AreSlopesBefore, arith, Bool}
 use Common.{cases_Bool, cases_lt, compares, condition_at, condition_reads, conditions, detector_at}
-use Common.{DetectorStates, DetectorView, discrete_count, due_at, Entry, eqb-true, eqb-yes, false}
+use Common.{DetectorStates, DetectorView, discrete_count, due_at, Entry, eqb-yes, false}
 use Common.{false_from_ne_true, flag_at, flat_map, get_or, get_or-append_right, get_or-map}
 use Common.{get_or_append_left, get_or_past, inl, inputs, inr, int_at, ints, is_listed}
 use Common.{IsDetectorAt, length, length-map, level_unit, List, list_any-append, list_any_at}
 use Common.{Machine, map, or_cases, or_parts, pos, readers_before, readers_of, reading_conditions}
 use Common.{reading_rows, reads_moved, refl, row_at, row_reads, state_count, subst, sym}
 use Common.{touched_after, touched_by, touched_of, true, truth, value_of}
+use Rattle.mu_num.proofs.Tests.{eqb-true}
 use Rattle.qss_machine.proofs.Among.{among_rows}
 use Rattle.qss_run.proofs.Rewatching.{watched_as}
 use Rattle.qss_run.proofs.Speeds.{speeds_same}

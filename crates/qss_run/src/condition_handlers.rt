@@ -66,6 +66,11 @@ impl Conditions {
         move_due_handler_states(at.states, at.tick, moved.as_slice(), work)?;
         self.list_fired(at.tick, at.changed, fired);
         self.read_changed(at.tick, at.changed);
+        if fired.is_empty() {
+            work.begin(at.tick);
+            assigned.clear();
+            return Ok(());
+        }
         let branches = self.branches.as_slice();
         handle_fired_conditions(at, branches, fired.as_slice(), work)?;
         let states = at.machine.states.as_slice().len() as u32;

@@ -2,10 +2,9 @@
 use Rattle.qss_run.proofs.Common
 use Common.{ℕ, ℤ, ◌+◌, ◌∙◌, ◌≡◌, All, ap, AreAlikeBut, AreLinesAt, AreRisingBelow, AreSlopesBefore}
 use Common.{arith, Bool, condition_at, Conditions, conditions, detector_at, detector_states_of}
-use Common.{DetectorView, due_at, flag_at, is_listed, IsDetectorAt, IsSmall, IsWithin, length, List}
-use Common.{one_reads, reinitialized_of, speed_of, state_count, states_at, Store, subst, sym}
-use Common.{touched_after, truths_are, Values, vec_len}
-use Rattle.std.proofs.lemmas.Bool.{eqb-true}
+use Common.{DetectorView, due_at, eqb-true, flag_at, is_listed, IsDetectorAt, IsSmall, IsWithin}
+use Common.{length, List, one_reads, reinitialized_of, speed_of, state_count, states_at, Store}
+use Common.{subst, sym, touched_after, truths_are, Values, vec_len}
 use Rattle.qss_states.specs.Variables.{AreSlopesOf}
 use Rattle.qss_run.proofs.Apart.{alike_then}
 use Rattle.qss_run.proofs.OwnConditions.{settled_fits, still_fits, rest_watched, same_settled}

@@ -93,95 +93,56 @@ returns-in_err-requantize-clause-kept g c none =
     let given : c.from_residual-in_err-requantize.result ≡ Err c.in_err-requantize.field-0.0 = search rules in
     clash (overflow_of c.from_residual-in_err-requantize.result) (ap is_some (ap overflow_of given)) none
 
-pub requantize-requires-clause-ready : goal.requantize-requires-clause-ready
-requantize-requires-clause-ready g c =
-    let m = c.args.m.now in
-    let t = c.args.tick + 1 in
-    let s : Store = c.args.s.now in
-    let h : HandlerState = handling_from m t (states_at s.states.lines.items t) s.work.d s.conditions.at_arrival.items s.conditions.after_handlers.items in
-    let calm : overflow_of c.handle_changed_conditions.result ≡ None =
-    ap overflow_of c.in_ok-handle_changed_conditions.was in
-    let assigned = c.handle_changed_conditions.new.assigned.items in
-    let new : Values = c.handle_changed_conditions.new.work in
-    let handled = c.handle_changed_conditions.ensures.handled calm in
-    record {
-      uses = c.requires.taken.1.stands.fits.uses;
-      moved = subst (AreRisingBelow (state_count m)) (sym c.as_slice-2.ensures.value) handled.numbers;
-      assigned = subst (λ (js : List ℕ). AreAssignedFrom m js new.pre new.d) (sym c.as_slice-3.ensures.value) handled.assigns;
-      values = record {
-        states = handled.fits.states;
-        discretes = handled.fits.discretes;
-        small_states = handled.fits.small_states;
-        small_discretes = handled.fits.small_discretes;
-      };
-      before = handled.fits.before;
-    }
-
-pub requantize-requires-clause-held : goal.requantize-requires-clause-held
-requantize-requires-clause-held g c =
-    let m = c.args.m.now in
-    let t = c.args.tick + 1 in
-    let s : Store = c.args.s.now in
-    let agenda : List (Option ℕ) = c.requires.taken.0 in
-    let h : HandlerState = handling_from m t (states_at s.states.lines.items t) s.work.d s.conditions.at_arrival.items s.conditions.after_handlers.items in
-    let calm : overflow_of c.handle_changed_conditions.result ≡ None =
-    ap overflow_of c.in_ok-handle_changed_conditions.was in
-    let assigned = c.handle_changed_conditions.new.assigned.items in
-    let new : Values = c.handle_changed_conditions.new.work in
-    let handled = c.handle_changed_conditions.ensures.handled calm in
-    let of_pre : new.pre ≡ s.work.d = ap (λ (v : Values). v.pre) handled.values in
-    let stands = c.requires.taken.1.stands in
-    record {
-      lines = stands.fits.lines;
-      levels = stands.fits.levels;
-      of_lines = record {
-        small = levels_small m c.args.tick (record s { agenda = agenda }) stands;
-        light = ap (λ p. position (exceeds_row_limits m s.states.levels.items p) m.rows) of_pre ∙ stands.stands_for.left.light;
-        own_levels = λ j inside. (stands.stands_for.lines j inside).own_level;
-      };
-      weights = subst (λ p. AreWeights m s.states.levels.items p s.states.weights) (sym of_pre)
-          stands.own_weights;
-    }
-
-pub requantize-requires-clause-left : goal.requantize-requires-clause-left
-requantize-requires-clause-left g c idle =
+pub requantize-requires : goal.requantize-requires
+requantize-requires g c =
     let m = c.args.m.now in
     let t = c.args.tick + 1 in
     let s : Store = c.args.s.now in
     let agenda : List (Option ℕ) = c.requires.taken.0 in
     let taken = c.requires.taken.1 in
+    let stands = taken.stands in
     let h : HandlerState = handling_from m t (states_at s.states.lines.items t) s.work.d s.conditions.at_arrival.items s.conditions.after_handlers.items in
     let is_h : h ≡ handlers_at m t (snapshot_of c.args.tick s) =
-    handles m c.args.tick (record s { agenda = agenda }) taken.stands in
+    handles m c.args.tick (record s { agenda = agenda }) stands in
     let calm : overflow_of c.handle_changed_conditions.result ≡ None =
     ap overflow_of c.in_ok-handle_changed_conditions.was in
     let moved = c.handle_changed_conditions.new.moved.items in
     let assigned = c.handle_changed_conditions.new.assigned.items in
     let new : Values = c.handle_changed_conditions.new.work in
     let handled = c.handle_changed_conditions.ensures.handled calm in
-    subst (λ js. HaveLeft m js new.x s.states.levels.items) (sym c.as_slice-2.ensures.value)
-    (have_left m c.args.tick agenda s taken c.requires.in_time moved assigned new h handled is_h idle)
-
-pub requantize-requires-clause-room : goal.requantize-requires-clause-room
-requantize-requires-clause-room g c =
-    let m = c.args.m.now in
-    let t = c.args.tick + 1 in
-    let s : Store = c.args.s.now in
-    let agenda : List (Option ℕ) = c.requires.taken.0 in
-    let h : HandlerState = handling_from m t (states_at s.states.lines.items t) s.work.d s.conditions.at_arrival.items s.conditions.after_handlers.items in
-    let is_h : h ≡ handlers_at m t (snapshot_of c.args.tick s) =
-    handles m c.args.tick (record s { agenda = agenda }) c.requires.taken.1.stands in
-    let calm : overflow_of c.handle_changed_conditions.result ≡ None =
-    ap overflow_of c.in_ok-handle_changed_conditions.was in
-    let assigned = c.handle_changed_conditions.new.assigned.items in
-    let new : Values = c.handle_changed_conditions.new.work in
-    let handled = c.handle_changed_conditions.ensures.handled calm in
-    omega (
-      arith,
-      ap (λ (v : Values). length v.log) handled.values,
-      rows_handled m t (states_at s.states.lines.items t) s.work.d s.conditions.at_arrival.items s.conditions.after_handlers.items,
-      c.requires.taken.1.stands.fits.room.rows,
-    )
+    let of_pre : new.pre ≡ s.work.d = ap (λ (v : Values). v.pre) handled.values in
+    record {
+      ready = record {
+        uses = stands.fits.uses;
+        moved = subst (AreRisingBelow (state_count m)) (sym c.as_slice-2.ensures.value) handled.numbers;
+        assigned = subst (λ (js : List ℕ). AreAssignedFrom m js new.pre new.d) (sym c.as_slice-3.ensures.value) handled.assigns;
+        values = record {
+          states = handled.fits.states;
+          discretes = handled.fits.discretes;
+          small_states = handled.fits.small_states;
+          small_discretes = handled.fits.small_discretes;
+        };
+        before = handled.fits.before;
+      };
+      held = record {
+        lines = stands.fits.lines;
+        levels = stands.fits.levels;
+        of_lines = record {
+          small = levels_small m c.args.tick (record s { agenda = agenda }) stands;
+          light = ap (λ p. position (exceeds_row_limits m s.states.levels.items p) m.rows) of_pre ∙ stands.stands_for.left.light;
+          own_levels = λ j inside. (stands.stands_for.lines j inside).own_level;
+        };
+        weights = subst (λ p. AreWeights m s.states.levels.items p s.states.weights) (sym of_pre) stands.own_weights;
+      };
+      left = λ idle. subst (λ js. HaveLeft m js new.x s.states.levels.items) (sym c.as_slice-2.ensures.value)
+          (have_left m c.args.tick agenda s taken c.requires.in_time moved assigned new h handled is_h idle);
+      room = omega (
+        arith,
+        ap (λ (v : Values). length v.log) handled.values,
+        rows_handled m t (states_at s.states.lines.items t) s.work.d s.conditions.at_arrival.items s.conditions.after_handlers.items,
+        stands.fits.room.rows,
+      );
+    }
 
 pub returns-in_err-requantize-clause-visited : goal.returns-in_err-requantize-clause-visited
 returns-in_err-requantize-clause-visited g c =
@@ -250,8 +211,7 @@ continue_after_handlers-requires g c =
     c.requantize.ensures.taken.1.allowed h.states to in
     let over : overflow_of c.requantize.result ≡ option_or (first_exceeding 43 fresh) (position (exceeds_row_limits m fresh h.discretes) m.rows) =
     c.requantize.ensures.taken.1.over_is ∙ ap (λ d. option_or (first_exceeding 43 fresh) (position (exceeds_row_limits m fresh d) m.rows)) of_d in
-    let fine : overflow_of c.requantize.result ≡ None =
-    ap overflow_of c.in_ok-requantize.was in
+    let fine : overflow_of c.requantize.result ≡ None = ap overflow_of c.in_ok-requantize.was in
     let none_both = both_none (first_exceeding 43 fresh) (position (exceeds_row_limits m fresh h.discretes) m.rows) (sym fine ∙ over) in
     let levels : List ℤ = c.requantize.new.self.levels.items in
     let are_fresh : levels ≡ fresh = c.requantize.ensures.taken.1.levels fine in
@@ -366,8 +326,7 @@ returns-clause-visited g c =
     c.requantize.ensures.taken.1.allowed h.states to in
     let over : overflow_of c.requantize.result ≡ option_or (first_exceeding 43 fresh) (position (exceeds_row_limits m fresh h.discretes) m.rows) =
     c.requantize.ensures.taken.1.over_is ∙ ap (λ d. option_or (first_exceeding 43 fresh) (position (exceeds_row_limits m fresh d) m.rows)) of_d in
-    let fine : overflow_of c.requantize.result ≡ None =
-    ap overflow_of c.in_ok-requantize.was in
+    let fine : overflow_of c.requantize.result ≡ None = ap overflow_of c.in_ok-requantize.was in
     let none_both = both_none (first_exceeding 43 fresh) (position (exceeds_row_limits m fresh h.discretes) m.rows) (sym fine ∙ over) in
     let levels : List ℤ = c.requantize.new.self.levels.items in
     let are_fresh : levels ≡ fresh = c.requantize.ensures.taken.1.levels fine in
@@ -439,8 +398,7 @@ returns-clause-kept g c none j inside unaffected =
     (moved_to m c.args.tick agenda s taken c.requires.in_time moved assigned new h handled) in
     let allowed : AreNextLevels (IsAllowedLevel c.args.q.now.name) m h.states s.states.levels.items fresh =
     c.requantize.ensures.taken.1.allowed h.states to in
-    let fine : overflow_of c.requantize.result ≡ None =
-    ap overflow_of c.in_ok-requantize.was in
+    let fine : overflow_of c.requantize.result ≡ None = ap overflow_of c.in_ok-requantize.was in
     let levels : List ℤ = c.requantize.new.self.levels.items in
     let are_fresh : levels ≡ fresh = c.requantize.ensures.taken.1.levels fine in
     let allowed_now : AreNextLevels (IsAllowedLevel c.args.q.now.name) m h.states s.states.levels.items levels =
