@@ -25,6 +25,8 @@ from .rattle_source import Function, crates_of, files_of, functions, masked
 LIMITS = os.path.join(os.path.dirname(os.path.abspath(__file__)), "house_limits.tsv")
 # The crates whose functions share few clauses.
 TOP = ("qss_top", "qss_answers", "qss_guarantees")
+# The crates of the simulators, whose functions have fewer parameters.
+SIMULATORS = ("qss_devs", "qss_order2", "qss_own_traces", "qss_run", "qss_states")
 # How the names of the crates of the language begin.
 LANGUAGE = "mu_"
 CONTROL = re.compile(r"\b(?:if|else|match|for|while|loop)\b")
@@ -87,6 +89,11 @@ class Sources:
 def place(crate: str, function: Function) -> str:
     """The file, the line and the name of a function."""
     return "crates/%s/%s:%d %s" % (crate, function.file, function.line, function.name)
+
+
+def parameters_of_simulators(sources: Sources) -> List[Place]:
+    """How many parameters each function of the simulators has."""
+    return [(len(it.parameters), place(crate, it)) for crate, it in sources.functions if crate in SIMULATORS]
 
 
 def nesting(body: Optional[str]) -> int:
@@ -234,6 +241,7 @@ def measures(sources: Sources) -> List[Measure]:
     everywhere = sources.of_files([sources.code, sources.specs, sources.proofs])
     return [
         Measure("parameters of a function", 7, sources.of_functions(lambda it: len(it.parameters))),
+        Measure("parameters of a function of a simulator", 5, parameters_of_simulators(sources)),
         Measure("`requires` of a function", 8, sources.of_functions(required)),
         Measure("lines of a body", 40, sources.of_functions(body_lines)),
         Measure("blocks inside each other", 3, sources.of_functions(lambda it: nesting(it.body))),
