@@ -55,7 +55,7 @@ from qss_tools.program import ROOT
 from . import spec_edits
 from .crates import below_each, needed
 from .edits import REFUSED, THROUGH, UNKNOWN, Mutant, applied, mutants_of, text_of
-from .rattle_source import functions
+from .rattle_source import Function, files_of, functions, modules_of
 
 PARTS = ("src", "specs", "proofs")
 MISSING, NAMES = "the answer names a missing goal", "proof names it"
@@ -64,6 +64,8 @@ VERDICTS = (REFUSED, THROUGH, MISSING, NAMES, UNREAD, UNAPPLIED, UNKNOWN)
 # The result of a round for a function that calls a function which is not proved. It is no verdict.
 MASKED = "masked"
 
+# The declaration of a type.
+TYPE = re.compile(r"^(?:pub(?:\([a-z]+\))? )?(?:struct|enum) (\w+)", re.MULTILINE)
 # The line on a function, and the lines of help that follow it.
 TOLD = re.compile(
     r"^fn \w+::(\S+): ((?:proved|not proved|no proof|could not tell).*)((?:\n(?:help: |  ).*)*)", re.MULTILINE
@@ -92,7 +94,19 @@ class Planted(NamedTuple):
     function: str
 
 
-def function_of(text: str, mutant: Mutant) -> Optional[str]:
+def declaring_files(root: str, crate: str) -> Dict[str, str]:
+    """The file that declares each type of a crate."""
+    return {name: file for file, text in files_of(root, crate, "src", ".rt").items() for name in TYPE.findall(text)}
+
+
+def told_path(function: Function, declared: Dict[str, str]) -> str:
+    """The function as rt names it. A method is named by the module that declares its type."""
+    if not function.owner or function.trait:
+        return function.path
+    return "::".join([*modules_of(declared.get(function.owner, function.file)), function.owner, function.name])
+
+
+def function_of(text: str, mutant: Mutant, declared: Dict[str, str]) -> Optional[str]:
     """The only function that a mutant changes; or None."""
     found: Set[str] = set()
     every = functions(mutant.file, text)
@@ -100,16 +114,17 @@ def function_of(text: str, mutant: Mutant) -> Optional[str]:
         at = text.find(old)
         # (the first character that is not a blank is in the function: a text may begin with the end of a line)
         at += len(old) - len(old.lstrip())
-        found.update(it.path for it in every if it.start <= at < it.end)
+        found.update(told_path(it, declared) for it in every if it.start <= at < it.end)
     return found.pop() if len(found) == 1 else None
 
 
 def sorted_out(root: str, crate: str, mutants: Sequence[Mutant]) -> Tuple[List[Planted], Dict[str, str]]:
     """The mutants that can be planted, each with its function, and the verdicts of the others."""
     planted, verdicts = [], {}
+    declared = declaring_files(root, crate)
     for it in mutants:
         text = text_of(root, crate, it.file)
-        function = function_of(text, it)
+        function = function_of(text, it, declared)
         if applied(text, it) in (None, text) or function is None:
             verdicts[it.name] = UNAPPLIED
         else:
@@ -474,8 +489,9 @@ def tool(arguments: Sequence[str]) -> int:
     for crate in crates:
         mutants = [it for it in mutants_of(args.root, crate) if not args.name or it.name in args.name]
         verdicts = verdicts_of(args, crate, mutants)
+        declared = declaring_files(args.root, crate)
         for it in mutants:
-            function = function_of(text_of(args.root, crate, it.file), it) or it.file
+            function = function_of(text_of(args.root, crate, it.file), it, declared) or it.file
             said = verdicts.get(it.name, it.stated)
             print(row(crate, it, function, said), flush=True)
             if args.drop and said == UNAPPLIED:

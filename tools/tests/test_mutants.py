@@ -125,6 +125,18 @@ class Files(unittest.TestCase):
             self.assertIn("*%s*" % it, text)
 
 
+class Names(InFolder):
+    def test_a_method_is_named_by_the_module_of_its_type(self):
+        os.makedirs(os.path.join(self.folder, "crates", "demo", "src"))
+        self.file("crates/demo/src/shapes.rt", "/// A square.\npub(crate) struct Square {\n    pub side: u32,\n}\n")
+        text = "impl Square {\n    fn area(&self) -> u32 {\n        self.side * self.side\n    }\n}\n"
+        self.file("crates/demo/src/areas.rt", text)
+        pairs = [("        self.side * self.side", "        self.side")]
+        mutant = edits.Mutant("side", "src/areas.rt", pairs, through="", open="", theorem="")
+        declared = mutants.declaring_files(self.folder, "demo")
+        self.assertEqual(mutants.function_of(text, mutant, declared), "shapes::Square::area")
+
+
 class Trying(InFolder):
     def setUp(self):
         super().setUp()
