@@ -2,7 +2,7 @@
 use Rattle.qss_run.proofs.Common
 use Common.{[], ℕ, ℤ, ◌&&◌, ◌+◌, ◌<◌, ◌^◌, ◌||◌, ◌∙◌, ◌∷◌, ◌≡◌, ◌≤◌, ◌⊎◌, All, all_within, among_at}
 use Common.{ap, AreRisingBelow, AreValuesOf, arith, assigned_of, became_true, Bool, cases_Bool}
-use Common.{ChangedConditions, condition_at, Conditions, conditions, detector_at, discrete_count}
+use Common.{StatesAt, condition_at, Conditions, conditions, detector_at, discrete_count}
 use Common.{eqb, eqb-true, false, filter, firing_flags, first_exceeding, flag_at, flags_of, get_or}
 use Common.{get_or-map-range_with_len, get_or_default, HandlerState, handling_from}
 use Common.{handling_of_fired, holds_at, if◌then◌else◌, inl, inr, int_at, int_at-states_at}
@@ -101,32 +101,32 @@ module _ (after_handlers at_arrival : List Bool) (looked : List ℕ) (holds : �
 
 -- where no state exceeds its limit on arrival, detectors that are valid there have values within
 -- the limit
-small_then : (at : ChangedConditions) (all : Conditions) (d : List ℤ) → KnowsArrival at all d → All (IsWithin 88) (states_at at.states.now.lines.items at.tick) → AreSmallAt at.tick all.detectors.items
-small_then at all d known small = record {
+small_then : (at : StatesAt) (changed : List ℕ) (all : Conditions) (d : List ℤ) → KnowsArrival at changed all d → All (IsWithin 88) (states_at at.states.now.lines.items at.tick) → AreSmallAt at.tick all.detectors.items
+small_then at changed all d known small = record {
   later = λ place h. (known.watched place (omega (arith, h, known.fits.detectors))).0;
   small = λ place h. (known.watched place (omega (arith, h, known.fits.detectors))).1 small;
 }
 
 -- and truths may be read from what conditions keep
-pub may_be_read : (at : ChangedConditions) (all : Conditions) (d : List ℤ) → KnowsArrival at all d → first_exceeding 88 (states_at at.states.now.lines.items at.tick) ≡ None → at.tick < 2 ^ 32 → MayBeRead at.tick all at.changed.now
-may_be_read at all d known calm in_time = record {
+pub may_be_read : (at : StatesAt) (changed : List ℕ) (all : Conditions) (d : List ℤ) → KnowsArrival at changed all d → first_exceeding 88 (states_at at.states.now.lines.items at.tick) ≡ None → at.tick < 2 ^ 32 → MayBeRead at.tick all changed
+may_be_read at changed all d known calm in_time = record {
   as_many = known.fits.detectors ∙ sym known.fits.after_handlers;
-  numbers = subst (λ n. AreRisingBelow n at.changed.now) (sym known.fits.after_handlers) known.changed;
-  small = small_then at all d known (all_within 88 (states_at at.states.now.lines.items at.tick) calm);
+  numbers = subst (λ n. AreRisingBelow n changed) (sym known.fits.after_handlers) known.numbers;
+  small = small_then at changed all d known (all_within 88 (states_at at.states.now.lines.items at.tick) calm);
   in_time = omega (arith, in_time);
 }
 
 -- conditions on arrival have one of each truth
-pub lists_flipped : (at : ChangedConditions) (all : Conditions) (d : List ℤ) → KnowsArrival at all d → ListsFlipped all
-lists_flipped at all d known = record {
+pub lists_flipped : (at : StatesAt) (changed : List ℕ) (all : Conditions) (d : List ℤ) → KnowsArrival at changed all d → ListsFlipped all
+lists_flipped at changed all d known = record {
   as_many = known.fits.at_arrival ∙ sym known.fits.after_handlers;
   count = known.fits.flipped ∙ sym known.fits.after_handlers;
   alike = known.alike;
 }
 
 -- the truths on arrival, where the detectors are valid there
-module _ (at : ChangedConditions) (all : Conditions) (d : List ℤ) (known : KnowsArrival at all d) (now : List Bool)
-    (read : IsWritten false (λ place flag. flag ≡ holds_at (detector_at all.detectors.items place) at.tick) at.changed.now all.after_handlers.items now) where
+module _ (at : StatesAt) (changed : List ℕ) (all : Conditions) (d : List ℤ) (known : KnowsArrival at changed all d) (now : List Bool)
+    (read : IsWritten false (λ place flag. flag ≡ holds_at (detector_at all.detectors.items place) at.tick) changed all.after_handlers.items now) where
   abbrev holds_there : ℕ → Bool
   holds_there place = holds_at (detector_at all.detectors.items place) at.tick
 
@@ -136,19 +136,19 @@ module _ (at : ChangedConditions) (all : Conditions) (d : List ℤ) (known : Kno
   own_truth : (place : ℕ) → place < length all.after_handlers.items → holds_there place ≡ truth at.machine.now (condition_at at.machine.now place) (states_at at.states.now.lines.items at.tick) d at.tick
   own_truth place h = (known.watched place (omega (arith, h, known.fits.after_handlers))).2
 
-  other_truth : (place : ℕ) → place < length all.after_handlers.items → is_listed at.changed.now place ≡ false →
+  other_truth : (place : ℕ) → place < length all.after_handlers.items → is_listed changed place ≡ false →
       (truth at.machine.now (condition_at at.machine.now place) (states_at at.states.now.lines.items at.tick) d at.tick ≡ flag_at all.after_handlers.items place) × (became_true all.at_arrival.items all.after_handlers.items place ≡ false)
   other_truth place h none = known.others place (omega (arith, h, known.fits.after_handlers)) none
 
   pub read_on_arrival : now ≡ truths at.machine.now (states_at at.states.now.lines.items at.tick) d at.tick
   read_on_arrival =
-      truths_on_arrival all.after_handlers.items all.at_arrival.items at.changed.now holds_there now many_arrived read at.machine.now at.tick (states_at at.states.now.lines.items at.tick) d known.fits.after_handlers own_truth other_truth
+      truths_on_arrival all.after_handlers.items all.at_arrival.items changed holds_there now many_arrived read at.machine.now at.tick (states_at at.states.now.lines.items at.tick) d known.fits.after_handlers own_truth other_truth
 
-  pub read_handling : (begun : List ℤ) (fired : List ℕ) → first_exceeding 88 (states_at at.states.now.lines.items at.tick) ≡ None → begun ≡ d → fired ≡ fired_of holds_there all.at_arrival.items all.after_handlers.items at.changed.now →
+  pub read_handling : (begun : List ℤ) (fired : List ℕ) → first_exceeding 88 (states_at at.states.now.lines.items at.tick) ≡ None → begun ≡ d → fired ≡ fired_of holds_there all.at_arrival.items all.after_handlers.items changed →
       handling_of_fired at.machine.now at.tick (states_at at.states.now.lines.items at.tick) begun fired
       ≡ handling_from at.machine.now at.tick (states_at at.states.now.lines.items at.tick) d all.at_arrival.items all.after_handlers.items
   read_handling begun fired calm same are =
-      fired_handling all.after_handlers.items all.at_arrival.items at.changed.now holds_there now many_arrived read at.machine.now at.tick (states_at at.states.now.lines.items at.tick) d known.fits.after_handlers own_truth other_truth begun fired calm same are
+      fired_handling all.after_handlers.items all.at_arrival.items changed holds_there now many_arrived read at.machine.now at.tick (states_at at.states.now.lines.items at.tick) d known.fits.after_handlers own_truth other_truth begun fired calm same are
 
 -- where no branch is due, the handlers do nothing
 none_flagged : (places : List ℕ) → list_any (λ flag. flag) (map (is_listed []) places) ≡ false

@@ -133,6 +133,6 @@ pub use Rattle.qss_run.specs.Stores.{CanStart, FitsMachine, HasDueRemovedFrom, I
 pub use Rattle.qss_run.specs.Stores.{snapshot_of}
 pub use Rattle.qss_run.specs.TouchCounts.{MovesTouched, touches_at, touches_left}
 pub use Rattle.qss_run.specs.declared.run_conditions.BranchPlace.{BranchPlace}
-pub use Rattle.qss_run.specs.declared.run_conditions.ChangedConditions.{ChangedConditions}
+pub use Rattle.qss_run.specs.declared.run_conditions.StatesAt.{StatesAt}
 pub use Rattle.qss_run.specs.declared.run_conditions.Conditions.{Conditions}
 pub use Rattle.qss_run.specs.declared.run_start.Store.{Store}

@@ -47,10 +47,10 @@ module _ (m : Machine) (tick : ℕ) (agenda : List (Option ℕ)) (s : Store) (ta
 
   -- ---- the event queue
 
-  later_state : (j : ℕ) → j < state_count m → is_listed s.moved.items j ≡ false → (u : ℕ) → due_at agenda j ≡ Some u → tick + 1 < u
+  later_state : (j : ℕ) → j < state_count m → is_listed s.moment.moved.items j ≡ false → (u : ℕ) → due_at agenda j ≡ Some u → tick + 1 < u
   later_state j h none u e = later_than j u e (λ q. let some = taken.due.all j h (e ∙ ap (λ n. Some n) q) in absurd (cc))
 
-  later_change : (place : ℕ) → place < length (conditions m) → is_listed s.changed.items place ≡ false → (u : ℕ) → due_at agenda (state_count m + place) ≡ Some u → tick + 1 < u
+  later_change : (place : ℕ) → place < length (conditions m) → is_listed s.moment.changed.items place ≡ false → (u : ℕ) → due_at agenda (state_count m + place) ≡ Some u → tick + 1 < u
   later_change place h none u e =
       later_than (state_count m + place) u e (λ q. let some = taken.changing.changing place h (e ∙ ap (λ n. Some n) q) in absurd (cc))
 
@@ -60,14 +60,14 @@ module _ (m : Machine) (tick : ℕ) (agenda : List (Option ℕ)) (s : Store) (ta
     where
       of_state : place < state_count m → tick + 1 < due
       of_state h =
-          elim (cases_Bool (is_listed s.moved.items place)) [
+          elim (cases_Bool (is_listed s.moment.moved.items place)) [
             | inl among ↦ let nowhere = taken.without.states place among in absurd (cc)
             | inr none ↦ later_state place h none due (sym (taken.without.other_states place h none) ∙ e)
           ]
 
       of_condition : (k : ℕ) → k < length (conditions m) → due_at s.agenda (state_count m + k) ≡ Some due → tick + 1 < due
       of_condition k h there =
-          elim (cases_Bool (is_listed s.changed.items k)) [
+          elim (cases_Bool (is_listed s.moment.changed.items k)) [
             | inl among ↦ let nowhere = taken.without.conditions k among in absurd (cc)
             | inr none ↦ later_change k h none due (sym (taken.without.other_conditions k h none) ∙ there)
           ]
@@ -96,14 +96,14 @@ module _ (m : Machine) (tick : ℕ) (agenda : List (Option ℕ)) (s : Store) (ta
       ∙ ap (λ x. value_of m (condition_at m place).form x s.work.d s.work.d (tick + 1)) (sym (at_arrival m tick agenda s taken in_time ∙ moved_is m (snapshot_of tick s)))
 
   -- one that does not change is as after the last handlers
-  pub flag_same : (place : ℕ) → place < length (conditions m) → is_listed s.changed.items place ≡ false →
+  pub flag_same : (place : ℕ) → place < length (conditions m) → is_listed s.moment.changed.items place ≡ false →
       truth m (condition_at m place) (states_at s.states.lines.items (tick + 1)) s.work.d (tick + 1) ≡ flag_at s.conditions.after_handlers.items place
   flag_same place h none =
       ap (λ x. truth m (condition_at m place) x s.work.d (tick + 1)) (at_arrival m tick agenda s taken in_time ∙ moved_is m (snapshot_of tick s))
       ∙ flag_still m tick (snapshot_of tick s) (line_at s.states.lines.items) (detector_at s.conditions.detectors.items) (due_at agenda) (tick + 1) 1 place for (omega arith) (omega arith) in_limit h (later_change place h none)
 
   -- and one that is not looked at did not become true through them
-  pub rest_as_before : (place : ℕ) → place < length (conditions m) → is_listed s.changed.items place ≡ false →
+  pub rest_as_before : (place : ℕ) → place < length (conditions m) → is_listed s.moment.changed.items place ≡ false →
       (truth m (condition_at m place) (states_at s.states.lines.items (tick + 1)) s.work.d (tick + 1) ≡ flag_at s.conditions.after_handlers.items place) × (became_true s.conditions.at_arrival.items s.conditions.after_handlers.items place ≡ false)
   rest_as_before place h none = (
     flag_same place h none,
@@ -129,7 +129,7 @@ module _ (m : Machine) (tick : ℕ) (agenda : List (Option ℕ)) (s : Store) (ta
   )
 
   -- the detector of one that does not change is valid as before, at the states on arrival
-  pub watched_still : (place : ℕ) → place < length (conditions m) → is_listed s.changed.items place ≡ false →
+  pub watched_still : (place : ℕ) → place < length (conditions m) → is_listed s.moment.changed.items place ≡ false →
       IsDetectorAt m (tick + 1) (states_at s.states.lines.items (tick + 1)) s.work.d s.states.slopes.items place (detector_at s.conditions.detectors.items place) (due_at s.agenda (state_count m + place))
   watched_still place h none =
       let v = for.detectors place h in
@@ -147,16 +147,16 @@ module _ (m : Machine) (tick : ℕ) (agenda : List (Option ℕ)) (s : Store) (ta
 
   -- ---- after the handlers
 
-  module _ (moved assigned : List ℕ) (new : Values) (h : HandlerState) (is : IsHandlerEffect m (tick + 1) s.states.lines.items s.moved.items moved assigned s.work new h) where
+  module _ (moved assigned : List ℕ) (new : Values) (h : HandlerState) (is : IsHandlerEffect m (tick + 1) s.states.lines.items s.moment.moved.items moved assigned s.work new h) where
     -- a state that did not move was not due
-    rest : (j : ℕ) → is_listed moved j ≡ false → is_listed s.moved.items j ≡ false
+    rest : (j : ℕ) → is_listed moved j ≡ false → is_listed s.moment.moved.items j ≡ false
     rest j none =
-        (or_parts (is_listed s.moved.items j) (is_reinitialized h.rows j) (sym (is.moves j) ∙ none)).0
+        (or_parts (is_listed s.moment.moved.items j) (is_reinitialized h.rows j) (sym (is.moves j) ∙ none)).0
 
     -- only states are reinitialized
     pub reinits_known : (j : ℕ) → is_reinitialized h.rows j ≡ true → j < state_count m
     reinits_known j e =
-        let found = index_of moved j (is.moves j ∙ or_right (is_listed s.moved.items j) (is_reinitialized h.rows j) e) in
+        let found = index_of moved j (is.moves j ∙ or_right (is_listed s.moment.moved.items j) (is_reinitialized h.rows j) e) in
         omega (arith, is.numbers.below found.0 0 found.1, found.2)
 
     line_known : (j : ℕ) → j < state_count m → j < length s.states.lines.items

@@ -22,10 +22,10 @@ module _ (m : Machine) (tick : ℕ) (agenda : List (Option ℕ)) (s : Store) (ta
   nothing : HasNoEventBefore (tick + 1) (due_at agenda)
   nothing place t e = omega (arith, dues_later m tick before taken.stands place t e)
 
-  not_due : (j : ℕ) → j < state_count m → is_listed s.moved.items j ≡ false → due_at agenda j ≢ Some (tick + 1)
+  not_due : (j : ℕ) → j < state_count m → is_listed s.moment.moved.items j ≡ false → due_at agenda j ≢ Some (tick + 1)
   not_due j h none e = let some = taken.due.all j h e in absurd (cc)
 
-  later_due : (j : ℕ) → j < state_count m → is_listed s.moved.items j ≡ false → (u : ℕ) → due_at agenda j ≡ Some u → tick + 1 < u
+  later_due : (j : ℕ) → j < state_count m → is_listed s.moment.moved.items j ≡ false → (u : ℕ) → due_at agenda j ≡ Some u → tick + 1 < u
   later_due j h none u e =
       let ne : u ≢ tick + 1 = λ q. not_due j h none (e ∙ ap (λ n. Some n) q) in
       omega (arith, nothing j u e, ne)
@@ -38,21 +38,21 @@ module _ (m : Machine) (tick : ℕ) (agenda : List (Option ℕ)) (s : Store) (ta
   leads j h = int_at-tabulate (length s.states.lines.items) (λ i. state_at (line_at s.states.lines.items i) (tick + 1)) j (omega (arith, h, taken.stands.fits.lines))
 
   -- states that were not due are within the limit on arrival, and near their levels
-  pub rest_small : (j : ℕ) → j < state_count m → is_listed s.moved.items j ≡ false → IsWithin 88 (state_at (line_at s.states.lines.items j) (tick + 1))
+  pub rest_small : (j : ℕ) → j < state_count m → is_listed s.moment.moved.items j ≡ false → IsWithin 88 (state_at (line_at s.states.lines.items j) (tick + 1))
   rest_small j h none =
       subst (IsWithin 88) (sym (line_state_at m tick (snapshot_of tick s) (line_at s.states.lines.items) (detector_at s.conditions.detectors.items) (due_at agenda) for j 1 h))
       (only_due_states_pass m tick (snapshot_of tick s) (line_at s.states.lines.items) (detector_at s.conditions.detectors.items) (due_at agenda) (tick + 1) 1 j for (omega arith) (omega arith) (omega (arith, in_time)) nothing h
       (not_due j h none))
 
-  pub rest_near : (j : ℕ) → j < state_count m → is_listed s.moved.items j ≡ false → is_within_quantum m j (state_at (line_at s.states.lines.items j) (tick + 1)) (int_at s.states.levels.items j) ≡ true
+  pub rest_near : (j : ℕ) → j < state_count m → is_listed s.moment.moved.items j ≡ false → is_within_quantum m j (state_at (line_at s.states.lines.items j) (tick + 1)) (int_at s.states.levels.items j) ≡ true
   rest_near j h none =
       subst (λ x. is_within_quantum m j x (int_at s.states.levels.items j) ≡ true) (sym (line_state_at m tick (snapshot_of tick s) (line_at s.states.lines.items) (detector_at s.conditions.detectors.items) (due_at agenda) for j 1 h))
       (still_near m tick (snapshot_of tick s) (line_at s.states.lines.items) (detector_at s.conditions.detectors.items) (due_at agenda) (tick + 1) 1 j for (omega arith) (omega arith) in_limit h (later_due j h none))
 
   -- a due state left the quantum of its level
-  pub due_left : (j : ℕ) → is_listed s.moved.items j ≡ true → HasLeft m j (state_at (line_at s.states.lines.items j) (tick + 1)) (int_at s.states.levels.items j)
+  pub due_left : (j : ℕ) → is_listed s.moment.moved.items j ≡ true → HasLeft m j (state_at (line_at s.states.lines.items j) (tick + 1)) (int_at s.states.levels.items j)
   due_left j among =
-      let found = index_of s.moved.items j among in
+      let found = index_of s.moment.moved.items j among in
       let inside : j < state_count m = omega (arith, found.2, taken.due.numbers.below found.0 0 found.1) in
       let first : IsDue m tick j (line_at s.states.lines.items j) (Some (tick + 1)) = subst (IsDue m tick j (line_at s.states.lines.items j)) (taken.due.own j among) (for.dues j inside) in
       subst (HasLeft m j (state_at (line_at s.states.lines.items j) (tick + 1))) ((for.lines j inside).own_level) first.holds

@@ -91,14 +91,9 @@ fits_then m s at_arrival flipped fits many count = record {
   places = fits.places;
   values = fits.values;
   before = fits.before;
-  room = record {
-    moved = fits.room.moved;
-    changed = fits.room.changed;
-    fired = fits.room.fired;
-    assigned = fits.room.assigned;
-    log = fits.room.log;
-    rows = fits.room.rows;
-  };
+  lists = fits.lists;
+  log = fits.log;
+  rows = fits.rows;
 }
 
 pub stands_then : (m : Machine) (tick ticks : ℕ) (s : Store) (at_arrival : Vec Bool Global) (flipped : PlaceList) → IsStoreAt m tick s → tick + ticks < m.last →

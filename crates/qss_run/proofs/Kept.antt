@@ -27,7 +27,7 @@ first_one P from (Some m) (Some n) s t =
     ap (λ k. Some k) same
 
 module _ (m : Machine) (tick : ℕ) (agenda : List (Option ℕ)) (s : Store) (taken : HasDueRemovedFrom m tick agenda s) (in_time : tick < m.last) (moved assigned : List ℕ) (new : Values) (h : HandlerState)
-    (is : IsHandlerEffect m (tick + 1) s.states.lines.items s.moved.items moved assigned s.work new h) (is_h : h ≡ handlers_at m (tick + 1) (snapshot_of tick s)) where
+    (is : IsHandlerEffect m (tick + 1) s.states.lines.items s.moment.moved.items moved assigned s.work new h) (is_h : h ≡ handlers_at m (tick + 1) (snapshot_of tick s)) where
   -- a state that is not reinitialized is on its line
   arrived_so : (j : ℕ) → j < state_count m → is_reinitialized h.rows j ≡ false → state_at (line_at s.states.lines.items j) (tick + 1) ≡ int_at h.states j
   arrived_so j inside none =
@@ -41,7 +41,7 @@ module _ (m : Machine) (tick : ℕ) (agenda : List (Option ℕ)) (s : Store) (ta
   have_left idle j among =
       let inside : j < state_count m = moved_inside (state_count m) moved is.numbers j among in
       let none : is_reinitialized h.rows j ≡ false = ap (λ (rows : List Row). is_reinitialized rows j) (sym (ap (λ (v : Values). v.log) is.values) ∙ idle) in
-      let due : is_listed s.moved.items j ≡ true = elim (or_cases (is_listed s.moved.items j) (is_reinitialized h.rows j) (sym (is.moves j) ∙ among)) [ inl own ↦ own | inr other ↦ absurd (cc) ] in
+      let due : is_listed s.moment.moved.items j ≡ true = elim (or_cases (is_listed s.moment.moved.items j) (is_reinitialized h.rows j) (sym (is.moves j) ∙ among)) [ inl own ↦ own | inr other ↦ absurd (cc) ] in
       subst (λ z. HasLeft m j z (int_at s.states.levels.items j)) (arrived_so j inside none ∙ (moved_to m tick agenda s taken in_time moved assigned new h is).own j among) (due_left m tick agenda s taken in_time j due)
 
   module _ (name : Option Rule) (levels : List ℤ) (allowed : AreNextLevels (IsAllowedLevel name) m h.states s.states.levels.items levels) (next : Snapshot) (same_levels : next.levels ≡ levels)
@@ -56,8 +56,8 @@ module _ (m : Machine) (tick : ℕ) (agenda : List (Option ℕ)) (s : Store) (ta
     own_level = level_stays m (snapshot_of tick s) next j inside still.level ∙ ap (λ l. int_at l j) same_levels
 
     -- it was not due
-    pub not_due : is_listed s.moved.items j ≡ false
-    not_due = elim (cases_Bool (is_listed s.moved.items j)) [
+    pub not_due : is_listed s.moment.moved.items j ≡ false
+    not_due = elim (cases_Bool (is_listed s.moment.moved.items j)) [
       | inl among ↦
           let left : HasLeft m j (state_at (line_at s.states.lines.items j) (tick + 1)) (int_at s.states.levels.items j) = due_left m tick agenda s taken in_time j among in
           let near : IsLineWithinQuantum (level_unit m) (state_at (line_at s.states.lines.items j) (tick + 1)) (int_at s.states.levels.items j) (quantum_of m j (int_at s.states.levels.items j)) =
@@ -68,7 +68,7 @@ module _ (m : Machine) (tick : ℕ) (agenda : List (Option ℕ)) (s : Store) (ta
     ]
 
     not_among : is_listed moved j ≡ false
-    not_among = is.moves j ∙ or_from (is_listed s.moved.items j) (is_reinitialized h.rows j) not_due not_reinitialized
+    not_among = is.moves j ∙ or_from (is_listed s.moment.moved.items j) (is_reinitialized h.rows j) not_due not_reinitialized
 
     -- its due tick is the only one of its line
     pub same_due : (after last : List (Option ℕ)) → IsWithout moved s.agenda after → (line : Line) → line ≡ line_at s.states.lines.items j → IsDue m (tick + 1) j line (due_at last j) → due_at last j ≡ due_at s.agenda j

@@ -137,13 +137,3 @@ rest_watched a b c first second =
     second ∙ ap (λ (all : Conditions). record all { detectors = c.detectors }) first
     ∙ ap (λ after_handlers. record a { detectors = c.detectors; after_handlers = after_handlers; flipped = b.flipped }) (sym (ap (λ (all : Conditions). all.after_handlers) second))
     ∙ ap (λ flipped. record a { detectors = c.detectors; after_handlers = c.after_handlers; flipped = flipped }) (sym (ap (λ (all : Conditions). all.flipped) second))
-
--- settled at equal lines and slopes, in equal lists
-pub same_settled : (m : Machine) (tick : ℕ) (lines passed_lines : List Line) (d slopes passed_slopes : List ℤ) (listed assigned passed_assigned changed passed_changed : List ℕ) (old new : DetectorStates) →
-    passed_lines ≡ lines → passed_slopes ≡ slopes → passed_assigned ≡ assigned → passed_changed ≡ changed → AreSettled m tick (states_at passed_lines tick) d passed_slopes (touched_after m listed passed_assigned passed_changed) old new →
-    AreSettled m tick (states_at lines tick) d slopes (touched_after m listed assigned changed) old new
-same_settled m tick lines passed_lines d slopes passed_slopes listed assigned passed_assigned changed passed_changed old new of_lines of_slopes of_assigned of_changed are =
-    subst (λ ls. AreSettled m tick (states_at ls tick) d slopes (touched_after m listed assigned changed) old new) of_lines
-    (subst (λ v. AreSettled m tick (states_at passed_lines tick) d v (touched_after m listed assigned changed) old new) of_slopes
-    (subst (λ vs. AreSettled m tick (states_at passed_lines tick) d passed_slopes (touched_after m listed vs changed) old new) of_assigned
-    (subst (λ cs. AreSettled m tick (states_at passed_lines tick) d passed_slopes (touched_after m listed passed_assigned cs) old new) of_changed are)))

@@ -125,8 +125,8 @@ pub is_taken : (m : Machine) (tick : ℕ) (s : Store) (states count : ℕ) (move
     states ≡ state_count m → count ≡ length (conditions m) →
     AreRisenDue states (tick + 1) s.conditions s.agenda called → AreDue states (tick + 1) called moved.items → IsWithout moved.items called left →
     AreChanging states count (tick + 1) left changed.items → IsTakenAfter states changed.items left new →
-    vec_capacity moved ≡ vec_capacity s.moved → vec_capacity changed ≡ vec_capacity s.changed →
-    HasDueRemovedFrom m tick s.agenda (record s { moved = moved; changed = changed; agenda = new })
+    vec_capacity moved ≡ vec_capacity s.moment.moved → vec_capacity changed ≡ vec_capacity s.moment.changed →
+    HasDueRemovedFrom m tick s.agenda (record s { moment = record s.moment { moved = moved; changed = changed }; agenda = new })
 is_taken m tick s states count moved changed called left new stands of_states of_count is due without changing out moved_room changed_room =
     let n = state_count m in
     let t = tick + 1 in

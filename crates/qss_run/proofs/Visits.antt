@@ -119,8 +119,8 @@ stands_again m t s x many fits small light slopes weights goes_on after_handlers
     }
 
 -- a store stays valid with other moved states and changed conditions in the same memory
-pub stands_with : (m : Machine) (tick : ℕ) (s : Store) (moved changed : Vec ℕ Global) → IsStoreAt m tick s → vec_capacity moved ≡ vec_capacity s.moved → vec_capacity changed ≡ vec_capacity s.changed →
-    IsStoreAt m tick (record s { moved = moved; changed = changed })
+pub stands_with : (m : Machine) (tick : ℕ) (s : Store) (moved changed : Vec ℕ Global) → IsStoreAt m tick s → vec_capacity moved ≡ vec_capacity s.moment.moved → vec_capacity changed ≡ vec_capacity s.moment.changed →
+    IsStoreAt m tick (record s { moment = record s.moment { moved = moved; changed = changed } })
 stands_with m tick s moved changed stands moved_room changed_room =
     let fits = stands.fits in
     record {
@@ -134,14 +134,14 @@ stands_with m tick s moved changed stands moved_room changed_room =
         places = fits.places;
         values = fits.values;
         before = fits.before;
-        room = record {
-          moved = omega (arith, moved_room, fits.room.moved);
-          changed = omega (arith, changed_room, fits.room.changed);
-          fired = fits.room.fired;
-          assigned = fits.room.assigned;
-          log = fits.room.log;
-          rows = fits.room.rows;
+        lists = record {
+          moved = omega (arith, moved_room, fits.lists.moved);
+          changed = omega (arith, changed_room, fits.lists.changed);
+          fired = fits.lists.fired;
+          assigned = fits.lists.assigned;
         };
+        log = fits.log;
+        rows = fits.rows;
       };
       stands_for = stands.stands_for;
       own_slopes = stands.own_slopes;

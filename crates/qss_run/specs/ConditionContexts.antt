@@ -16,7 +16,8 @@ use Rattle.mu_num.specs.Limits.{tick_limit, AreStates}
 use Rattle.qss_machine.specs.Handlers.{conditions}
 use Rattle.qss_hand.specs.Values.{Values}
 use Rattle.qss_events.specs.Schedules.{condition_at, became_true}
-use Rattle.qss_run.specs.declared.run_conditions.ChangedConditions.{ChangedConditions}
+use Rattle.qss_run.specs.declared.moment.Moment.{Moment}
+use Rattle.qss_run.specs.declared.run_conditions.StatesAt.{StatesAt}
 use Rattle.qss_run.specs.DueLists.{IsTakenFrom}
 
 -- detectors that are not later than a tick, with values within the limit there
@@ -75,15 +76,15 @@ pub record CanSettle (at : ConditionContext) (all : Conditions) (due : List (Opt
 
 -- the conditions on arrival at a tick: detectors have the truths there, and conditions that are not
 -- evaluated do not change
-pub record KnowsArrival (at : ChangedConditions) (all : Conditions) (d : List ℤ) : Type 0 where
+pub record KnowsArrival (at : StatesAt) (changed : List ℕ) (all : Conditions) (d : List ℤ) : Type 0 where
   pub fits : AreConditionsOf at.machine.now all
-  pub changed : AreRisingBelow (length (conditions at.machine.now)) at.changed.now
+  pub numbers : AreRisingBelow (length (conditions at.machine.now)) changed
   pub watched : (place : ℕ) → place < length (conditions at.machine.now) →
       ((detector_at all.detectors.items place).tick ≤ at.tick)
       × (AreStates (states_at at.states.now.lines.items at.tick) → IsSmall (value_at (detector_at all.detectors.items place) at.tick))
       × (holds_at (detector_at all.detectors.items place) at.tick ≡ truth at.machine.now (condition_at at.machine.now place) (states_at at.states.now.lines.items at.tick) d at.tick)
   pub alike : KnowsApart all
-  pub others : (place : ℕ) → place < length (conditions at.machine.now) → is_listed at.changed.now place ≡ false →
+  pub others : (place : ℕ) → place < length (conditions at.machine.now) → is_listed changed place ≡ false →
       (truth at.machine.now (condition_at at.machine.now place) (states_at at.states.now.lines.items at.tick) d at.tick ≡ flag_at all.after_handlers.items place)
       × (became_true all.at_arrival.items all.after_handlers.items place ≡ false)
 
@@ -94,11 +95,11 @@ pub record CanMakeDue (n : ℕ) (all : Conditions) (due : List (Option ℕ)) : T
   pub places : n + length all.after_handlers.items < length due
   pub few : n + length all.after_handlers.items < 2 ^ 32
 
--- the handlers of a tick may run: these due states are removed from the event queue, and the others
+-- the handlers of a tick may run: the due states are removed from the event queue, and the others
 -- are within the limit on their lines
-pub record CanHandle (at : ChangedConditions) (all : Conditions) (due : List ℕ) (work : Values) (dues : List (Option ℕ)) : Type 0 where
-  pub known : KnowsArrival at all work.d
-  pub lines : AreLinesWithDue at.machine.now at.tick at.states.now.lines.items due
+pub record CanHandle (at : StatesAt) (all : Conditions) (moment : Moment) (work : Values) (dues : List (Option ℕ)) : Type 0 where
+  pub known : KnowsArrival at moment.changed.items all work.d
+  pub lines : AreLinesWithDue at.machine.now at.tick at.states.now.lines.items moment.moved.items
   pub values : AreWithin at.machine.now work.x work.d
   pub places : state_count at.machine.now ≤ length dues
-  pub taken : IsTakenFrom at.tick due dues
+  pub taken : IsTakenFrom at.tick moment.moved.items dues

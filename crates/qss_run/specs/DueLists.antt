@@ -2,11 +2,23 @@
 use Rattle.std.specs.Prelude.{◌≡◌, ℕ, ◌+◌, ◌<◌, ◌≤◌, ◌⊎◌, Bool, true, false, not, List, length}
 use Rattle.std.specs.Prelude.{Vec, vec_capacity, Option, Some, None}
 use Rattle.std.specs.declared.alloc.Global.{Global}
+use Rattle.qss_machine.specs.declared.compiled_machine.Machine.{Machine}
+use Rattle.qss_machine.specs.Machines.{state_count}
+use Rattle.qss_machine.specs.Handlers.{conditions}
+use Rattle.qss_hand.specs.Works.{row_room}
+use Rattle.qss_run.specs.declared.moment.Moment.{Moment}
 use Rattle.qss_run.specs.declared.run_conditions.Conditions.{Conditions}
 use Rattle.mu_num.specs.ListedPlaces.{flag_at, is_listed, AreRisingBelow}
 use Rattle.qss_machine.specs.Ticks.{Snapshot}
 use Rattle.qss_sched.specs.Ranks.{due_at}
 use Rattle.qss_events.specs.Schedules.{became_true}
+
+-- capacity for the states and conditions of a machine, and for all assignments of its handlers
+pub record HasRoom (m : Machine) (moment : Moment) : Type 0 where
+  pub moved : state_count m ≤ vec_capacity moment.moved
+  pub changed : length (conditions m) ≤ vec_capacity moment.changed
+  pub fired : length (conditions m) ≤ vec_capacity moment.fired
+  pub assigned : row_room m.clauses ≤ vec_capacity moment.assigned
 
 -- capacity for the indices of n states, and an index of each in an event queue
 pub record HasRoomFor (n capacity : ℕ) (due : List (Option ℕ)) : Type 0 where

@@ -29,19 +29,19 @@ use Rattle.qss_run.specs.TouchCounts.{touches_at}
 pub record CanContinueAfterHandlers (m : Machine) (tick : ℕ) (s : Store) : Type 0 where
   pub fits : FitsMachine m s
   pub in_time : tick < tick_limit
-  pub assigned : AreAssignedFrom m s.assigned.items s.work.pre s.work.d
-  pub states : AreStatesLeft m tick s.states.lines.items s.moved.items s.work
-  pub after_handlers : AreSettledBut m tick (states_at s.states.lines.items tick) s.work.pre s.states.slopes.items s.changed.items s.conditions s.agenda
+  pub assigned : AreAssignedFrom m s.moment.assigned.items s.work.pre s.work.d
+  pub states : AreStatesLeft m tick s.states.lines.items s.moment.moved.items s.work
+  pub after_handlers : AreSettledBut m tick (states_at s.states.lines.items tick) s.work.pre s.states.slopes.items s.moment.changed.items s.conditions s.agenda
   pub small_levels : AreLevels s.states.levels.items
-  pub levels : AreLevelsFor m (states_with s.states.lines.items tick s.moved.items s.work.x) s.states.levels.items s.work.d
+  pub levels : AreLevelsFor m (states_with s.states.lines.items tick s.moment.moved.items s.work.x) s.states.levels.items s.work.d
   pub weights : AreWeights m s.states.levels.items s.work.d s.states.weights
-  pub held : HeldBefore m tick s.moved.items s.states.levels.items s.work.pre s.states.slopes.items s.states.lines.items s.agenda
+  pub held : HeldBefore m tick s.moment.moved.items s.states.levels.items s.work.pre s.states.slopes.items s.states.lines.items s.agenda
   pub behind : due_at s.agenda (state_count m + length (conditions m)) ≡ None
 
 -- the snapshot of a store after it continued from a tick after its handlers
 abbrev pub snapshot_left : Machine → ℕ → Store → Snapshot
 snapshot_left m tick s =
-    let states : List ℤ = states_with s.states.lines.items tick s.moved.items s.work.x in
+    let states : List ℤ = states_with s.states.lines.items tick s.moment.moved.items s.work.x in
     record {
       states = states;
       levels = s.states.levels.items;
@@ -57,7 +57,7 @@ snapshot_after step s = snapshot_unless (overflow_of step.ran) (snapshot_of step
 -- the conditions of a store were settled up to a tick, at other values and slopes before
 abbrev pub HadDetectors : Machine → ℕ → Store → Type 0
 HadDetectors m tick s =
-    (x pre before : List ℤ) × AreDetectorsUpTo m tick s.moved.items (reinitialized_of s.work.log) s.assigned.items s.changed.items x (states_at s.states.lines.items tick) pre s.work.d before s.states.slopes.items
+    (x pre before : List ℤ) × AreDetectorsUpTo m tick s.moment.moved.items (reinitialized_of s.work.log) s.moment.assigned.items s.moment.changed.items x (states_at s.states.lines.items tick) pre s.work.d before s.states.slopes.items
     (detector_states_of s.conditions s.agenda)
 
 -- only detectors, settled truths, the event queue, and states in the values of handlers change

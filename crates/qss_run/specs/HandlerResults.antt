@@ -13,7 +13,7 @@ use Rattle.qss_hand.specs.Values.{Values}
 use Rattle.qss_hand.specs.Works.{AreValuesOf}
 use Rattle.mu_num.specs.ListedPlaces.{is_listed, AreRisingBelow}
 use Rattle.mu_num.specs.Limits.{bits_of_state, AreStates}
-use Rattle.qss_run.specs.declared.run_conditions.ChangedConditions.{ChangedConditions}
+use Rattle.qss_run.specs.declared.run_conditions.StatesAt.{StatesAt}
 use Rattle.qss_run.specs.declared.run_conditions.Conditions.{Conditions}
 use Rattle.qss_run.specs.DueLists.{AreAlikeBut}
 use Rattle.qss_run.specs.DetectorUpdates.{DetectorStates, detector_states_of, IsSettled}
@@ -35,7 +35,7 @@ handling_of_fired m tick states discretes fired =
 
 -- the handlers of a tick at which these branches are due, from these discrete values and the states
 -- on the lines
-abbrev pub handling_at : ChangedConditions → List ℤ → List ℕ → HandlerState
+abbrev pub handling_at : StatesAt → List ℤ → List ℕ → HandlerState
 handling_at at discretes fired = handling_of_fired at.machine.now at.tick (states_at at.states.now.lines.items at.tick) discretes fired
 
 -- whether rows reinitialize a state

@@ -19,7 +19,7 @@ use Rattle.qss_states.specs.StateLines.{line_at, states_at, IsRestartedFrom}
 use Rattle.qss_states.specs.Variables.{AreWithin}
 use Rattle.qss_run.specs.ConditionPlaces.{detector_at, AreConditionsOf, KnowsApart}
 use Rattle.qss_states.specs.KeptWeights.{AreWeights}
-use Rattle.qss_run.specs.DueLists.{AreDue, AreConditionsToEvaluate, AreDueRemoved}
+use Rattle.qss_run.specs.DueLists.{AreDue, AreConditionsToEvaluate, AreDueRemoved, HasRoom}
 use Rattle.qss_events.specs.Schedules.{slopes_of, rises, IsScheduleOf}
 
 -- the snapshot at a tick
@@ -32,15 +32,6 @@ snapshot_of tick s = record {
   after_handlers = s.conditions.after_handlers.items;
 }
 
--- capacity for a tick: for all states and conditions, all assignments of handlers, and all rows
-pub record HasRoom (m : Machine) (s : Store) : Type 0 where
-  pub moved : state_count m ≤ vec_capacity s.moved
-  pub changed : length (conditions m) ≤ vec_capacity s.changed
-  pub fired : length (conditions m) ≤ vec_capacity s.fired
-  pub assigned : row_room m.clauses ≤ vec_capacity s.assigned
-  pub log : row_room m.clauses ≤ s.work.room
-  pub rows : row_room m.clauses + state_count m + discrete_count m + 1 ≤ vec_capacity s.rows
-
 -- lists of the lengths of the machine, values within the limits, and capacity for a tick
 pub record FitsMachine (m : Machine) (s : Store) : Type 0 where
   pub own_conditions : AreConditionsOf m s.conditions
@@ -52,7 +43,9 @@ pub record FitsMachine (m : Machine) (s : Store) : Type 0 where
   pub places : length s.agenda ≡ state_count m + length (conditions m) + 1
   pub values : AreWithin m s.work.x s.work.d
   pub before : length s.work.pre ≡ discrete_count m
-  pub room : HasRoom m s
+  pub lists : HasRoom m s.moment
+  pub log : row_room m.clauses ≤ s.work.room
+  pub rows : row_room m.clauses + state_count m + discrete_count m + 1 ≤ vec_capacity s.rows
 
 -- a store represents its snapshot at a tick: its lines, detectors and due ticks, its slopes, the
 -- absolute row sums if needed, and the conditions that the handlers changed
@@ -73,9 +66,9 @@ pub record IsUnderWay (m : Machine) (tick : ℕ) (s : Store) : Type 0 where
 -- the next tick were removed
 pub record HasDueRemovedFrom (m : Machine) (tick : ℕ) (agenda : List (Option ℕ)) (s : Store) : Type 0 where
   pub stands : IsStoreAt m tick (record s { agenda = agenda })
-  pub due : AreDue (state_count m) (tick + 1) agenda s.moved.items
-  pub changing : AreConditionsToEvaluate (state_count m) (length (conditions m)) (tick + 1) agenda (snapshot_of tick s) s.changed.items
-  pub without : AreDueRemoved (state_count m) (length (conditions m)) s.moved.items s.changed.items agenda s.agenda
+  pub due : AreDue (state_count m) (tick + 1) agenda s.moment.moved.items
+  pub changing : AreConditionsToEvaluate (state_count m) (length (conditions m)) (tick + 1) agenda (snapshot_of tick s) s.moment.changed.items
+  pub without : AreDueRemoved (state_count m) (length (conditions m)) s.moment.moved.items s.moment.changed.items agenda s.agenda
 
 -- the same for some event queue, at a tick before the last one
 pub record HasDueRemoved (m : Machine) (tick : ℕ) (s : Store) : Type 0 where

@@ -6,6 +6,7 @@ ghost use Rattle.qss_run.specs.Prelude.{flag_at, is_listed, AreRisingBelow, IsBo
 ghost use Rattle.qss_run.specs.Words.{AreConditionsOf, AreDetectorsAt, KnowsApart, CanSetDetectors, AreConditionValues, CanSettle, CanUpdateDetectors, CanUpdateReaderDetectors, differ, AreAlikeBut, IsSameBut, AreAlikeButSettled, AreMarkedChanged, AreSettled, detector_states_of, AreSettledAlong, readers_of, touched_of, touched_by, readers_before, touched_after, OthersAreKept, OthersAreUnread, is_reinitialized, HadDetectors, HasDetectorsUpdated, FitsMachine, GoesOn, AreDetectorsUpdated, AreReaderDetectorsUpdated};
 
 use crate::condition_handlers::{is_handler_reinitialization, move_work_states_read};
+use crate::moment::Moment;
 use crate::run_conditions::{ConditionContext, ConditionValues, Conditions};
 use crate::run_start::Store;
 use qss_cross::Detector;
@@ -40,8 +41,7 @@ impl Conditions {
         let condition = self.condition(m, place);
         let detector = detector_at_values(m, condition, at);
         let holds = detector.truth();
-        let at_arrival = self.at_arrival.as_slice();
-        mark_changed_detector(at_arrival, place, holds, &mut self.flipped);
+        mark_changed_detector(&self.at_arrival, place, holds, &mut self.flipped);
         let after_handlers = self.after_handlers.as_mut_slice();
         after_handlers[place as usize] = holds;
         agenda.set(at.slopes.len() as u32 + place, detector.next_change());
@@ -87,8 +87,8 @@ impl Conditions {
         move_work_states_read(&condition.form, at.tick, at.lines, work);
         let point = ConditionValues {
             tick: at.tick,
-            states: work.x.as_slice(),
-            discretes: work.d.as_slice(),
+            states: &work.x,
+            discretes: &work.d,
             slopes: at.slopes,
         };
         self.settle_detector(at.machine, &point, place, agenda);
@@ -222,21 +222,23 @@ impl Conditions {
     pub fn settle_detectors_after_handlers(
         &mut self,
         at: &ConditionContext,
-        assigned: &[u32],
-        changed: &[u32],
+        moment: &Moment,
         work: &mut Work,
         agenda: &mut Agenda,
     )
         requires ready { CanSettle at.now self.old agenda.old work.old }
         requires reinitialized { (j : ℕ) → is_reinitialized work.old.log j ≡ true
             → j < state_count at.now.machine.now }
-        requires assigned { AreDiscretes at.now.machine.now assigned.now }
-        requires changed { AreRisingBelow (length (conditions at.now.machine.now)) changed.now }
+        requires assigned { AreDiscretes at.now.machine.now moment.now.assigned.items }
+        requires changed { AreRisingBelow (length (conditions at.now.machine.now))
+            moment.now.changed.items }
         ensures { AreSettledAlong at.now
-            (touched_after at.now.machine.now (reinitialized_of work.old.log) assigned.now
-            changed.now)
+            (touched_after at.now.machine.now (reinitialized_of work.old.log)
+            moment.now.assigned.items moment.now.changed.items)
             self.old self.new agenda.old agenda.new work.old work.new }
     {
+        let changed: &[u32] = &moment.changed;
+        let assigned: &[u32] = &moment.assigned;
         if changed.is_empty() && assigned.is_empty() && work.log.is_empty() {
             return;
         }
@@ -320,11 +322,11 @@ impl Conditions {
 /// state whose row reads a moved state. Other detectors do not change.
 pub(crate) fn update_detectors_after_handlers(m: &Machine, tick: u64, s: &mut Store)
     requires fits { FitsMachine m.now s.old }
-    requires moved { AreRisingBelow (state_count m.now) s.old.moved.items }
+    requires moved { AreRisingBelow (state_count m.now) s.old.moment.moved.items }
     requires reinitialized { (j : ℕ) → is_reinitialized s.old.work.log j ≡ true
         → j < state_count m.now }
-    requires assigned { AreDiscretes m.now s.old.assigned.items }
-    requires changed { AreRisingBelow (length (conditions m.now)) s.old.changed.items }
+    requires assigned { AreDiscretes m.now s.old.moment.assigned.items }
+    requires changed { AreRisingBelow (length (conditions m.now)) s.old.moment.changed.items }
     requires lines { AreLinesAt m.now tick s.old.states.lines.items }
     requires slopes { AreSlopesOf m.now s.old.states.slopes.items }
     requires before { HadDetectors m.now tick s.old }
@@ -332,13 +334,13 @@ pub(crate) fn update_detectors_after_handlers(m: &Machine, tick: u64, s: &mut St
         ≡ truths m.now (states_at s.old.states.lines.items tick) s.old.work.d tick }
     ensures detectors { AreDetectorsAt m.now tick (states_at s.old.states.lines.items tick)
         s.old.work.d s.old.states.slopes.items s.new.conditions.detectors.items s.new.agenda }
-    ensures kept { OthersAreKept m.now (reinitialized_of s.old.work.log) s.old.assigned.items
-        s.old.changed.items s.old.states.slopes.items
+    ensures kept { OthersAreKept m.now (reinitialized_of s.old.work.log) s.old.moment.assigned.items
+        s.old.moment.changed.items s.old.states.slopes.items
         (detector_states_of s.old.conditions s.old.agenda)
         (detector_states_of s.new.conditions s.new.agenda) }
-    ensures unread { OthersAreUnread m.now (reinitialized_of s.old.work.log) s.old.assigned.items
-        s.old.changed.items s.old.work.x s.new.work.x }
-    ensures alike { AreAlikeBut s.old.changed.items
+    ensures unread { OthersAreUnread m.now (reinitialized_of s.old.work.log) s.old.moment.assigned.items
+        s.old.moment.changed.items s.old.work.x s.new.work.x }
+    ensures alike { AreAlikeBut s.old.moment.changed.items
         s.old.conditions.at_arrival.items s.old.conditions.after_handlers.items
         → KnowsApart s.new.conditions }
     ensures rest { HasDetectorsUpdated s.old s.new }
@@ -355,18 +357,13 @@ pub(crate) fn update_detectors_after_handlers(m: &Machine, tick: u64, s: &mut St
         machine: m,
         uses: &s.uses,
         tick,
-        lines: s.states.lines.as_slice(),
-        slopes: s.states.slopes.as_slice(),
+        lines: &s.states.lines,
+        slopes: &s.states.slopes,
     };
-    s.conditions.settle_detectors_after_handlers(
-        &at,
-        s.assigned.as_slice(),
-        s.changed.as_slice(),
-        &mut s.work,
-        &mut s.agenda,
-    );
     s.conditions
-        .update_detectors_of(&at, s.moved.as_slice(), &mut s.agenda);
+        .settle_detectors_after_handlers(&at, &s.moment, &mut s.work, &mut s.agenda);
+    s.conditions
+        .update_detectors_of(&at, &s.moment.moved, &mut s.agenda);
 }
 
 // The detector of a condition at a tick, with its value and its speed.

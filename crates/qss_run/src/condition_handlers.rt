@@ -5,12 +5,13 @@ ghost use Rattle.std.specs.Prelude.{◌≡◌, ◌≤◌, [], ◌+◌, ◌<◌, 
 ghost use Rattle.qss_run.specs.Prelude.{conditions, truths, run_clauses, state_count, row_room, AreValuesOf, handling_of, values_after, overflow_of, states_at, CanArriveWithin, HaveArrivedWithin, AreLinesAt, MayArrive, list_any, form_of, has_entry, int_at, AreWithin, is_reinit, due_at, is_set, assigned_of, is_listed, AreRisingBelow};
 ghost use Rattle.qss_run.specs.ConditionContexts.{CanHandle};
 ghost use Rattle.qss_run.specs.ConditionPlaces.{AreConditionsOf, AreBranchesAt};
-ghost use Rattle.qss_run.specs.DueLists.{AreAlikeBut, IsWithout, AreMovedOut, HasRoomFor, IsTakenFrom};
+ghost use Rattle.qss_run.specs.DueLists.{AreAlikeBut, HasRoom, IsWithout, AreMovedOut, HasRoomFor, IsTakenFrom};
 ghost use Rattle.qss_run.specs.HandlerReads.{action_reads, fired_reads, AreArrived};
 ghost use Rattle.qss_run.specs.HandlerResults.{IsHandlerEffect, handling_at, handling_from, flags_of, is_reinitialized};
 
 use crate::event_steps::{put_back_states, take_due_states};
-use crate::run_conditions::{BranchPlace, ChangedConditions, Conditions};
+use crate::moment::Moment;
+use crate::run_conditions::{BranchPlace, Conditions, StatesAt};
 use qss_hand::{Over, Work, fire};
 use qss_machine::{Action, Form, Machine, Row, RowKind};
 use qss_quant::Integrator;
@@ -18,32 +19,29 @@ use qss_sched::Agenda;
 use qss_states::States;
 
 impl Conditions {
-    /// Runs the handlers of a tick. These states are due, and these conditions change or became
-    /// true during the handlers before. `fired` is a buffer for the due branches. It adds the
-    /// reinitialized states to `moved`, and removes all of these from the event queue. It lists the
-    /// assigned discrete variables in `assigned`. The error is the variable that overflows, on
-    /// arrival or by an assignment.
+    /// Runs the handlers of a tick. The moved states of `moment` are the due ones. Its changed
+    /// conditions are those that change, or became true during the handlers before. The due states
+    /// and these conditions are already removed from the event queue. It adds the reinitialized
+    /// states to the moved ones, and removes them from the event queue too. It lists the assigned
+    /// discrete variables. The error is the variable that overflows, on arrival or by an
+    /// assignment.
     pub fn handle_changed_conditions(
         &mut self,
-        at: &ChangedConditions,
-        fired: &mut Vec<u32>,
-        moved: &mut Vec<u32>,
-        assigned: &mut Vec<u32>,
+        at: &StatesAt,
+        moment: &mut Moment,
         work: &mut Work,
         agenda: &mut Agenda,
     ) -> Result<(), Over>
-        requires ready { CanHandle at.now self.old moved.old.items work.old agenda.old }
+        requires ready { CanHandle at.now self.old moment.old work.old agenda.old }
         requires room { row_room at.now.machine.now.clauses ≤ work.old.room }
-        requires fired_room { length (conditions at.now.machine.now) ≤ vec_capacity fired.old }
-        requires moved_room { state_count at.now.machine.now ≤ vec_capacity moved.old }
-        requires assigned_room { row_room at.now.machine.now.clauses ≤ vec_capacity assigned.old }
+        requires lists { HasRoom at.now.machine.now moment.old }
         ensures overflow { overflow_of result
             ≡ (handling_from at.now.machine.now at.now.tick
             (states_at at.now.states.now.lines.items at.now.tick)
             work.old.d self.old.at_arrival.items self.old.after_handlers.items).overflow }
         ensures handled { overflow_of result ≡ None
             → IsHandlerEffect at.now.machine.now at.now.tick at.now.states.now.lines.items
-            moved.old.items moved.new.items assigned.new.items
+            moment.old.moved.items moment.new.moved.items moment.new.assigned.items
             work.old work.new
             (handling_from at.now.machine.now at.now.tick
             (states_at at.now.states.now.lines.items at.now.tick)
@@ -53,30 +51,32 @@ impl Conditions {
             ≡ truths at.now.machine.now
             (states_at at.now.states.now.lines.items at.now.tick) work.old.d at.now.tick }
         ensures alike { overflow_of result ≡ None
-            → AreAlikeBut at.now.changed.now self.new.at_arrival.items self.new.after_handlers.items }
+            → AreAlikeBut moment.old.changed.items self.new.at_arrival.items
+            self.new.after_handlers.items }
         ensures none_apart { overflow_of result ≡ None → self.new.flipped.places ≡ [] }
         ensures rest { self.new
             ≡ record self.old { at_arrival = self.new.at_arrival; flipped = self.new.flipped } }
         ensures fits { overflow_of result ≡ None → AreConditionsOf at.now.machine.now self.new }
-        ensures without { overflow_of result ≡ None → IsWithout moved.new.items agenda.old agenda.new }
-        ensures fired_room { vec_capacity fired.new ≡ vec_capacity fired.old }
-        ensures moved_room { vec_capacity moved.new ≡ vec_capacity moved.old }
-        ensures assigned_room { vec_capacity assigned.new ≡ vec_capacity assigned.old }
+        ensures changed { moment.new.changed ≡ moment.old.changed }
+        ensures without { overflow_of result ≡ None
+            → IsWithout moment.new.moved.items agenda.old agenda.new }
+        ensures lists { HasRoom at.now.machine.now moment.new }
     {
-        move_due_handler_states(at.states, at.tick, moved.as_slice(), work)?;
-        self.list_fired(at.tick, at.changed, fired);
-        self.read_changed(at.tick, at.changed);
-        if fired.is_empty() {
+        move_due_handler_states(at.states, at.tick, &moment.moved, work)?;
+        // The truths on the last arrival are read here, before the new ones are set.
+        let changed: &[u32] = &moment.changed;
+        self.list_fired(at.tick, changed, &mut moment.fired);
+        self.read_changed(at.tick, changed);
+        if moment.fired.is_empty() {
             work.begin(at.tick);
-            assigned.clear();
+            moment.assigned.clear();
             return Ok(());
         }
-        let branches = self.branches.as_slice();
-        handle_fired_conditions(at, branches, fired.as_slice(), work)?;
+        handle_fired_conditions(at, &self.branches, &moment.fired, work)?;
         let states = at.machine.states.as_slice().len() as u32;
-        let log = work.log.as_slice();
-        join_handler_reinitialized(agenda, at.tick, states, log, moved);
-        list_handler_assigned(log, assigned);
+        let log: &[Row] = &work.log;
+        join_handler_reinitialized(agenda, at.tick, states, log, &mut moment.moved);
+        list_handler_assigned(log, &mut moment.assigned);
         Ok(())
     }
 }
@@ -98,11 +98,11 @@ fn move_due_handler_states(
 }
 
 /// Runs the handlers of a tick at which these branches are due. It moves the states that the
-/// statements read to the tick. A state that is needed after the call must be at the tick before
-/// it. Other states do not change, unless they are reinitialized. The error is the variable that
-/// overflows.
+/// statements read to the tick. Other states do not change, unless they are reinitialized. So a
+/// state whose value is used after the call must have its value at the tick already, or be read or
+/// reinitialized. The error is the variable that overflows.
 pub(crate) fn handle_fired_conditions(
-    at: &ChangedConditions,
+    at: &StatesAt,
     branches: &[BranchPlace],
     fired: &[u32],
     work: &mut Work,
@@ -151,7 +151,7 @@ pub(crate) fn handle_fired_conditions(
 // Moves the states that the statements of these branches read, in the values of handlers, to a
 // tick along their lines.
 fn move_handler_work_states(
-    at: &ChangedConditions,
+    at: &StatesAt,
     branches: &[BranchPlace],
     fired: &[u32],
     work: &mut Work,
@@ -167,7 +167,7 @@ fn move_handler_work_states(
 
 // Moves the states that the statements of these branches read to a tick along their lines.
 fn move_fired_handler_states(
-    at: &ChangedConditions,
+    at: &StatesAt,
     branches: &[BranchPlace],
     fired: &[u32],
     x: &mut [i128],
@@ -285,7 +285,8 @@ pub(crate) fn join_handler_reinitialized(
     if !has_handler_reinitialization(log) {
         return;
     }
-    put_back_states(agenda, tick, moved.as_slice());
+    // The event queue merges the two lists of states, in increasing order and each state once.
+    put_back_states(agenda, tick, moved);
     schedule_handler_reinitialized(agenda, tick, log);
     take_due_states(agenda, tick, states, moved);
 }

@@ -7,7 +7,7 @@ ghost use Rattle.qss_run.specs.Words.{IsUnderWay, snapshot_after, snapshot_of, I
 ghost use Rattle.qss_machine.specs.declared.machine_parts.RowKind.TheVariants as kind;
 
 use crate::condition_detectors::update_detectors_after_handlers;
-use crate::run_conditions::{ChangedConditions, Conditions};
+use crate::run_conditions::{Conditions, StatesAt};
 use crate::run_start::Store;
 use qss_events::{Outcome, add_event_discrete_rows, set_event_overflow_row};
 use qss_hand::{Over, Work};
@@ -159,8 +159,14 @@ pub(crate) fn run_event<L: Ledger>(
     let conditions = s.conditions.branches.len() as u32;
     s.conditions
         .make_risen_due(s.rising, tick + 1, states, &mut s.agenda);
-    take_due_states(&mut s.agenda, tick + 1, states, &mut s.moved);
-    take_due_conditions(&mut s.agenda, tick + 1, states, conditions, &mut s.changed);
+    take_due_states(&mut s.agenda, tick + 1, states, &mut s.moment.moved);
+    take_due_conditions(
+        &mut s.agenda,
+        tick + 1,
+        states,
+        conditions,
+        &mut s.moment.changed,
+    );
     run_due_event(m, q, tick, s, steps)
 }
 
@@ -215,28 +221,21 @@ pub(crate) fn run_due_event<L: Ledger>(
         ≡ false
         → (line_at s.new.states.lines.items j ≡ line_at s.old.states.lines.items j)
         × (due_at s.new.agenda j ≡ due_at s.old.agenda j)
-        × (is_listed s.old.moved.items j ≡ false) }
+        × (is_listed s.old.moment.moved.items j ≡ false) }
 {
-    let at = ChangedConditions {
+    let at = StatesAt {
         machine: m,
         tick: tick + 1,
         states: &s.states,
-        changed: s.changed.as_slice(),
     };
-    s.conditions.handle_changed_conditions(
-        &at,
-        &mut s.fired,
-        &mut s.moved,
-        &mut s.assigned,
-        &mut s.work,
-        &mut s.agenda,
-    )?;
+    s.conditions
+        .handle_changed_conditions(&at, &mut s.moment, &mut s.work, &mut s.agenda)?;
     let handled = HandlerArrival {
         machine: m,
         uses: &s.uses,
         tick: tick + 1,
-        moved: s.moved.as_slice(),
-        assigned: s.assigned.as_slice(),
+        moved: &s.moment.moved,
+        assigned: &s.moment.assigned,
         work: &s.work,
     };
     s.states.requantize(&handled, q, &mut s.rows)?;
@@ -253,7 +252,7 @@ fn continue_after_handlers<L: Ledger>(m: &Machine, tick: u64, s: &mut Store, ste
     ensures rows { s.new.rows ≡ s.old.rows }
     ensures kept { (j : ℕ) → j < state_count m.now
         → goes_from tick
-        (int_at (states_with s.old.states.lines.items tick s.old.moved.items s.old.work.x) j)
+        (int_at (states_with s.old.states.lines.items tick s.old.moment.moved.items s.old.work.x) j)
         (int_at s.old.states.levels.items j)
         (slope_at m.now j s.old.states.levels.items s.old.work.d)
         (line_at s.old.states.lines.items j) ≡ true
@@ -261,7 +260,7 @@ fn continue_after_handlers<L: Ledger>(m: &Machine, tick: u64, s: &mut Store, ste
     ensures counted { steps.new
         ≡ steps.old
         + replaced_lines_from (state_count m.now) tick
-        (states_with s.old.states.lines.items tick s.old.moved.items s.old.work.x)
+        (states_with s.old.states.lines.items tick s.old.moment.moved.items s.old.work.x)
         s.old.states.levels.items
         (tabulate (state_count m.now)
         (λ j. slope_at m.now j s.old.states.levels.items s.old.work.d))
@@ -271,8 +270,8 @@ fn continue_after_handlers<L: Ledger>(m: &Machine, tick: u64, s: &mut Store, ste
         machine: m,
         uses: &s.uses,
         tick,
-        moved: s.moved.as_slice(),
-        assigned: s.assigned.as_slice(),
+        moved: &s.moment.moved,
+        assigned: &s.moment.assigned,
         work: &s.work,
     };
     s.states.continue_lines(&handled, &mut s.agenda, steps);
@@ -311,12 +310,12 @@ fn set_last_rows(m: &Machine, s: &mut Store)
     ensures rows { s.new.rows.items ≡ snapshot_rows kind.End m.now.last (snapshot_of m.now.last s.old) }
     ensures snapshot { snapshot_of m.now.last s.new ≡ snapshot_of m.now.last s.old }
 {
-    move_work_states(s.states.lines.as_slice(), m.last, &mut s.work);
+    move_work_states(&s.states.lines, m.last, &mut s.work);
     set_all_rows(
         RowKind::End,
         m.last,
         &s.work,
-        s.states.levels.as_slice(),
+        &s.states.levels,
         &mut s.rows,
     );
 }
@@ -357,11 +356,9 @@ pub(crate) fn set_all_rows(
         ++ discrete_rows kind tick (length work.now.x) work.now.d }
     ensures room { vec_capacity rows.new ≡ vec_capacity rows.old }
 {
-    let x = work.x.as_slice();
-    let d = work.d.as_slice();
     rows.clear();
-    add_state_rows(kind, tick, x, levels, rows);
-    add_event_discrete_rows(kind, tick, x.len(), d, rows);
+    add_state_rows(kind, tick, &work.x, levels, rows);
+    add_event_discrete_rows(kind, tick, work.x.len(), &work.d, rows);
 }
 
 // Appends a row of each state.

@@ -7,6 +7,7 @@ mod condition_detectors;
 mod condition_handlers;
 mod condition_truths;
 mod event_steps;
+mod moment;
 mod ruled_run;
 mod run_conditions;
 mod run_start;

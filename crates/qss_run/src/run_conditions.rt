@@ -66,14 +66,12 @@ pub struct ConditionValues<'a> {
     pub slopes: &'a [i128],
 }
 
-/// A machine at a tick at which conditions are evaluated: the states, and the indices of these
-/// conditions (increasing).
+/// A machine at a tick, and its states, on their lines before the tick.
 #[derive(Clone, Copy)]
-pub struct ChangedConditions<'a> {
+pub struct StatesAt<'a> {
     pub machine: &'a Machine,
     pub tick: u64,
     pub states: &'a States,
-    pub changed: &'a [u32],
 }
 
 /// The conditions of a machine in source order, with unspecified detectors and truths. It fails if

@@ -7,6 +7,7 @@ ghost use Rattle.qss_run.specs.Stores.{snapshot_of, AreLinesStarted, CanStart, I
 ghost use Rattle.qss_machine.specs.declared.machine_parts.RowKind.TheVariants as kind;
 
 use crate::event_steps::set_all_rows;
+use crate::moment::Moment;
 use crate::run_conditions::{ConditionValues, Conditions, blank_conditions};
 use qss_events::{event_start_levels, event_tick_leaving_level};
 use qss_hand::Work;
@@ -18,18 +19,15 @@ use std::alloc::{AllocError, Global};
 
 /// The data of a simulator. `uses`: the rows and conditions that read each variable. `agenda`: the
 /// event queue, with an index for each state, then for each condition, then one for conditions that
-/// became true during the handlers (`rising`: whether one did). Buffers for one tick: `moved` (due
-/// and reinitialized states), `changed` (conditions to be evaluated), `fired` (due branches),
-/// `assigned` (discrete variables).
+/// became true during the handlers (`rising`: whether one did). `work`: the values of handlers. Its
+/// discrete values are those of the run. Between events its states are valid only where a handler
+/// or a condition read them last. `rows`: the rows of the last event.
 #[derive(Drop)]
 pub(crate) struct Store {
     pub conditions: Conditions,
     pub uses: Uses,
     pub states: States,
-    pub moved: Vec<u32>,
-    pub changed: Vec<u32>,
-    pub fired: Vec<u32>,
-    pub assigned: Vec<u32>,
+    pub moment: Moment,
     pub rising: bool,
     pub agenda: Agenda,
     pub work: Work,
@@ -56,12 +54,7 @@ fn blank_run_store(alloc: Global, m: &Machine) -> Result<Store, AllocError>
     let levels = event_start_levels(alloc, m)?;
     let states = levels.len();
     let conditions = condition_set.branches.len();
-    let (moved, changed, fired, assigned) = start_number_lists(
-        alloc,
-        states,
-        conditions,
-        work.log.capacity(),
-    )?;
+    let moment = Moment::with_room(alloc, states, conditions, work.log.capacity())?;
     let (lines, slopes, of_rows) = start_state_lists(alloc, states)?;
     let room = work.log.capacity() + states + work.d.len() + 1;
     let (uses, agenda, rows) = start_event_lists(alloc, m, (states + conditions + 1) as u32, room)?;
@@ -78,36 +71,12 @@ fn blank_run_store(alloc: Global, m: &Machine) -> Result<Store, AllocError>
                 of_rows,
             },
         },
-        moved,
-        changed,
-        fired,
-        assigned,
+        moment,
         rising: false,
         agenda,
         rows,
         work,
     })
-}
-
-// Empty lists with capacity for the indices of moved states, of changed conditions, of due
-// branches and of assigned variables.
-fn start_number_lists(
-    alloc: Global,
-    states: usize,
-    conditions: usize,
-    assigned: usize,
-) -> Result<(Vec<u32>, Vec<u32>, Vec<u32>, Vec<u32>), AllocError>
-    ensures { IfOk result
-        (λ lists. (vec_capacity lists.0 ≡ states)
-        × (vec_capacity lists.1 ≡ conditions)
-        × (vec_capacity lists.2 ≡ conditions)
-        × (vec_capacity lists.3 ≡ assigned)) }
-{
-    let moved = Vec::with_capacity(alloc, states)?;
-    let changed = Vec::with_capacity(alloc, conditions)?;
-    let fired = Vec::with_capacity(alloc, conditions)?;
-    let assigned = Vec::with_capacity(alloc, assigned)?;
-    Ok((moved, changed, fired, assigned))
 }
 
 // For each state: a placeholder line, the slope 0 and the absolute row sum 0.
@@ -120,14 +89,14 @@ fn start_state_lists(
         × (length lists.1.items ≡ states)
         × (length lists.2.items ≡ states)) }
 {
-    let lines = repeat_value(alloc, start_resting_line(), states)?;
+    let lines = repeat_value(alloc, resting_line(), states)?;
     let slopes = repeat_value(alloc, 0, states)?;
     let of_rows = repeat_value(alloc, 0, states)?;
     Ok((lines, slopes, of_rows))
 }
 
 // A placeholder line: the constant 0.
-fn start_resting_line() -> Integrator
+fn resting_line() -> Integrator
     ensures { result ≡ record { tick = 0; x = pos 0; slope = pos 0; level = pos 0 } }
 {
     Integrator {
@@ -164,13 +133,12 @@ fn begin(m: &Machine, s: &mut Store)
 {
     start_lines_and_detectors(m, s);
     let work = &s.work;
-    let d = work.d.as_slice();
-    s.states.weights.start(m, s.states.levels.as_slice(), d);
+    s.states.weights.start(m, &s.states.levels, &work.d);
     set_all_rows(
         RowKind::Start,
         0,
         &s.work,
-        s.states.levels.as_slice(),
+        &s.states.levels,
         &mut s.rows,
     );
 }
@@ -203,16 +171,15 @@ fn start_lines_and_detectors(m: &Machine, s: &mut Store)
     let work = &s.work;
     let start = ConditionValues {
         tick: 0,
-        states: work.x.as_slice(),
-        discretes: work.d.as_slice(),
-        slopes: s.states.slopes.as_slice(),
+        states: &work.x,
+        discretes: &work.d,
+        slopes: &s.states.slopes,
     };
     s.conditions.set_all_detectors(m, &start, &mut s.agenda);
-    let after_handlers = s.conditions.after_handlers.as_slice();
     s.conditions
         .at_arrival
         .as_mut_slice()
-        .copy_from_slice(after_handlers);
+        .copy_from_slice(&s.conditions.after_handlers);
 }
 
 // Starts the lines of all states at tick 0, at the slopes of the levels and discrete values.

@@ -86,11 +86,11 @@ impl RunState {
         outcome
     }
 
-    /// The rows of the last event, or the start rows at tick 0.
+    /// The rows of the last event or of the overflow, the start rows at tick 0, or the end rows.
     pub fn rows(&self) -> &[Row]
         ensures { result.now ≡ self.now.rows }
     {
-        self.store.rows.as_slice()
+        &self.store.rows
     }
 
     /// Borrows the machine.

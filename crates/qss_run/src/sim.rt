@@ -9,8 +9,8 @@ use qss_quant::{Quantizer, Steps};
 use std::alloc::{AllocError, Global};
 use std::sync::ledger::Ledger;
 
-/// A machine at a tick of its run, with its quantizer. It computes only ticks at which something is
-/// due.
+/// A machine at a tick of its run, with its quantizer. It computes only the ticks at which something
+/// is due, and the last one.
 #[derive(Drop)]
 pub struct Sim {
     pub run: RunState,

@@ -7,7 +7,7 @@ use Common.{length, List, one_reads, reinitialized_of, speed_of, state_count, st
 use Common.{subst, sym, touched_after, truths_are, Values, vec_len}
 use Rattle.qss_states.specs.Variables.{AreSlopesOf}
 use Rattle.qss_run.proofs.Apart.{alike_then}
-use Rattle.qss_run.proofs.OwnConditions.{settled_fits, still_fits, rest_watched, same_settled}
+use Rattle.qss_run.proofs.OwnConditions.{settled_fits, still_fits, rest_watched}
 use Rattle.qss_run.proofs.SmallValues.{value_small, condition_bounded}
 use Rattle.qss_run.proofs.Settling.{among_settling, unread_by}
 use Rattle.qss_run.proofs.Untouched.{each_watched}
@@ -19,8 +19,8 @@ settle_detectors_after_handlers-requires-clause-ready c =
     record {
       moment = record {
         uses = fits.uses;
-        lines = subst (AreLinesAt c.args.m.now c.args.tick) (sym c.as_slice.ensures.value) c.requires.lines;
-        slopes = subst (AreSlopesOf c.args.m.now) (sym c.as_slice-2.ensures.value) c.requires.slopes;
+        lines = subst (AreLinesAt c.args.m.now c.args.tick) (sym c.deref.ensures.value) c.requires.lines;
+        slopes = subst (AreSlopesOf c.args.m.now) (sym c.deref-2.ensures.value) c.requires.slopes;
       };
       fits = fits.own_conditions;
       places = omega (arith, fits.places);
@@ -36,15 +36,13 @@ update_detectors_of-requires c =
     let was = c.requires.before in
     let full : List ℤ = states_at s.states.lines.items t in
     let along = c.settle_detectors_after_handlers.ensures in
-    let are = same_settled m t s.states.lines.items c.as_slice.result.now s.work.d s.states.slopes.items c.as_slice-2.result.now (reinitialized_of s.work.log) s.assigned.items c.as_slice-3.result.now
-    s.changed.items c.as_slice-4.result.now (detector_states_of s.conditions s.agenda) (detector_states_of c.settle_detectors_after_handlers.new.self c.settle_detectors_after_handlers.new.agenda)
-    c.as_slice.ensures.value c.as_slice-2.ensures.value c.as_slice-3.ensures.value c.as_slice-4.ensures.value along.after_handlers in
-    let there = each_watched m t s.moved.items (reinitialized_of s.work.log) s.assigned.items s.changed.items was.0 full was.1 s.work.d was.2 s.states.slopes.items (detector_states_of s.conditions s.agenda)
+    let are = rw c.deref-2.ensures.value at (rw c.deref.ensures.value at along.after_handlers) in
+    let there = each_watched m t s.moment.moved.items (reinitialized_of s.work.log) s.moment.assigned.items s.moment.changed.items was.0 full was.1 s.work.d was.2 s.states.slopes.items (detector_states_of s.conditions s.agenda)
     (detector_states_of c.settle_detectors_after_handlers.new.self c.settle_detectors_after_handlers.new.agenda) was.3 are in
     let many : length c.settle_detectors_after_handlers.new.self.detectors.items ≡ length (conditions m) = along.after_handlers.many_watches ∙ fits.own_conditions.detectors in
     record {
       uses = fits.uses;
-      moved = subst (AreRisingBelow (state_count m)) (sym c.as_slice-5.ensures.value) c.requires.moved;
+      moved = subst (AreRisingBelow (state_count m)) (sym c.deref-3.ensures.value) c.requires.moved;
       ready = record {
         fits = settled_fits m s.conditions c.settle_detectors_after_handlers.new.self fits.own_conditions along.rest along.after_handlers.many_watches along.after_handlers.many_truths along.noted.count;
         places = omega (arith, along.after_handlers.many_dues, fits.places);
@@ -56,7 +54,7 @@ update_detectors_of-requires c =
               (condition_bounded m s.conditions.branches.items fits.own_conditions.branches place (omega (arith, h, many, fits.own_conditions.branches.as_many))) c.requires.lines.small fits.values.small_discretes
               c.requires.lines.up_to.in_time);
         };
-        slopes_of = subst (AreSlopesOf m) (sym c.as_slice-2.ensures.value) c.requires.slopes;
+        slopes_of = subst (AreSlopesOf m) (sym c.deref-2.ensures.value) c.requires.slopes;
         in_time = c.requires.lines.up_to.in_time;
       };
     }
@@ -85,17 +83,15 @@ returns c =
     let new : Store = record s { conditions = last; agenda = c.update_detectors_of.new.agenda; work = c.settle_detectors_after_handlers.new.work } in
     let going = c.update_detectors_of.ensures.goes_on in
     let same = c.update_detectors_of.ensures.same in
-    let are = same_settled m t s.states.lines.items c.as_slice.result.now s.work.d s.states.slopes.items c.as_slice-2.result.now (reinitialized_of s.work.log) s.assigned.items c.as_slice-3.result.now
-    s.changed.items c.as_slice-4.result.now (detector_states_of s.conditions s.agenda) (detector_states_of first c.settle_detectors_after_handlers.new.agenda)
-    c.as_slice.ensures.value c.as_slice-2.ensures.value c.as_slice-3.ensures.value c.as_slice-4.ensures.value along.after_handlers in
-    let there = each_watched m t s.moved.items (reinitialized_of s.work.log) s.assigned.items s.changed.items was.0 full was.1 s.work.d was.2 s.states.slopes.items (detector_states_of s.conditions s.agenda)
+    let are = rw c.deref-2.ensures.value at (rw c.deref.ensures.value at along.after_handlers) in
+    let there = each_watched m t s.moment.moved.items (reinitialized_of s.work.log) s.moment.assigned.items s.moment.changed.items was.0 full was.1 s.work.d was.2 s.states.slopes.items (detector_states_of s.conditions s.agenda)
     (detector_states_of first c.settle_detectors_after_handlers.new.agenda) was.3 are in
     let many : length first.detectors.items ≡ length (conditions m) = along.after_handlers.many_watches ∙ fits.own_conditions.detectors in
     let still : last.after_handlers.items ≡ first.after_handlers.items = ap (λ (all : Conditions). all.after_handlers.items) same in
     let rest = rest_watched s.conditions first last along.rest same in
     let work = c.settle_detectors_after_handlers.ensures.work in
     let of_d : new.work.d ≡ s.work.d = ap (λ (v : Values). v.d) work in
-    let slopes : c.as_slice-2.result.now ≡ s.states.slopes.items = c.as_slice-2.ensures.value in
+    let slopes : c.deref-2.result.now ≡ s.states.slopes.items = c.deref-2.ensures.value in
     record {
       after_handlers = still
           ∙ truths_are m full s.work.d t first.after_handlers.items (along.after_handlers.many_truths ∙ fits.own_conditions.after_handlers) (λ place h. (there place h).own_truth);
@@ -103,21 +99,19 @@ returns c =
           let here = there place h in
           subst (λ v. IsDetectorAt m t full s.work.d v place (detector_at last.detectors.items place) (due_at c.update_detectors_of.new.agenda (state_count m + place))) slopes
           (c.update_detectors_of.ensures.detectors full s.work.d here.before place h
-          (subst (λ v. AreSlopesBefore m c.as_slice-5.result.now here.before v place) (sym slopes)
-          (subst (λ js. AreSlopesBefore m js here.before s.states.slopes.items place) (sym c.as_slice-5.ensures.value) here.slopes_before)) here.watched);
+          (subst (λ v. AreSlopesBefore m c.deref-3.result.now here.before v place) (sym slopes)
+          (subst (λ js. AreSlopesBefore m js here.before s.states.slopes.items place) (sym c.deref-3.ensures.value) here.slopes_before)) here.watched);
       kept = λ place h none own_speed.
-          let before = are.kept place (among_settling m place h (reinitialized_of s.work.log) s.assigned.items s.changed.items ∙ none) in
+          let before = are.kept place (among_settling m place h (reinitialized_of s.work.log) s.moment.assigned.items s.moment.changed.items ∙ none) in
           let on = going.each place (omega (arith, h, many)) in
           let stays = on.kept (ap (λ (w : DetectorView). w.speed) before.detector ∙ own_speed ∙ ap (speed_of m (condition_at m place).form) (sym slopes)) in
           record { detector = stays.0 ∙ before.detector; truth = ap (λ (flags : List Bool). flag_at flags place) still ∙ before.truth; due = stays.1 ∙ before.due };
       unread = λ j none.
           along.at_arrival.others j (
-          ap (λ vs. one_reads m (touched_after m (reinitialized_of s.work.log) vs c.as_slice-4.result.now) j) c.as_slice-3.ensures.value
-          ∙ ap (λ cs. one_reads m (touched_after m (reinitialized_of s.work.log) s.assigned.items cs) j) c.as_slice-4.ensures.value
-          ∙ unread_by m (reinitialized_of s.work.log) s.assigned.items s.changed.items j none);
+          unread_by m (reinitialized_of s.work.log) s.moment.assigned.items s.moment.changed.items j none);
       alike = λ were.
-          let first_alike = alike_then m (reinitialized_of s.work.log) c.as_slice-3.result.now c.as_slice-4.result.now s.conditions first along.noted (λ place none. (along.after_handlers.kept place none).truth)
-          (ap (λ (all : Conditions). all.at_arrival.items) along.rest) (subst (λ (cs : List ℕ). AreAlikeBut cs s.conditions.at_arrival.items s.conditions.after_handlers.items) (sym c.as_slice-4.ensures.value) were) in
+          let first_alike = alike_then m (reinitialized_of s.work.log) s.moment.assigned.items s.moment.changed.items s.conditions first along.noted (λ place none. (along.after_handlers.kept place none).truth)
+          (ap (λ (all : Conditions). all.at_arrival.items) along.rest) were in
           λ place out.
           ap (λ (all : Conditions). flag_at all.at_arrival.items place) same
           ∙ first_alike place (ap (λ (all : Conditions). is_listed all.flipped.places place) (sym same) ∙ out)
@@ -139,14 +133,9 @@ returns c =
           small_discretes = subst (All (IsWithin 43)) (sym of_d) fits.values.small_discretes;
         };
         before = ap (λ (v : Values). length v.pre) work ∙ fits.before;
-        room = record {
-          moved = fits.room.moved;
-          changed = fits.room.changed;
-          fired = fits.room.fired;
-          assigned = fits.room.assigned;
-          log = omega (arith, ap (λ (v : Values). v.room) work, fits.room.log);
-          rows = fits.room.rows;
-        };
+        lists = fits.lists;
+        log = omega (arith, ap (λ (v : Values). v.room) work, fits.log);
+        rows = fits.rows;
       };
       others = λ place h. going.others place h ∙ along.after_handlers.states place h;
       beyond = λ place h. going.beyond place (omega (arith, h, many)) ∙ along.after_handlers.beyond place (omega (arith, h, fits.own_conditions.detectors));

@@ -17,12 +17,12 @@ pub continue_lines-requires : goal.continue_lines-requires
 continue_lines-requires g c =
     let can = c.requires in
     let fits = can.fits in
-    let of_moved = c.as_slice.ensures.value in
+    let of_moved = c.deref.ensures.value in
     record {
       ready = record {
         uses = fits.uses;
         moved = rw of_moved can.states.numbers;
-        assigned = rw c.as_slice-2.ensures.value can.assigned;
+        assigned = rw c.deref-2.ensures.value can.assigned;
         values = fits.values;
         before = fits.before;
       };
@@ -38,21 +38,21 @@ continue_lines-requires g c =
 continued : (g : given.Over) (c : After-continue_lines g) →
     let s : Store = c.args.s.now in
     HaveContinued c.args.m.now c.args.tick
-    (states_with s.states.lines.items c.args.tick s.moved.items s.work.x) s.states.levels.items
+    (states_with s.states.lines.items c.args.tick s.moment.moved.items s.work.x) s.states.levels.items
     s.work.d (record { lines = s.states.lines.items; dues = s.agenda })
     (record { lines = c.continue_lines.new.self.lines.items; dues = c.continue_lines.new.agenda })
-continued g c = rw c.as_slice.ensures.value at c.continue_lines.ensures.continued
+continued g c = rw c.deref.ensures.value at c.continue_lines.ensures.continued
 
 -- their lines lead to those states
 lead : (g : given.Over) (c : After-continue_lines g) →
     let s : Store = c.args.s.now in
     states_at c.continue_lines.new.self.lines.items c.args.tick
-    ≡ states_with s.states.lines.items c.args.tick s.moved.items s.work.x
+    ≡ states_with s.states.lines.items c.args.tick s.moment.moved.items s.work.x
 lead g c =
     let s : Store = c.args.s.now in
     let fits = c.requires.fits in
     lead_to (state_count c.args.m.now) s.states.lines.items c.continue_lines.new.self.lines.items
-    c.args.tick s.moved.items s.work.x fits.lines ((continued g c).line_count ∙ fits.lines)
+    c.args.tick s.moment.moved.items s.work.x fits.lines ((continued g c).line_count ∙ fits.lines)
     (λ j h. ((continued g c).lines j h).here)
 
 -- there is a slope of each state
@@ -79,14 +79,9 @@ update_detectors_after_handlers-requires-clause-fits g c =
       places = (continued g at).places ∙ fits.places;
       values = fits.values;
       before = fits.before;
-      room = record {
-        moved = fits.room.moved;
-        changed = fits.room.changed;
-        fired = fits.room.fired;
-        assigned = fits.room.assigned;
-        log = fits.room.log;
-        rows = fits.room.rows;
-      };
+      lists = fits.lists;
+      log = fits.log;
+      rows = fits.rows;
     }
 
 pub update_detectors_after_handlers-requires-clause-lines : goal.update_detectors_after_handlers-requires-clause-lines
@@ -127,8 +122,8 @@ update_detectors_after_handlers-requires-clause-before g c =
       x,
       s.work.pre,
       s.states.slopes.items,
-      watched_up_to m s.moved.items s.assigned.items old s.states.levels.items s.work.pre s.work.d s.states.slopes.items after.slopes.items before.levels.off c.requires.assigned.others
-          (sym before.levels.off.as_many ∙ fits.levels) fits.before fits.values.discretes before.own_sums c.continue_lines.ensures.slopes t (reinitialized_of s.work.log) s.changed.items s.states.lines.items after.lines.items s.work.x
+      watched_up_to m s.moment.moved.items s.moment.assigned.items old s.states.levels.items s.work.pre s.work.d s.states.slopes.items after.slopes.items before.levels.off c.requires.assigned.others
+          (sym before.levels.off.as_many ∙ fits.levels) fits.before fits.values.discretes before.own_sums c.continue_lines.ensures.slopes t (reinitialized_of s.work.log) s.moment.changed.items s.states.lines.items after.lines.items s.work.x
           (detector_states_of s.conditions due) fits.lines (lead g at) (λ j h none. c.requires.states.still j h (sym (among_reinitialized s.work.log j) ∙ none)) fits.slopes (many_slopes g at)
           (λ place h none.
           let was = c.requires.after_handlers.others place h none in
@@ -167,7 +162,7 @@ returns g c =
     let on = continued g at in
     let after = c.continue_lines.new.self in
     let unchanged = c.continue_lines.ensures.same in
-    let y : List ℤ = states_with s.states.lines.items t s.moved.items s.work.x in
+    let y : List ℤ = states_with s.states.lines.items t s.moment.moved.items s.work.x in
     let left : Store = c.update_detectors_after_handlers.new.s in
     let own : Conditions = record s.conditions { detectors = left.conditions.detectors; after_handlers = left.conditions.after_handlers; flipped = left.conditions.flipped } in
     let next : Store = record s {
@@ -193,14 +188,9 @@ returns g c =
       places = c.schedule_next_if_risen.ensures.same_length ∙ base.places;
       values = base.values;
       before = base.before;
-      room = record {
-        moved = base.room.moved;
-        changed = base.room.changed;
-        fired = base.room.fired;
-        assigned = base.room.assigned;
-        log = base.room.log;
-        rows = base.room.rows;
-      };
+      lists = base.lists;
+      log = base.log;
+      rows = base.rows;
     } in
     let left_fits = c.update_detectors_after_handlers.ensures.fits in
     let at_arrival : left.conditions.at_arrival.items ≡ s.conditions.at_arrival.items = ap (λ (v : Store). v.conditions.at_arrival.items) rest in
@@ -208,7 +198,7 @@ returns g c =
     let kept : (place : ℕ) → place < state_count m + length (conditions m) → due_at next.agenda place ≡ due_at left.agenda place =
     λ place h. c.schedule_next_if_risen.ensures.others place (omega (arith, h, left_fits.lines, left_fits.own_conditions.branches.as_many)) in
     let after_handlers : next.conditions.after_handlers.items ≡ truths m y s.work.d t = c.update_detectors_after_handlers.ensures.after_handlers ∙ ap (λ v. truths m v s.work.d t) states in
-    let again = stands_again m t next y (length-states_with s.states.lines.items t s.moved.items s.work.x ∙ fits.lines) good
+    let again = stands_again m t next y (length-states_with s.states.lines.items t s.moment.moved.items s.work.x ∙ fits.lines) good
     (λ j h. c.requires.small_levels j (pos 0) (omega (arith, h, fits.levels)))
     c.requires.levels.light
     c.continue_lines.ensures.slopes
@@ -232,5 +222,5 @@ returns g c =
       snapshot = ap (snapshot_of t) same ∙ snapshot;
       rows = ap (λ (v : Store). v.rows) same;
       kept = λ j inside so. ap (λ (v : Store). line_at v.states.lines.items j) same ∙ on.kept j inside so;
-      counted = rw c.as_slice.ensures.value at c.continue_lines.ensures.counted;
+      counted = rw c.deref.ensures.value at c.continue_lines.ensures.counted;
     }

@@ -35,12 +35,12 @@ handle_changed_conditions-requires-clause-ready g c =
     record {
       known = record {
         fits = fits.own_conditions;
-        changed = subst (AreRisingBelow (length (conditions m))) (sym c.as_slice.ensures.value) taken.changing.numbers;
+        numbers = taken.changing.numbers;
         watched = λ place h.
             watched_then m c.args.tick agenda s taken c.requires.in_time place h;
         alike = taken.stands.alike;
         others = λ place h none.
-            let both = rest_as_before m c.args.tick agenda s taken c.requires.in_time place h (ap (λ cs. is_listed cs place) (sym c.as_slice.ensures.value) ∙ none) in
+            let both = rest_as_before m c.args.tick agenda s taken c.requires.in_time place h none in
             both;
       };
       lines = record {
@@ -106,16 +106,16 @@ requantize-requires g c =
     handles m c.args.tick (record s { agenda = agenda }) stands in
     let calm : overflow_of c.handle_changed_conditions.result ≡ None =
     ap overflow_of c.in_ok-handle_changed_conditions.was in
-    let moved = c.handle_changed_conditions.new.moved.items in
-    let assigned = c.handle_changed_conditions.new.assigned.items in
+    let moved = c.handle_changed_conditions.new.moment.moved.items in
+    let assigned = c.handle_changed_conditions.new.moment.assigned.items in
     let new : Values = c.handle_changed_conditions.new.work in
     let handled = c.handle_changed_conditions.ensures.handled calm in
     let of_pre : new.pre ≡ s.work.d = ap (λ (v : Values). v.pre) handled.values in
     record {
       ready = record {
         uses = stands.fits.uses;
-        moved = subst (AreRisingBelow (state_count m)) (sym c.as_slice-2.ensures.value) handled.numbers;
-        assigned = subst (λ (js : List ℕ). AreAssignedFrom m js new.pre new.d) (sym c.as_slice-3.ensures.value) handled.assigns;
+        moved = subst (AreRisingBelow (state_count m)) (sym c.deref.ensures.value) handled.numbers;
+        assigned = subst (λ (js : List ℕ). AreAssignedFrom m js new.pre new.d) (sym c.deref-2.ensures.value) handled.assigns;
         values = record {
           states = handled.fits.states;
           discretes = handled.fits.discretes;
@@ -134,13 +134,13 @@ requantize-requires g c =
         };
         weights = subst (λ p. AreWeights m s.states.levels.items p s.states.weights) (sym of_pre) stands.own_weights;
       };
-      left = λ idle. subst (λ js. HaveLeft m js new.x s.states.levels.items) (sym c.as_slice-2.ensures.value)
+      left = λ idle. subst (λ js. HaveLeft m js new.x s.states.levels.items) (sym c.deref.ensures.value)
           (have_left m c.args.tick agenda s taken c.requires.in_time moved assigned new h handled is_h idle);
       room = omega (
         arith,
         ap (λ (v : Values). length v.log) handled.values,
         rows_handled m t (states_at s.states.lines.items t) s.work.d s.conditions.at_arrival.items s.conditions.after_handlers.items,
-        stands.fits.room.rows,
+        stands.fits.rows,
       );
     }
 
@@ -156,15 +156,15 @@ returns-in_err-requantize-clause-visited g c =
     handles m c.args.tick (record s { agenda = agenda }) taken.stands in
     let calm : overflow_of c.handle_changed_conditions.result ≡ None =
     ap overflow_of c.in_ok-handle_changed_conditions.was in
-    let moved = c.handle_changed_conditions.new.moved.items in
-    let assigned = c.handle_changed_conditions.new.assigned.items in
+    let moved = c.handle_changed_conditions.new.moment.moved.items in
+    let assigned = c.handle_changed_conditions.new.moment.assigned.items in
     let new : Values = c.handle_changed_conditions.new.work in
     let handled = c.handle_changed_conditions.ensures.handled calm in
     let calm_h : h.overflow ≡ None = sym c.handle_changed_conditions.ensures.overflow ∙ calm in
     let of_d : new.d ≡ h.discretes = ap (λ (v : Values). v.d) handled.values in
     let fresh : List ℤ = c.requantize.ensures.taken.0 in
-    let to : AreMovedTo m c.as_slice-2.result.now new.x s.states.levels.items h.states =
-    subst (λ js. AreMovedTo m js new.x s.states.levels.items h.states) (sym c.as_slice-2.ensures.value)
+    let to : AreMovedTo m c.deref.result.now new.x s.states.levels.items h.states =
+    subst (λ js. AreMovedTo m js new.x s.states.levels.items h.states) (sym c.deref.ensures.value)
     (moved_to m c.args.tick agenda s taken c.requires.in_time moved assigned new h handled) in
     let allowed : AreNextLevels (IsAllowedLevel c.args.q.now.name) m h.states s.states.levels.items fresh =
     c.requantize.ensures.taken.1.allowed h.states to in
@@ -196,16 +196,16 @@ continue_after_handlers-requires g c =
     handles m c.args.tick (record s { agenda = agenda }) taken.stands in
     let calm : overflow_of c.handle_changed_conditions.result ≡ None =
     ap overflow_of c.in_ok-handle_changed_conditions.was in
-    let moved = c.handle_changed_conditions.new.moved.items in
-    let assigned = c.handle_changed_conditions.new.assigned.items in
+    let moved = c.handle_changed_conditions.new.moment.moved.items in
+    let assigned = c.handle_changed_conditions.new.moment.assigned.items in
     let new : Values = c.handle_changed_conditions.new.work in
     let handled = c.handle_changed_conditions.ensures.handled calm in
     let calm_h : h.overflow ≡ None = sym c.handle_changed_conditions.ensures.overflow ∙ calm in
     let of_d : new.d ≡ h.discretes = ap (λ (v : Values). v.d) handled.values in
     let of_pre : new.pre ≡ s.work.d = ap (λ (v : Values). v.pre) handled.values in
     let fresh : List ℤ = c.requantize.ensures.taken.0 in
-    let to : AreMovedTo m c.as_slice-2.result.now new.x s.states.levels.items h.states =
-    subst (λ js. AreMovedTo m js new.x s.states.levels.items h.states) (sym c.as_slice-2.ensures.value)
+    let to : AreMovedTo m c.deref.result.now new.x s.states.levels.items h.states =
+    subst (λ js. AreMovedTo m js new.x s.states.levels.items h.states) (sym c.deref.ensures.value)
     (moved_to m c.args.tick agenda s taken c.requires.in_time moved assigned new h handled) in
     let allowed : AreNextLevels (IsAllowedLevel c.args.q.now.name) m h.states s.states.levels.items fresh =
     c.requantize.ensures.taken.1.allowed h.states to in
@@ -218,7 +218,7 @@ continue_after_handlers-requires g c =
     let fits = taken.stands.fits in
     let off : DiffersOnlyAt moved s.states.levels.items levels =
     subst (λ l. DiffersOnlyAt moved s.states.levels.items l) (sym are_fresh)
-    (subst (λ js. DiffersOnlyAt js s.states.levels.items fresh) c.as_slice-2.ensures.value c.requantize.ensures.taken.1.others) in
+    (subst (λ js. DiffersOnlyAt js s.states.levels.items fresh) c.deref.ensures.value c.requantize.ensures.taken.1.others) in
     let allowed_now : AreNextLevels (IsAllowedLevel c.args.q.now.name) m h.states s.states.levels.items levels =
     subst (λ l. AreNextLevels (IsAllowedLevel c.args.q.now.name) m h.states s.states.levels.items l) (sym are_fresh) allowed in
     let after = c.handle_changed_conditions.new.agenda in
@@ -241,14 +241,9 @@ continue_after_handlers-requires g c =
           small_discretes = handled.fits.small_discretes;
         };
         before = handled.fits.before;
-        room = record {
-          moved = omega (arith, c.handle_changed_conditions.ensures.moved_room, fits.room.moved);
-          changed = fits.room.changed;
-          fired = omega (arith, c.handle_changed_conditions.ensures.fired_room, fits.room.fired);
-          assigned = omega (arith, c.handle_changed_conditions.ensures.assigned_room, fits.room.assigned);
-          log = omega (arith, ap (λ (v : Values). v.room) handled.values, fits.room.log);
-          rows = omega (arith, c.requantize.ensures.room, fits.room.rows);
-        };
+        lists = c.handle_changed_conditions.ensures.lists;
+          log = omega (arith, ap (λ (v : Values). v.room) handled.values, fits.log);
+          rows = omega (arith, c.requantize.ensures.room, fits.rows);
       };
       in_time = omega (arith, c.requires.in_time, m.has_units.last_tick);
       assigned = handled.assigns;
@@ -263,9 +258,9 @@ continue_after_handlers-requires g c =
             ∙ int_at-states_at s.states.lines.items t j (omega (arith, inside, fits.lines));
         small = subst (All (IsWithin 88)) handled.own_states handled.small;
       };
-      after_handlers = record {
+      after_handlers = rw c.handle_changed_conditions.ensures.changed (record {
         numbers = taken.changing.numbers;
-        alike = subst (λ (cs : List ℕ). AreAlikeBut cs c.handle_changed_conditions.new.self.at_arrival.items c.handle_changed_conditions.new.self.after_handlers.items) c.as_slice.ensures.value (c.handle_changed_conditions.ensures.alike calm);
+        alike = c.handle_changed_conditions.ensures.alike calm;
         others = λ place inside none. record {
           watched = subst (λ (all : Conditions). IsDetectorAt m t (states_at s.states.lines.items t) new.pre s.states.slopes.items place (detector_at all.detectors.items place) (due_at after (state_count m + place))) (sym c.handle_changed_conditions.ensures.rest)
               (subst (λ p. IsDetectorAt m t (states_at s.states.lines.items t) p s.states.slopes.items place (detector_at s.conditions.detectors.items place) (due_at after (state_count m + place))) (sym of_pre)
@@ -276,7 +271,7 @@ continue_after_handlers-requires g c =
               ∙ sym (flag_same m c.args.tick agenda s taken c.requires.in_time place inside none)
               ∙ ap (λ p. truth m (condition_at m place) (states_at s.states.lines.items t) p t) (sym of_pre);
         };
-      };
+      });
       small_levels = c.requantize.ensures.size_limit fine;
       levels = record {
         near = near_after m c.args.tick agenda s taken c.requires.in_time moved assigned new h handled c.args.q.now.name levels allowed_now;
@@ -312,15 +307,15 @@ returns-clause-visited g c =
     handles m c.args.tick (record s { agenda = agenda }) taken.stands in
     let calm : overflow_of c.handle_changed_conditions.result ≡ None =
     ap overflow_of c.in_ok-handle_changed_conditions.was in
-    let moved = c.handle_changed_conditions.new.moved.items in
-    let assigned = c.handle_changed_conditions.new.assigned.items in
+    let moved = c.handle_changed_conditions.new.moment.moved.items in
+    let assigned = c.handle_changed_conditions.new.moment.assigned.items in
     let new : Values = c.handle_changed_conditions.new.work in
     let handled = c.handle_changed_conditions.ensures.handled calm in
     let calm_h : h.overflow ≡ None = sym c.handle_changed_conditions.ensures.overflow ∙ calm in
     let of_d : new.d ≡ h.discretes = ap (λ (v : Values). v.d) handled.values in
     let fresh : List ℤ = c.requantize.ensures.taken.0 in
-    let to : AreMovedTo m c.as_slice-2.result.now new.x s.states.levels.items h.states =
-    subst (λ js. AreMovedTo m js new.x s.states.levels.items h.states) (sym c.as_slice-2.ensures.value)
+    let to : AreMovedTo m c.deref.result.now new.x s.states.levels.items h.states =
+    subst (λ js. AreMovedTo m js new.x s.states.levels.items h.states) (sym c.deref.ensures.value)
     (moved_to m c.args.tick agenda s taken c.requires.in_time moved assigned new h handled) in
     let allowed : AreNextLevels (IsAllowedLevel c.args.q.now.name) m h.states s.states.levels.items fresh =
     c.requantize.ensures.taken.1.allowed h.states to in
@@ -388,13 +383,13 @@ returns-clause-kept g c none j inside unaffected =
     handles m c.args.tick (record s { agenda = agenda }) taken.stands in
     let calm : overflow_of c.handle_changed_conditions.result ≡ None =
     ap overflow_of c.in_ok-handle_changed_conditions.was in
-    let moved = c.handle_changed_conditions.new.moved.items in
-    let assigned = c.handle_changed_conditions.new.assigned.items in
+    let moved = c.handle_changed_conditions.new.moment.moved.items in
+    let assigned = c.handle_changed_conditions.new.moment.assigned.items in
     let new : Values = c.handle_changed_conditions.new.work in
     let handled = c.handle_changed_conditions.ensures.handled calm in
     let fresh : List ℤ = c.requantize.ensures.taken.0 in
-    let to : AreMovedTo m c.as_slice-2.result.now new.x s.states.levels.items h.states =
-    subst (λ js. AreMovedTo m js new.x s.states.levels.items h.states) (sym c.as_slice-2.ensures.value)
+    let to : AreMovedTo m c.deref.result.now new.x s.states.levels.items h.states =
+    subst (λ js. AreMovedTo m js new.x s.states.levels.items h.states) (sym c.deref.ensures.value)
     (moved_to m c.args.tick agenda s taken c.requires.in_time moved assigned new h handled) in
     let allowed : AreNextLevels (IsAllowedLevel c.args.q.now.name) m h.states s.states.levels.items fresh =
     c.requantize.ensures.taken.1.allowed h.states to in

@@ -14,8 +14,8 @@ pub start-requires-clause-levels : goal.start-requires-clause-levels
 start-requires-clause-levels c =
     let fits = c.requires.fits in
     let rest = c.start_lines_and_detectors.ensures.rest in
-    let of_d = c.as_slice-d.ensures.value ∙ ap (λ (v : Values). v.d) c.work.view_is ∙ ap (λ (z : Store). z.work.d) rest in
-    let of_levels = c.as_slice.ensures.value ∙ ap (λ (z : Store). z.states.levels.items) rest in
+    let of_d = c.deref-2.ensures.value ∙ ap (λ (v : Values). v.d) c.work.view_is ∙ ap (λ (z : Store). z.work.d) rest in
+    let of_levels = c.deref.ensures.value ∙ ap (λ (z : Store). z.states.levels.items) rest in
     record {
       levels = ap length of_levels ∙ fits.levels;
       discretes = ap length of_d ∙ fits.values.discretes;
@@ -26,9 +26,9 @@ start-requires-clause-levels c =
 pub start-requires-clause-light : goal.start-requires-clause-light
 start-requires-clause-light c =
     let rest = c.start_lines_and_detectors.ensures.rest in
-    light_at c.args.m.now c.as_slice.result.now c.as_slice-d.result.now
-    (c.as_slice.ensures.value ∙ ap (λ (z : Store). z.states.levels.items) rest ∙ c.requires.levels)
-    (c.as_slice-d.ensures.value ∙ ap (λ (v : Values). v.d) c.work.view_is ∙ ap (λ (z : Store). z.work.d) rest ∙ c.requires.discretes)
+    light_at c.args.m.now c.deref.result.now c.deref-2.result.now
+    (c.deref.ensures.value ∙ ap (λ (z : Store). z.states.levels.items) rest ∙ c.requires.levels)
+    (c.deref-2.ensures.value ∙ ap (λ (v : Values). v.d) c.work.view_is ∙ ap (λ (z : Store). z.work.d) rest ∙ c.requires.discretes)
 
 pub returns : goal.returns
 returns c =
@@ -59,24 +59,19 @@ returns c =
       places = did.places ∙ fits.places;
       values = fits.values;
       before = fits.before;
-      room = record {
-        moved = fits.room.moved;
-        changed = fits.room.changed;
-        fired = fits.room.fired;
-        assigned = fits.room.assigned;
-        log = fits.room.log;
-        rows = omega (arith, c.set_all_rows.ensures.room, ap (λ (z : Store). z.rows.cap) did.rest, fits.room.rows);
-      };
+      lists = fits.lists;
+      log = fits.log;
+      rows = omega (arith, c.set_all_rows.ensures.room, ap (λ (z : Store). z.rows.cap) did.rest, fits.rows);
     } in
-    let levels = c.as_slice.ensures.value ∙ ap (λ (z : Store). z.states.levels.items) did.rest in
-    let levels_again = c.as_slice-2.ensures.value ∙ ap (λ (z : Store). z.states.levels.items) did.rest ∙ blank.levels in
-    let of_d = c.as_slice-d.ensures.value ∙ ap (λ (v : Values). v.d) c.work.view_is ∙ ap (λ (z : Store). z.work.d) did.rest in
+    let levels = c.deref.ensures.value ∙ ap (λ (z : Store). z.states.levels.items) did.rest in
+    let levels_again = c.deref-3.ensures.value ∙ ap (λ (z : Store). z.states.levels.items) did.rest ∙ blank.levels in
+    let of_d = c.deref-2.ensures.value ∙ ap (λ (v : Values). v.d) c.work.view_is ∙ ap (λ (z : Store). z.work.d) did.rest in
     let arrived : next.conditions.at_arrival.items ≡ next.conditions.after_handlers.items = did.at_arrival in
     let again = stands_again m 0 next s.work.x fits.values.states good
     (λ j inside. subst (λ l. IsWithin 43 (int_at l j)) (sym blank.levels) (levels_start m j (pos 0) (omega (arith, inside, count_start m))))
     (light_at m next.states.levels.items next.work.d blank.levels blank.discretes)
     did.set_out.slopes
-    (subst (λ d. AreWeights m s.states.levels.items d next.states.weights) of_d (subst (λ l. AreWeights m l c.as_slice-d.result.now next.states.weights) levels c.start.ensures.weights))
+    (subst (λ d. AreWeights m s.states.levels.items d next.states.weights) of_d (subst (λ l. AreWeights m l c.deref-2.result.now next.states.weights) levels c.start.ensures.weights))
     did.set_out.lines
     did.after_handlers
     did.detectors

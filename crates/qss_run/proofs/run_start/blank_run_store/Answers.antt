@@ -48,25 +48,25 @@ returns c =
           small_discretes = subst (All (IsWithin 43)) (sym of_d) (discretes_start m);
         };
         before = ap length of_pre ∙ length-map m.discretes (λ (d : DiscreteInfo). d.d0);
-        room = record {
-          moved = omega (arith, c.in_ok-moved.ensures.0, states);
-          changed = omega (arith, c.in_ok-moved.ensures.1, places);
-          fired = omega (arith, c.in_ok-moved.ensures.2, places);
-          assigned = omega (arith, c.in_ok-moved.ensures.3, c.capacity.ensures, ap (λ (v : Values). v.room) c.work.view_is, room);
-          log = omega (arith, room);
-          rows = omega (
-            arith,
-            c.in_ok-uses.ensures.3,
-            c.capacity-2.ensures,
-            c.len.ensures,
-            c.work.inside.d.ok.0,
-            ap (λ (v : Values). v.room) c.work.view_is,
-            ap (λ (v : Values). length v.d) c.work.view_is,
-            room,
-            discretes,
-            states,
-          );
+        lists = record {
+          moved = omega (arith, c.in_ok-moment.ensures.0, states);
+          changed = omega (arith, c.in_ok-moment.ensures.1, places);
+          fired = omega (arith, c.in_ok-moment.ensures.2, places);
+          assigned = omega (arith, c.in_ok-moment.ensures.3, c.capacity.ensures, ap (λ (v : Values). v.room) c.work.view_is, room);
         };
+        log = omega (arith, room);
+        rows = omega (
+          arith,
+          c.in_ok-uses.ensures.3,
+          c.capacity-2.ensures,
+          c.len.ensures,
+          c.work.inside.d.ok.0,
+          ap (λ (v : Values). v.room) c.work.view_is,
+          ap (λ (v : Values). length v.d) c.work.view_is,
+          room,
+          discretes,
+          states,
+        );
       };
       states = of_x;
       discretes = of_d;

@@ -44,16 +44,16 @@ set_all_detectors-requires c =
     let s : Store = c.args.s.now in
     let blank = c.requires in
     let rest = c.start_lines.ensures.rest in
-    let of_x = c.as_slice.ensures.value ∙ ap (λ (v : Values). v.x) c.work.view_is ∙ ap (λ (z : Store). z.work.x) rest ∙ blank.states in
-    let of_d = c.as_slice-2.ensures.value ∙ ap (λ (v : Values). v.d) c.work.view_is ∙ ap (λ (z : Store). z.work.d) rest ∙ blank.discretes in
+    let of_x = c.deref.ensures.value ∙ ap (λ (v : Values). v.x) c.work.view_is ∙ ap (λ (z : Store). z.work.x) rest ∙ blank.states in
+    let of_d = c.deref-2.ensures.value ∙ ap (λ (v : Values). v.d) c.work.view_is ∙ ap (λ (z : Store). z.work.d) rest ∙ blank.discretes in
     record {
       fits = subst (AreConditionsOf m) (sym (ap (λ (z : Store). z.conditions) rest)) blank.fits.own_conditions;
       point = record {
-        values = start_within m c.as_slice.result.now c.as_slice-2.result.now of_x of_d;
+        values = start_within m c.deref.result.now c.deref-2.result.now of_x of_d;
         slopes = record {
-          as_many = ap length c.as_slice-3.ensures.value ∙ c.start_lines.ensures.one_each.slopes;
-          small = slopes_small m s.states.levels.items s.work.d s.work.d c.as_slice-3.result.now (light_at m s.states.levels.items s.work.d blank.levels blank.discretes) refl
-              (c.as_slice-3.ensures.value ∙ c.start_lines.ensures.set_out.slopes);
+          as_many = ap length c.deref-3.ensures.value ∙ c.start_lines.ensures.one_each.slopes;
+          small = slopes_small m s.states.levels.items s.work.d s.work.d c.deref-3.result.now (light_at m s.states.levels.items s.work.d blank.levels blank.discretes) refl
+              (c.deref-3.ensures.value ∙ c.start_lines.ensures.set_out.slopes);
         };
         in_time = omega arith;
       };
@@ -62,7 +62,7 @@ set_all_detectors-requires c =
 
 pub copy_from_slice-requires : goal.copy_from_slice-requires
 copy_from_slice-requires c =
-    ap length c.as_mut_slice.ensures.value ∙ c.set_all_detectors.ensures.fits.at_arrival ∙ sym c.set_all_detectors.ensures.fits.after_handlers ∙ sym (ap length c.as_slice-after_handlers.ensures.value)
+    ap length c.as_mut_slice.ensures.value ∙ c.set_all_detectors.ensures.fits.at_arrival ∙ sym c.set_all_detectors.ensures.fits.after_handlers ∙ sym (ap length c.deref-4.ensures.value)
 
 pub returns : goal.returns
 returns c =
@@ -75,8 +75,8 @@ returns c =
     let arrived : Vec Bool Global = with_items own.at_arrival c.copy_from_slice.new.self in
     let all : Conditions = record own { at_arrival = arrived } in
     let rest : record left { conditions = all; agenda = dues } ≡ record s { conditions = all; states = record s.states { lines = left.states.lines; slopes = left.states.slopes }; agenda = dues } = ap (λ (z : Store). record z { conditions = all; agenda = dues }) c.start_lines.ensures.rest in
-    let of_x : c.as_slice.result.now ≡ s.work.x = c.as_slice.ensures.value ∙ ap (λ (v : Values). v.x) c.work.view_is ∙ ap (λ (z : Store). z.work.x) c.start_lines.ensures.rest in
-    let of_d : c.as_slice-2.result.now ≡ s.work.d = c.as_slice-2.ensures.value ∙ ap (λ (v : Values). v.d) c.work.view_is ∙ ap (λ (z : Store). z.work.d) c.start_lines.ensures.rest in
+    let of_x : c.deref.result.now ≡ s.work.x = c.deref.ensures.value ∙ ap (λ (v : Values). v.x) c.work.view_is ∙ ap (λ (z : Store). z.work.x) c.start_lines.ensures.rest in
+    let of_d : c.deref-2.result.now ≡ s.work.d = c.deref-2.ensures.value ∙ ap (λ (v : Values). v.d) c.work.view_is ∙ ap (λ (z : Store). z.work.d) c.start_lines.ensures.rest in
     let behind : ℕ = state_count m + length (conditions m) in
     record {
       set_out = record {
@@ -85,12 +85,12 @@ returns c =
             subst (IsRestartedFrom m 0 (int_at s.work.x j) (int_at s.states.levels.items j) (slope_at m j s.states.levels.items s.work.d) j (line_at left.states.lines.items j)) (sym (c.set_all_detectors.ensures.others j h))
             (c.start_lines.ensures.set_out.lines j h);
       };
-      at_arrival = with_items_is own.at_arrival c.copy_from_slice.new.self (c.copy_from_slice.ensures.len ∙ c.as_mut_slice.ensures.len) ∙ c.copy_from_slice.ensures.after ∙ c.as_slice-after_handlers.ensures.value;
-      after_handlers = c.set_all_detectors.ensures.after_handlers ∙ ap (λ x. truths m x c.as_slice-2.result.now 0) of_x ∙ ap (λ d. truths m s.work.x d 0) of_d;
+      at_arrival = with_items_is own.at_arrival c.copy_from_slice.new.self (c.copy_from_slice.ensures.len ∙ c.as_mut_slice.ensures.len) ∙ c.copy_from_slice.ensures.after ∙ c.deref-4.ensures.value;
+      after_handlers = c.set_all_detectors.ensures.after_handlers ∙ ap (λ x. truths m x c.deref-2.result.now 0) of_x ∙ ap (λ d. truths m s.work.x d 0) of_d;
       detectors = λ place h.
           subst (λ x. IsDetectorAt m 0 x s.work.d left.states.slopes.items place (detector_at own.detectors.items place) (due_at dues (state_count m + place))) of_x
-          (subst (λ d. IsDetectorAt m 0 c.as_slice.result.now d left.states.slopes.items place (detector_at own.detectors.items place) (due_at dues (state_count m + place))) of_d
-          (subst (λ v. IsDetectorAt m 0 c.as_slice.result.now c.as_slice-2.result.now v place (detector_at own.detectors.items place) (due_at dues (state_count m + place))) c.as_slice-3.ensures.value
+          (subst (λ d. IsDetectorAt m 0 c.deref.result.now d left.states.slopes.items place (detector_at own.detectors.items place) (due_at dues (state_count m + place))) of_d
+          (subst (λ v. IsDetectorAt m 0 c.deref.result.now c.deref-2.result.now v place (detector_at own.detectors.items place) (due_at dues (state_count m + place))) c.deref-3.ensures.value
           (c.set_all_detectors.ensures.detectors place h)));
       rising = c.set_all_detectors.ensures.beyond behind (omega arith) ∙ c.start_lines.ensures.others behind (omega arith) ∙ blank.no_dues behind;
       fits = arrived_anew m own arrived own.flipped c.set_all_detectors.ensures.fits (same_length own.at_arrival c.copy_from_slice.new.self ∙ c.set_all_detectors.ensures.fits.at_arrival) refl;

@@ -40,10 +40,10 @@ returns-clause-after_handlers c =
     (c.truth-holds.ensures ∙ ap (λ (w : DetectorView). compares w.rel w.value) c.detector_at_values-detector.ensures ∙ ap (λ (condition : Condition). truth m condition at.states.now at.discretes.now at.tick) own)
 
 pub mark_changed_detector-requires-clause-place : goal.mark_changed_detector-requires-clause-place
-mark_changed_detector-requires-clause-place c = omega (arith, c.requires.place, c.requires.allowed.fits.at_arrival, ap length c.as_slice-at_arrival.ensures.value)
+mark_changed_detector-requires-clause-place c = omega (arith, c.requires.place, c.requires.allowed.fits.at_arrival, ap length c.deref.ensures.value)
 
 pub mark_changed_detector-requires-clause-count : goal.mark_changed_detector-requires-clause-count
-mark_changed_detector-requires-clause-count c = c.requires.allowed.fits.flipped ∙ sym (ap length c.as_slice-at_arrival.ensures.value ∙ c.requires.allowed.fits.at_arrival)
+mark_changed_detector-requires-clause-count c = c.requires.allowed.fits.flipped ∙ sym (ap length c.deref.ensures.value ∙ c.requires.allowed.fits.at_arrival)
 
 pub returns-clause-noted : goal.returns-clause-noted
 returns-clause-noted c =
@@ -53,7 +53,7 @@ returns-clause-noted c =
     let after_handlers = with_items_is all.after_handlers (set c.as_mut_slice-after_handlers.result.now place holds) (length-set c.as_mut_slice-after_handlers.result.now place holds ∙ c.as_mut_slice-after_handlers.ensures.len)
     ∙ ap (λ flags. set flags place holds) c.as_mut_slice-after_handlers.ensures.value in
     one_noted place holds all _ (omega (arith, c.requires.place, c.requires.allowed.fits.after_handlers)) refl after_handlers c.mark_changed_detector.ensures.count
-    (λ other. c.mark_changed_detector.ensures.places other ∙ ap (λ flags. is_listed all.flipped.places other || (place == other && differ holds (flag_at flags place))) c.as_slice-at_arrival.ensures.value)
+    (λ other. c.mark_changed_detector.ensures.places other ∙ ap (λ flags. is_listed all.flipped.places other || (place == other && differ holds (flag_at flags place))) c.deref.ensures.value)
 
 pub returns-clause-flipped : goal.returns-clause-flipped
 returns-clause-flipped c other =
@@ -64,5 +64,5 @@ returns-clause-flipped c other =
     let own : c.condition-condition.result.now ≡ condition_at m place = c.condition-condition.ensures.value in
     let holds : c.truth-holds.result ≡ truth m (condition_at m place) at.states.now at.discretes.now at.tick = c.truth-holds.ensures ∙ ap (λ (w : DetectorView). compares w.rel w.value) c.detector_at_values-detector.ensures ∙ ap (λ (condition : Condition). truth m condition at.states.now at.discretes.now at.tick) own in
     c.mark_changed_detector.ensures.places other
-    ∙ ap (λ flags. is_listed all.flipped.places other || (place == other && differ c.truth-holds.result (flag_at flags place))) c.as_slice-at_arrival.ensures.value
+    ∙ ap (λ flags. is_listed all.flipped.places other || (place == other && differ c.truth-holds.result (flag_at flags place))) c.deref.ensures.value
     ∙ ap (λ (b : Bool). is_listed all.flipped.places other || (place == other && differ b (flag_at all.at_arrival.items place))) holds

@@ -19,8 +19,8 @@ settle_detector-requires-clause-allowed c =
     let full : List ℤ = states_at at.lines.now at.tick in
     let read = c.move_work_states_read.ensures in
     let left : Values = c.move_work_states_read.new.work in
-    let x : c.as_slice.result.now ≡ left.x = c.as_slice.ensures.value ∙ ap (λ (v : Values). v.x) c.work.view_is in
-    let d : c.as_slice-2.result.now ≡ c.args.work.now.d = c.as_slice-2.ensures.value ∙ ap (λ (v : Values). v.d) c.work.view_is ∙ ap (λ (v : Values). v.d) read.work in
+    let x : c.deref.result.now ≡ left.x = c.deref.ensures.value ∙ ap (λ (v : Values). v.x) c.work.view_is in
+    let d : c.deref-2.result.now ≡ c.args.work.now.d = c.deref-2.ensures.value ∙ ap (λ (v : Values). v.d) c.work.view_is ∙ ap (λ (v : Values). v.d) read.work in
     let many : length c.args.work.now.x ≡ length full = ready.values.states ∙ sym ready.moment.lines.up_to.as_many ∙ sym (length-states_at at.lines.now at.tick) in
     record {
       fits = ready.fits;
@@ -50,8 +50,8 @@ returns c =
     let work : Values = c.args.work.now in
     let before = detector_states_of c.args.self.now c.args.agenda.now in
     let after = detector_states_of c.settle_detector.new.self c.settle_detector.new.agenda in
-    let x : c.as_slice.result.now ≡ left.x = c.as_slice.ensures.value ∙ ap (λ (v : Values). v.x) c.work.view_is in
-    let d : c.as_slice-2.result.now ≡ work.d = c.as_slice-2.ensures.value ∙ ap (λ (v : Values). v.d) c.work.view_is ∙ ap (λ (v : Values). v.d) read.work in
+    let x : c.deref.result.now ≡ left.x = c.deref.ensures.value ∙ ap (λ (v : Values). v.x) c.work.view_is in
+    let d : c.deref-2.result.now ≡ work.d = c.deref-2.ensures.value ∙ ap (λ (v : Values). v.d) c.work.view_is ∙ ap (λ (v : Values). v.d) read.work in
     let own : c.condition-condition.result.now ≡ condition_at m place = c.condition-condition.ensures.value in
     let many : length work.x ≡ length full = ready.values.states ∙ sym ready.moment.lines.up_to.as_many ∙ sym (length-states_at at.lines.now at.tick) in
     let value : value_of m (condition_at m place).form left.x work.d work.d at.tick ≡ value_of m (condition_at m place).form full work.d work.d at.tick =
@@ -59,7 +59,7 @@ returns c =
     (λ j has. read.states.own j (ap (λ (condition : Condition). has_entry j condition.form.entries) own ∙ has)) in
     let settled : AreSettled m at.tick left.x work.d at.slopes.now (place ∷ []) before after =
     subst (λ e. AreSettled m at.tick left.x e at.slopes.now (place ∷ []) before after) d
-    (subst (λ v. AreSettled m at.tick v c.as_slice-2.result.now at.slopes.now (place ∷ []) before after) x c.settle_detector.ensures.after_handlers) in
+    (subst (λ v. AreSettled m at.tick v c.deref-2.result.now at.slopes.now (place ∷ []) before after) x c.settle_detector.ensures.after_handlers) in
     record {
       after_handlers = settled_at m at.tick left.x full work.d at.slopes.now place before after value settled;
       noted = c.settle_detector.ensures.noted;

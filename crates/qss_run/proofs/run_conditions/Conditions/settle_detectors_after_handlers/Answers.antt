@@ -31,11 +31,12 @@ pub returns : goal.returns
 returns c =
     let at = c.args.at.now in
     let m = at.machine.now in
-    let changed : List ℕ = c.args.changed.now in
-    let assigned : List ℕ = c.args.assigned.now in
+    let changed : List ℕ = c.deref-changed.result.now in
+    let assigned : List ℕ = c.deref-assigned.result.now in
     let log = ap (λ (v : Values). v.log) c.settle_detectors_at.ensures.work in
     let reinitialized : List ℕ = touched_by m (reinitialized_of c.args.work.now.log) in
     let two = along_more at changed reinitialized _ (changed ++ reinitialized) _ _ _ _ _ _ _ _ _ c.settle_detectors_at.ensures
     (ap (λ rows. touched_by m (reinitialized_of rows)) log) refl c.settle_reinitialized_detectors.ensures in
     let three = along_then at (changed ++ reinitialized) (touched_by m assigned) _ _ _ _ _ _ _ _ _ two c.settle_touched_detectors.ensures in
-    along_then at ((changed ++ reinitialized) ++ touched_by m assigned) (readers_before m assigned) _ _ _ _ _ _ _ _ _ three c.settle_assigned_detectors.ensures
+    rw c.deref-assigned.ensures.value at (rw c.deref-changed.ensures.value at
+    (along_then at ((changed ++ reinitialized) ++ touched_by m assigned) (readers_before m assigned) _ _ _ _ _ _ _ _ _ three c.settle_assigned_detectors.ensures))
