@@ -5,7 +5,7 @@ ghost use Rattle.std.specs.Prelude.{◌≡◌, ◌+◌, ◌<◌, ◌≤◌, ◌&
 ghost use Rattle.qss_run.specs.Prelude.{flag_at, is_listed, AreRisingBelow, IsBounded, state_count, truth, value_of, speed_of, discrete_count, conditions, truths, due_at, condition_at, AreDiscretes, AreVariablesOf, AreSlopesOf, reinitialized_of, states_at, AreLinesAt, tick_limit, AreSlopes, uses_of, IsSmall, value_at};
 ghost use Rattle.qss_run.specs.Words.{AreConditionsOf, AreDetectorsAt, KnowsApart, CanSetDetectors, AreConditionValues, CanSettle, CanUpdateDetectors, CanUpdateReaderDetectors, differ, AreAlikeBut, IsSameBut, AreAlikeButSettled, AreMarkedChanged, AreSettled, detector_states_of, AreSettledAlong, readers_of, touched_of, touched_by, readers_before, touched_after, OthersAreKept, OthersAreUnread, is_reinitialized, HadDetectors, HasDetectorsUpdated, FitsMachine, GoesOn, AreDetectorsUpdated, AreReaderDetectorsUpdated};
 
-use crate::condition_handlers::{is_handler_reinitialization, move_work_states_read};
+use crate::condition_handlers::{is_handler_reinitialization, move_work_read_by_form};
 use crate::moment::Moment;
 use crate::run_conditions::{ConditionContext, ConditionValues, Conditions};
 use crate::run_start::Store;
@@ -84,7 +84,7 @@ impl Conditions {
             work.old work.new }
     {
         let condition = self.condition(at.machine, place);
-        move_work_states_read(&condition.form, at.tick, at.lines, work);
+        move_work_read_by_form(&condition.form, at.tick, at.lines, work);
         let point = ConditionValues {
             tick: at.tick,
             states: &work.x,

@@ -9,7 +9,7 @@ ghost use Rattle.qss_run.specs.DueLists.{AreAlikeBut, HasRoom, IsWithout, AreMov
 ghost use Rattle.qss_run.specs.HandlerReads.{action_reads, fired_reads, AreArrived};
 ghost use Rattle.qss_run.specs.HandlerResults.{IsHandlerEffect, handling_at, handling_from, flags_of, is_reinitialized};
 
-use crate::event_steps::{put_back_states, take_due_states};
+use crate::event_steps::take_due_states;
 use crate::moment::Moment;
 use crate::run_conditions::{BranchPlace, Conditions, StatesAt};
 use qss_hand::{Over, Work, fire};
@@ -143,14 +143,14 @@ pub(crate) fn handle_fired_conditions(
         → is_reinitialized h.rows j ≡ false
         → int_at work.new.x j ≡ int_at work.old.x j }
 {
-    move_handler_work_states(at, branches, fired, work);
+    move_work_read_by_branches(at, branches, fired, work);
     work.begin(at.tick);
     run_fired_handlers(at.machine, branches, fired, work)
 }
 
 // Moves the states that the statements of these branches read, in the values of handlers, to a
 // tick along their lines.
-fn move_handler_work_states(
+fn move_work_read_by_branches(
     at: &StatesAt,
     branches: &[BranchPlace],
     fired: &[u32],
@@ -162,11 +162,11 @@ fn move_handler_work_states(
     ensures states { AreArrived (λ j. fired_reads j at.now.machine.now branches.now fired.now)
         (states_at at.now.states.now.lines.items at.now.tick) work.old.x work.new.x }
 {
-    move_fired_handler_states(at, branches, fired, work.x.as_mut_slice());
+    move_read_by_branches(at, branches, fired, work.x.as_mut_slice());
 }
 
 // Moves the states that the statements of these branches read to a tick along their lines.
-fn move_fired_handler_states(
+fn move_read_by_branches(
     at: &StatesAt,
     branches: &[BranchPlace],
     fired: &[u32],
@@ -183,23 +183,23 @@ fn move_fired_handler_states(
         let clauses = at.machine.clauses.as_slice();
         let choices = clauses[own.clause as usize].branches.as_slice();
         let actions = choices[own.branch as usize].actions.as_slice();
-        move_states_handlers_read(actions, at.tick, lines, x);
+        move_read_by_actions(actions, at.tick, lines, x);
     }
 }
 
 // Moves the states that these statements read to a tick along their lines.
-fn move_states_handlers_read(actions: &[Action], tick: u64, lines: &[Integrator], x: &mut [i128])
+fn move_read_by_actions(actions: &[Action], tick: u64, lines: &[Integrator], x: &mut [i128])
     requires { MayArrive tick lines.now x.old }
     ensures { AreArrived (λ j. list_any (action_reads j) actions.now) (states_at lines.now tick)
         x.old x.new }
 {
     for action in actions {
-        move_handler_states_read(handler_form_of(action), tick, lines, x);
+        move_read_by_form(handler_form_of(action), tick, lines, x);
     }
 }
 
 // Moves the states that a form reads to a tick along their lines.
-fn move_handler_states_read(form: &Form, tick: u64, lines: &[Integrator], x: &mut [i128])
+fn move_read_by_form(form: &Form, tick: u64, lines: &[Integrator], x: &mut [i128])
     requires { MayArrive tick lines.now x.old }
     ensures { AreArrived (λ j. has_entry j form.now.entries) (states_at lines.now tick) x.old
         x.new }
@@ -213,13 +213,13 @@ fn move_handler_states_read(form: &Form, tick: u64, lines: &[Integrator], x: &mu
 }
 
 /// Moves the states that a form reads, in the values of handlers, to a tick along their lines.
-pub(crate) fn move_work_states_read(form: &Form, tick: u64, lines: &[Integrator], work: &mut Work)
+pub(crate) fn move_work_read_by_form(form: &Form, tick: u64, lines: &[Integrator], work: &mut Work)
     requires { MayArrive tick lines.now work.old.x }
     ensures work { work.new ≡ record work.old { x = work.new.x } }
     ensures states { AreArrived (λ j. has_entry j form.now.entries) (states_at lines.now tick)
         work.old.x work.new.x }
 {
-    move_handler_states_read(form, tick, lines, work.x.as_mut_slice());
+    move_read_by_form(form, tick, lines, work.x.as_mut_slice());
 }
 
 // The form of the right-hand side of a statement.
@@ -289,6 +289,20 @@ pub(crate) fn join_handler_reinitialized(
     put_back_states(agenda, tick, moved);
     schedule_handler_reinitialized(agenda, tick, log);
     take_due_states(agenda, tick, states, moved);
+}
+
+// Schedules states at a tick that were removed from the event queue.
+fn put_back_states(agenda: &mut Agenda, tick: u64, moved: &[u32])
+    requires { All (λ place. place < length agenda.old) moved.now }
+    ensures same_length { length agenda.new ≡ length agenda.old }
+    ensures back { (place : ℕ) → is_listed moved.now place ≡ true
+        → due_at agenda.new place ≡ Some tick }
+    ensures others { (place : ℕ) → is_listed moved.now place ≡ false
+        → due_at agenda.new place ≡ due_at agenda.old place }
+{
+    for place in moved {
+        agenda.set(*place, Some(tick));
+    }
 }
 
 // Whether some row reinitializes a state.

@@ -60,20 +60,6 @@ pub(crate) fn go_to_next_event<L: Ledger>(
     Outcome::Done
 }
 
-/// Schedules states at a tick that were removed from the event queue.
-pub(crate) fn put_back_states(agenda: &mut Agenda, tick: u64, moved: &[u32])
-    requires { All (λ place. place < length agenda.old) moved.now }
-    ensures same_length { length agenda.new ≡ length agenda.old }
-    ensures back { (place : ℕ) → is_listed moved.now place ≡ true
-        → due_at agenda.new place ≡ Some tick }
-    ensures others { (place : ℕ) → is_listed moved.now place ≡ false
-        → due_at agenda.new place ≡ due_at agenda.old place }
-{
-    for place in moved {
-        agenda.set(*place, Some(tick));
-    }
-}
-
 /// Skips event-free ticks, and runs the event step after them.
 pub(crate) fn go_to_event<L: Ledger>(
     m: &Machine,
@@ -136,21 +122,21 @@ pub(crate) fn earliest_due_tick(agenda: &Agenda, last: u64) -> u64
     agenda.next_tick(last)
 }
 
-/// Runs the tick after `tick`. The error is the variable that overflows. After an error the store
+/// Runs the tick after `before`. The error is the variable that overflows. After an error the store
 /// is unspecified, except for the capacity for rows. The line and the due tick of a state that is
 /// not affected do not change.
 pub(crate) fn run_event<L: Ledger>(
     m: &Machine,
     q: &Quantizer,
-    tick: u64,
+    before: u64,
     s: &mut Store,
     steps: &mut Steps<L>,
 ) -> Result<(), Over>
-    requires { IsUnderWay m.now tick s.old }
-    ensures visited { IsEventRun m.now q.now.name tick s.old s.new (overflow_of result) steps.old
+    requires { IsUnderWay m.now before s.old }
+    ensures visited { IsEventRun m.now q.now.name before s.old s.new (overflow_of result) steps.old
         steps.new }
     ensures kept { overflow_of result ≡ None → (j : ℕ) → j < state_count m.now
-        → is_touched m.now (tick + 1) (snapshot_of tick s.old) (snapshot_of (tick + 1) s.new) j
+        → is_touched m.now (before + 1) (snapshot_of before s.old) (snapshot_of (before + 1) s.new) j
         ≡ false
         → (line_at s.new.states.lines.items j ≡ line_at s.old.states.lines.items j)
         × (due_at s.new.agenda j ≡ due_at s.old.agenda j) }
@@ -158,16 +144,16 @@ pub(crate) fn run_event<L: Ledger>(
     let states = s.states.lines.len() as u32;
     let conditions = s.conditions.branches.len() as u32;
     s.conditions
-        .make_risen_due(s.rising, tick + 1, states, &mut s.agenda);
-    take_due_states(&mut s.agenda, tick + 1, states, &mut s.moment.moved);
+        .make_risen_due(s.rising, before + 1, states, &mut s.agenda);
+    take_due_states(&mut s.agenda, before + 1, states, &mut s.moment.moved);
     take_due_conditions(
         &mut s.agenda,
-        tick + 1,
+        before + 1,
         states,
         conditions,
         &mut s.moment.changed,
     );
-    run_due_event(m, q, tick, s, steps)
+    run_due_event(m, q, before, s, steps)
 }
 
 /// Removes the states that are due at a tick from the event queue, and lists them in increasing
@@ -202,22 +188,22 @@ pub fn take_due_conditions(
     agenda.take_all(tick, states, conditions, changed);
 }
 
-/// Runs the tick after `tick`. The due states and the conditions to be evaluated are already
+/// Runs the tick after `before`. The due states and the conditions to be evaluated are already
 /// removed from the event queue. The error is the variable that overflows. After an error the
 /// store is unspecified, except for the capacity for rows. A state that is not affected was not
 /// due, and its line and due tick do not change.
 pub(crate) fn run_due_event<L: Ledger>(
     m: &Machine,
     q: &Quantizer,
-    tick: u64,
+    before: u64,
     s: &mut Store,
     steps: &mut Steps<L>,
 ) -> Result<(), Over>
-    requires { HasDueRemoved m.now tick s.old }
-    ensures visited { IsEventRun m.now q.now.name tick s.old s.new (overflow_of result) steps.old
+    requires { HasDueRemoved m.now before s.old }
+    ensures visited { IsEventRun m.now q.now.name before s.old s.new (overflow_of result) steps.old
         steps.new }
     ensures kept { overflow_of result ≡ None → (j : ℕ) → j < state_count m.now
-        → is_touched m.now (tick + 1) (snapshot_of tick s.old) (snapshot_of (tick + 1) s.new) j
+        → is_touched m.now (before + 1) (snapshot_of before s.old) (snapshot_of (before + 1) s.new) j
         ≡ false
         → (line_at s.new.states.lines.items j ≡ line_at s.old.states.lines.items j)
         × (due_at s.new.agenda j ≡ due_at s.old.agenda j)
@@ -225,7 +211,7 @@ pub(crate) fn run_due_event<L: Ledger>(
 {
     let at = StatesAt {
         machine: m,
-        tick: tick + 1,
+        tick: before + 1,
         states: &s.states,
     };
     s.conditions
@@ -233,13 +219,13 @@ pub(crate) fn run_due_event<L: Ledger>(
     let handled = HandlerArrival {
         machine: m,
         uses: &s.uses,
-        tick: tick + 1,
+        tick: before + 1,
         moved: &s.moment.moved,
         assigned: &s.moment.assigned,
         work: &s.work,
     };
     s.states.requantize(&handled, q, &mut s.rows)?;
-    continue_after_handlers(m, tick + 1, s, steps);
+    continue_after_handlers(m, before + 1, s, steps);
     Ok(())
 }
 

@@ -20,43 +20,43 @@ begins start at_arrival begun tick come begin = begin ∙ ap (at_first at_arriva
 abbrev done_from : Machine → List Bool → Values → HandlerState
 done_from m flags w = run_clauses m w.tick w.pre 0 (handling_of w) m.clauses flags
 
-pub move_handler_work_states-requires-clause-may_arrive : goal.move_handler_work_states-requires-clause-may_arrive
-move_handler_work_states-requires-clause-may_arrive c = may_arrive c.requires.values.states c.requires.lines.up_to
+pub move_work_read_by_branches-requires-clause-may_arrive : goal.move_work_read_by_branches-requires-clause-may_arrive
+move_work_read_by_branches-requires-clause-may_arrive c = may_arrive c.requires.values.states c.requires.lines.up_to
 
 pub run_fired_handlers-requires-clause-fits : goal.run_fired_handlers-requires-clause-fits
 run_fired_handlers-requires-clause-fits c =
     let start : Values = c.args.work.now in
-    let at_arrival : Values = c.move_handler_work_states.new.work in
+    let at_arrival : Values = c.move_work_read_by_branches.new.work in
     let states = states_at c.args.at.now.states.now.lines.items c.args.at.now.tick in
     let many : length start.x ≡ length states = c.requires.values.states ∙ sym (length-states_at c.args.at.now.states.now.lines.items c.args.at.now.tick ∙ c.requires.lines.up_to.as_many) in
     let first : AreValuesOf c.args.at.now.machine.now (at_first at_arrival.x c.args.at.now.tick start) = record {
-      states = c.move_handler_work_states.ensures.states.as_many ∙ c.requires.values.states;
+      states = c.move_work_read_by_branches.ensures.states.as_many ∙ c.requires.values.states;
       discretes = c.requires.values.discretes;
       before = c.requires.values.discretes;
-      small_states = arrived_small 88 _ states start.x at_arrival.x many c.requires.lines.small c.requires.values.small_states c.move_handler_work_states.ensures.states;
+      small_states = arrived_small 88 _ states start.x at_arrival.x many c.requires.lines.small c.requires.values.small_states c.move_work_read_by_branches.ensures.states;
       small_discretes = c.requires.values.small_discretes;
       small_before = c.requires.values.small_discretes;
       in_time = c.requires.lines.up_to.in_time;
     } in
-    subst (AreValuesOf c.args.at.now.machine.now) (sym (begins start at_arrival c.begin.new.self c.args.at.now.tick c.move_handler_work_states.ensures.work c.begin.ensures)) first
+    subst (AreValuesOf c.args.at.now.machine.now) (sym (begins start at_arrival c.begin.new.self c.args.at.now.tick c.move_work_read_by_branches.ensures.work c.begin.ensures)) first
 
 pub returns : goal.returns
 returns c =
     let m = c.args.at.now.machine.now in
     let start : Values = c.args.work.now in
-    let at_arrival : Values = c.move_handler_work_states.new.work in
+    let at_arrival : Values = c.move_work_read_by_branches.new.work in
     let after : Values = c.run_fired_handlers.new.w in
     let tick = c.args.at.now.tick in
     let fired = c.args.fired.now in
     let flags : List Bool = flags_of (length c.args.branches.now) fired in
     let states = states_at c.args.at.now.states.now.lines.items tick in
     let many : length start.x ≡ length states = c.requires.values.states ∙ sym (length-states_at c.args.at.now.states.now.lines.items tick ∙ c.requires.lines.up_to.as_many) in
-    let come = c.move_handler_work_states.ensures.states in
+    let come = c.move_work_read_by_branches.ensures.states in
     let ideal : HandlerState = handling_of_fired m tick states start.d fired in
     let done : HandlerState = done_from m flags (at_first at_arrival.x tick start) in
     let agree : Agree (λ j. int_at at_arrival.x j ≡ int_at states j) done ideal =
     fired_agree m c.args.branches.now fired c.requires.due.of c.requires.due.numbers tick states at_arrival.x start.d start.x (come.as_many ∙ many) come in
-    let begun = begins start at_arrival c.begin.new.self tick c.move_handler_work_states.ensures.work c.begin.ensures in
+    let begun = begins start at_arrival c.begin.new.self tick c.move_work_read_by_branches.ensures.work c.begin.ensures in
     let values : after ≡ values_after (at_first at_arrival.x tick start) done = c.run_fired_handlers.ensures.values ∙ ap (λ (w : Values). values_after w (done_from m flags w)) begun in
     let own = ap (λ (w : Values). w.x) values in
     let state = λ (j : ℕ) (same : int_at at_arrival.x j ≡ int_at states j). ap (λ xs. int_at xs j) own ∙ agree.states j same in

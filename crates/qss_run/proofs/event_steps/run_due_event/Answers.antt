@@ -27,7 +27,7 @@ use Rattle.qss_run.proofs.event_steps.run_due_event.Goals as goal
 pub handle_changed_conditions-requires-clause-ready : goal.handle_changed_conditions-requires-clause-ready
 handle_changed_conditions-requires-clause-ready g c =
     let m = c.args.m.now in
-    let t = c.args.tick + 1 in
+    let t = c.args.before + 1 in
     let s : Store = c.args.s.now in
     let agenda : List (Option ℕ) = c.requires.taken.0 in
     let taken = c.requires.taken.1 in
@@ -37,10 +37,10 @@ handle_changed_conditions-requires-clause-ready g c =
         fits = fits.own_conditions;
         numbers = taken.changing.numbers;
         watched = λ place h.
-            watched_then m c.args.tick agenda s taken c.requires.in_time place h;
+            watched_then m c.args.before agenda s taken c.requires.in_time place h;
         alike = taken.stands.alike;
         others = λ place h none.
-            let both = rest_as_before m c.args.tick agenda s taken c.requires.in_time place h none in
+            let both = rest_as_before m c.args.before agenda s taken c.requires.in_time place h none in
             both;
       };
       lines = record {
@@ -53,22 +53,22 @@ handle_changed_conditions-requires-clause-ready g c =
         };
         numbers = taken.due.numbers;
         others_small = λ j h none.
-            rest_small m c.args.tick agenda s taken c.requires.in_time j h none;
+            rest_small m c.args.before agenda s taken c.requires.in_time j h none;
       };
       values = fits.values;
       places = omega (arith, taken.without.as_many, fits.places);
-      taken = record { later = later_dues m c.args.tick agenda s taken c.requires.in_time; none = taken.without.states };
+      taken = record { later = later_dues m c.args.before agenda s taken c.requires.in_time; none = taken.without.states };
     }
 
 pub returns-in_err-handle_changed_conditions-clause-visited : goal.returns-in_err-handle_changed_conditions-clause-visited
 returns-in_err-handle_changed_conditions-clause-visited g c =
     let m = c.args.m.now in
-    let t = c.args.tick + 1 in
+    let t = c.args.before + 1 in
     let s : Store = c.args.s.now in
     let agenda : List (Option ℕ) = c.requires.taken.0 in
     let h : HandlerState = handling_from m t (states_at s.states.lines.items t) s.work.d s.conditions.at_arrival.items s.conditions.after_handlers.items in
-    let is_h : h ≡ handlers_at m t (snapshot_of c.args.tick s) =
-    handles m c.args.tick (record s { agenda = agenda }) c.requires.taken.1.stands in
+    let is_h : h ≡ handlers_at m t (snapshot_of c.args.before s) =
+    handles m c.args.before (record s { agenda = agenda }) c.requires.taken.1.stands in
     let given : c.from_residual.result ≡ Err c.in_err-handle_changed_conditions.field-0.0 =
     search rules in
     let some : is_some (overflow_of c.from_residual.result) ≡ true =
@@ -76,7 +76,7 @@ returns-in_err-handle_changed_conditions-clause-visited g c =
     let same : overflow_of c.from_residual.result ≡ overflow_of c.handle_changed_conditions.result =
     ap overflow_of given ∙ ap overflow_of (sym c.in_err-handle_changed_conditions.was) in
     record {
-      stepped = early (IsAllowedLevel c.args.q.now.name) m t (snapshot_of c.args.tick s) _ (overflow_of c.from_residual.result) some (same ∙ c.handle_changed_conditions.ensures.overflow ∙ ap (λ (k : HandlerState). k.overflow) is_h);
+      stepped = early (IsAllowedLevel c.args.q.now.name) m t (snapshot_of c.args.before s) _ (overflow_of c.from_residual.result) some (same ∙ c.handle_changed_conditions.ensures.overflow ∙ ap (λ (k : HandlerState). k.overflow) is_h);
       rows = λ none. clash (overflow_of c.from_residual.result) some none;
       stands = λ none. clash (overflow_of c.from_residual.result) some none;
       room = refl;
@@ -96,14 +96,14 @@ returns-in_err-requantize-clause-kept g c none =
 pub requantize-requires : goal.requantize-requires
 requantize-requires g c =
     let m = c.args.m.now in
-    let t = c.args.tick + 1 in
+    let t = c.args.before + 1 in
     let s : Store = c.args.s.now in
     let agenda : List (Option ℕ) = c.requires.taken.0 in
     let taken = c.requires.taken.1 in
     let stands = taken.stands in
     let h : HandlerState = handling_from m t (states_at s.states.lines.items t) s.work.d s.conditions.at_arrival.items s.conditions.after_handlers.items in
-    let is_h : h ≡ handlers_at m t (snapshot_of c.args.tick s) =
-    handles m c.args.tick (record s { agenda = agenda }) stands in
+    let is_h : h ≡ handlers_at m t (snapshot_of c.args.before s) =
+    handles m c.args.before (record s { agenda = agenda }) stands in
     let calm : overflow_of c.handle_changed_conditions.result ≡ None =
     ap overflow_of c.in_ok-handle_changed_conditions.was in
     let moved = c.handle_changed_conditions.new.moment.moved.items in
@@ -128,14 +128,14 @@ requantize-requires g c =
         lines = stands.fits.lines;
         levels = stands.fits.levels;
         of_lines = record {
-          small = levels_small m c.args.tick (record s { agenda = agenda }) stands;
+          small = levels_small m c.args.before (record s { agenda = agenda }) stands;
           light = ap (λ p. position (exceeds_row_limits m s.states.levels.items p) m.rows) of_pre ∙ stands.stands_for.left.light;
           own_levels = λ j inside. (stands.stands_for.lines j inside).own_level;
         };
         weights = subst (λ p. AreWeights m s.states.levels.items p s.states.weights) (sym of_pre) stands.own_weights;
       };
       left = λ idle. subst (λ js. HaveLeft m js new.x s.states.levels.items) (sym c.deref.ensures.value)
-          (have_left m c.args.tick agenda s taken c.requires.in_time moved assigned new h handled is_h idle);
+          (have_left m c.args.before agenda s taken c.requires.in_time moved assigned new h handled is_h idle);
       room = omega (
         arith,
         ap (λ (v : Values). length v.log) handled.values,
@@ -147,13 +147,13 @@ requantize-requires g c =
 pub returns-in_err-requantize-clause-visited : goal.returns-in_err-requantize-clause-visited
 returns-in_err-requantize-clause-visited g c =
     let m = c.args.m.now in
-    let t = c.args.tick + 1 in
+    let t = c.args.before + 1 in
     let s : Store = c.args.s.now in
     let agenda : List (Option ℕ) = c.requires.taken.0 in
     let taken = c.requires.taken.1 in
     let h : HandlerState = handling_from m t (states_at s.states.lines.items t) s.work.d s.conditions.at_arrival.items s.conditions.after_handlers.items in
-    let is_h : h ≡ handlers_at m t (snapshot_of c.args.tick s) =
-    handles m c.args.tick (record s { agenda = agenda }) taken.stands in
+    let is_h : h ≡ handlers_at m t (snapshot_of c.args.before s) =
+    handles m c.args.before (record s { agenda = agenda }) taken.stands in
     let calm : overflow_of c.handle_changed_conditions.result ≡ None =
     ap overflow_of c.in_ok-handle_changed_conditions.was in
     let moved = c.handle_changed_conditions.new.moment.moved.items in
@@ -165,7 +165,7 @@ returns-in_err-requantize-clause-visited g c =
     let fresh : List ℤ = c.requantize.ensures.taken.0 in
     let to : AreMovedTo m c.deref.result.now new.x s.states.levels.items h.states =
     subst (λ js. AreMovedTo m js new.x s.states.levels.items h.states) (sym c.deref.ensures.value)
-    (moved_to m c.args.tick agenda s taken c.requires.in_time moved assigned new h handled) in
+    (moved_to m c.args.before agenda s taken c.requires.in_time moved assigned new h handled) in
     let allowed : AreNextLevels (IsAllowedLevel c.args.q.now.name) m h.states s.states.levels.items fresh =
     c.requantize.ensures.taken.1.allowed h.states to in
     let over : overflow_of c.requantize.result ≡ option_or (first_exceeding 43 fresh) (position (exceeds_row_limits m fresh h.discretes) m.rows) =
@@ -177,7 +177,7 @@ returns-in_err-requantize-clause-visited g c =
     let same : overflow_of c.from_residual-in_err-requantize.result ≡ overflow_of c.requantize.result =
     ap overflow_of given ∙ ap overflow_of (sym c.in_err-requantize.was) in
     record {
-      stepped = late (IsAllowedLevel c.args.q.now.name) m t (snapshot_of c.args.tick s) _ h fresh (overflow_of c.from_residual-in_err-requantize.result) some is_h calm_h allowed (same ∙ over);
+      stepped = late (IsAllowedLevel c.args.q.now.name) m t (snapshot_of c.args.before s) _ h fresh (overflow_of c.from_residual-in_err-requantize.result) some is_h calm_h allowed (same ∙ over);
       rows = λ none. clash (overflow_of c.from_residual-in_err-requantize.result) some none;
       stands = λ none. clash (overflow_of c.from_residual-in_err-requantize.result) some none;
       room = c.requantize.ensures.room;
@@ -187,13 +187,13 @@ returns-in_err-requantize-clause-visited g c =
 pub continue_after_handlers-requires : goal.continue_after_handlers-requires
 continue_after_handlers-requires g c =
     let m = c.args.m.now in
-    let t = c.args.tick + 1 in
+    let t = c.args.before + 1 in
     let s : Store = c.args.s.now in
     let agenda : List (Option ℕ) = c.requires.taken.0 in
     let taken = c.requires.taken.1 in
     let h : HandlerState = handling_from m t (states_at s.states.lines.items t) s.work.d s.conditions.at_arrival.items s.conditions.after_handlers.items in
-    let is_h : h ≡ handlers_at m t (snapshot_of c.args.tick s) =
-    handles m c.args.tick (record s { agenda = agenda }) taken.stands in
+    let is_h : h ≡ handlers_at m t (snapshot_of c.args.before s) =
+    handles m c.args.before (record s { agenda = agenda }) taken.stands in
     let calm : overflow_of c.handle_changed_conditions.result ≡ None =
     ap overflow_of c.in_ok-handle_changed_conditions.was in
     let moved = c.handle_changed_conditions.new.moment.moved.items in
@@ -206,7 +206,7 @@ continue_after_handlers-requires g c =
     let fresh : List ℤ = c.requantize.ensures.taken.0 in
     let to : AreMovedTo m c.deref.result.now new.x s.states.levels.items h.states =
     subst (λ js. AreMovedTo m js new.x s.states.levels.items h.states) (sym c.deref.ensures.value)
-    (moved_to m c.args.tick agenda s taken c.requires.in_time moved assigned new h handled) in
+    (moved_to m c.args.before agenda s taken c.requires.in_time moved assigned new h handled) in
     let allowed : AreNextLevels (IsAllowedLevel c.args.q.now.name) m h.states s.states.levels.items fresh =
     c.requantize.ensures.taken.1.allowed h.states to in
     let over : overflow_of c.requantize.result ≡ option_or (first_exceeding 43 fresh) (position (exceeds_row_limits m fresh h.discretes) m.rows) =
@@ -223,7 +223,7 @@ continue_after_handlers-requires g c =
     subst (λ l. AreNextLevels (IsAllowedLevel c.args.q.now.name) m h.states s.states.levels.items l) (sym are_fresh) allowed in
     let after = c.handle_changed_conditions.new.agenda in
     let without = c.handle_changed_conditions.ensures.without calm in
-    let w : Snapshot = snapshot_of c.args.tick s in
+    let w : Snapshot = snapshot_of c.args.before s in
     let of_log = ap (λ (v : Values). v.log) handled.values in
     rw c.requantize.ensures.same (record {
       fits = record {
@@ -249,12 +249,12 @@ continue_after_handlers-requires g c =
       assigned = handled.assigns;
       states = record {
         numbers = handled.numbers;
-        reinitialized = λ j e. reinits_known m c.args.tick agenda s taken c.requires.in_time moved assigned new h handled j (sym (ap (λ rows. is_reinitialized rows j) of_log) ∙ e);
+        reinitialized = λ j e. reinits_known m c.args.before agenda s taken c.requires.in_time moved assigned new h handled j (sym (ap (λ rows. is_reinitialized rows j) of_log) ∙ e);
         still = λ j inside none.
             ap (λ xs. int_at xs j) (sym handled.own_states)
             ∙ ap (λ (k : HandlerState). int_at k.states j) is_h
             ∙ kept_state m t w j (sym (ap (λ rows. is_reinitialized rows j) (of_log ∙ ap (λ (k : HandlerState). k.rows) is_h)) ∙ none)
-            ∙ ap (λ xs. int_at xs j) (sym (arrives m c.args.tick (record s { agenda = agenda }) taken.stands))
+            ∙ ap (λ xs. int_at xs j) (sym (arrives m c.args.before (record s { agenda = agenda }) taken.stands))
             ∙ int_at-states_at s.states.lines.items t j (omega (arith, inside, fits.lines));
         small = subst (All (IsWithin 88)) handled.own_states handled.small;
       };
@@ -265,32 +265,32 @@ continue_after_handlers-requires g c =
           watched = subst (λ (all : Conditions). IsDetectorAt m t (states_at s.states.lines.items t) new.pre s.states.slopes.items place (detector_at all.detectors.items place) (due_at after (state_count m + place))) (sym c.handle_changed_conditions.ensures.rest)
               (subst (λ p. IsDetectorAt m t (states_at s.states.lines.items t) p s.states.slopes.items place (detector_at s.conditions.detectors.items place) (due_at after (state_count m + place))) (sym of_pre)
               (subst (λ found. IsDetectorAt m t (states_at s.states.lines.items t) s.work.d s.states.slopes.items place (detector_at s.conditions.detectors.items place) found)
-              (sym (conditions_stay m c.args.tick agenda s taken c.requires.in_time moved assigned new h handled after without place))
-              (watched_still m c.args.tick agenda s taken c.requires.in_time place inside none)));
+              (sym (conditions_stay m c.args.before agenda s taken c.requires.in_time moved assigned new h handled after without place))
+              (watched_still m c.args.before agenda s taken c.requires.in_time place inside none)));
           own_truth = ap (λ (all : Conditions). flag_at all.after_handlers.items place) c.handle_changed_conditions.ensures.rest
-              ∙ sym (flag_same m c.args.tick agenda s taken c.requires.in_time place inside none)
+              ∙ sym (flag_same m c.args.before agenda s taken c.requires.in_time place inside none)
               ∙ ap (λ p. truth m (condition_at m place) (states_at s.states.lines.items t) p t) (sym of_pre);
         };
       });
       small_levels = c.requantize.ensures.size_limit fine;
       levels = record {
-        near = near_after m c.args.tick agenda s taken c.requires.in_time moved assigned new h handled c.args.q.now.name levels allowed_now;
+        near = near_after m c.args.before agenda s taken c.requires.in_time moved assigned new h handled c.args.q.now.name levels allowed_now;
         light = ap (λ l. position (exceeds_row_limits m l new.d) m.rows) are_fresh ∙ ap (λ d. position (exceeds_row_limits m fresh d) m.rows) of_d ∙ none_both.1;
       };
       weights = c.requantize.ensures.weights fine;
       held = record {
-        may_move = may_move (lines_then m c.args.tick agenda s taken c.requires.in_time
+        may_move = may_move (lines_then m c.args.before agenda s taken c.requires.in_time
             (none_early m t (states_at s.states.lines.items t) s.work.d s.conditions.at_arrival.items s.conditions.after_handlers.items calm_h));
-        earlier = earlier m c.args.tick agenda s taken c.requires.in_time;
+        earlier = earlier m c.args.before agenda s taken c.requires.in_time;
         before = (
           s.states.levels.items,
           subst (λ p. AreSumsBefore Slope m moved levels p s.states.slopes.items s.states.lines.items s.states.levels.items) (sym of_pre)
-              (levels_before m c.args.tick agenda s taken c.requires.in_time moved levels off),
+              (levels_before m c.args.before agenda s taken c.requires.in_time moved levels off),
         );
-        own_slope = own_slope m c.args.tick agenda s taken c.requires.in_time;
-        due = due_after m c.args.tick agenda s taken c.requires.in_time moved assigned new h handled c.args.q.now.name levels allowed_now after without;
+        own_slope = own_slope m c.args.before agenda s taken c.requires.in_time;
+        due = due_after m c.args.before agenda s taken c.requires.in_time moved assigned new h handled c.args.q.now.name levels allowed_now after without;
       };
-      behind = conditions_stay m c.args.tick agenda s taken c.requires.in_time moved assigned
+      behind = conditions_stay m c.args.before agenda s taken c.requires.in_time moved assigned
           new h handled after without (length (conditions m))
           ∙ taken.without.behind;
     })
@@ -298,13 +298,13 @@ continue_after_handlers-requires g c =
 pub returns-clause-visited : goal.returns-clause-visited
 returns-clause-visited g c =
     let m = c.args.m.now in
-    let t = c.args.tick + 1 in
+    let t = c.args.before + 1 in
     let s : Store = c.args.s.now in
     let agenda : List (Option ℕ) = c.requires.taken.0 in
     let taken = c.requires.taken.1 in
     let h : HandlerState = handling_from m t (states_at s.states.lines.items t) s.work.d s.conditions.at_arrival.items s.conditions.after_handlers.items in
-    let is_h : h ≡ handlers_at m t (snapshot_of c.args.tick s) =
-    handles m c.args.tick (record s { agenda = agenda }) taken.stands in
+    let is_h : h ≡ handlers_at m t (snapshot_of c.args.before s) =
+    handles m c.args.before (record s { agenda = agenda }) taken.stands in
     let calm : overflow_of c.handle_changed_conditions.result ≡ None =
     ap overflow_of c.in_ok-handle_changed_conditions.was in
     let moved = c.handle_changed_conditions.new.moment.moved.items in
@@ -316,7 +316,7 @@ returns-clause-visited g c =
     let fresh : List ℤ = c.requantize.ensures.taken.0 in
     let to : AreMovedTo m c.deref.result.now new.x s.states.levels.items h.states =
     subst (λ js. AreMovedTo m js new.x s.states.levels.items h.states) (sym c.deref.ensures.value)
-    (moved_to m c.args.tick agenda s taken c.requires.in_time moved assigned new h handled) in
+    (moved_to m c.args.before agenda s taken c.requires.in_time moved assigned new h handled) in
     let allowed : AreNextLevels (IsAllowedLevel c.args.q.now.name) m h.states s.states.levels.items fresh =
     c.requantize.ensures.taken.1.allowed h.states to in
     let over : overflow_of c.requantize.result ≡ option_or (first_exceeding 43 fresh) (position (exceeds_row_limits m fresh h.discretes) m.rows) =
@@ -326,12 +326,12 @@ returns-clause-visited g c =
     let levels : List ℤ = c.requantize.new.self.levels.items in
     let are_fresh : levels ≡ fresh = c.requantize.ensures.taken.1.levels fine in
     let fits = taken.stands.fits in
-    let w : Snapshot = snapshot_of c.args.tick s in
+    let w : Snapshot = snapshot_of c.args.before s in
     let next : Snapshot = snapshot_of t c.continue_after_handlers.new.s in
     let x : List ℤ = states_with s.states.lines.items t moved new.x in
     let of_x : x ≡ h.states = sym handled.own_states in
     let at_arrival : List Bool = c.handle_changed_conditions.new.self.at_arrival.items in
-    let files_read : states_at s.states.lines.items t ≡ moved_states m w = arrives m c.args.tick (record s { agenda = agenda }) taken.stands in
+    let files_read : states_at s.states.lines.items t ≡ moved_states m w = arrives m c.args.before (record s { agenda = agenda }) taken.stands in
     let of_arrived : at_arrival ≡ truths m (moved_states m w) s.work.d t =
     c.handle_changed_conditions.ensures.at_arrival calm
     ∙ ap (λ y. truths m y s.work.d t) files_read in
@@ -374,13 +374,13 @@ returns-clause-visited g c =
 pub returns-clause-kept : goal.returns-clause-kept
 returns-clause-kept g c none j inside unaffected =
     let m = c.args.m.now in
-    let t = c.args.tick + 1 in
+    let t = c.args.before + 1 in
     let s : Store = c.args.s.now in
     let agenda : List (Option ℕ) = c.requires.taken.0 in
     let taken = c.requires.taken.1 in
     let h : HandlerState = handling_from m t (states_at s.states.lines.items t) s.work.d s.conditions.at_arrival.items s.conditions.after_handlers.items in
-    let is_h : h ≡ handlers_at m t (snapshot_of c.args.tick s) =
-    handles m c.args.tick (record s { agenda = agenda }) taken.stands in
+    let is_h : h ≡ handlers_at m t (snapshot_of c.args.before s) =
+    handles m c.args.before (record s { agenda = agenda }) taken.stands in
     let calm : overflow_of c.handle_changed_conditions.result ≡ None =
     ap overflow_of c.in_ok-handle_changed_conditions.was in
     let moved = c.handle_changed_conditions.new.moment.moved.items in
@@ -390,7 +390,7 @@ returns-clause-kept g c none j inside unaffected =
     let fresh : List ℤ = c.requantize.ensures.taken.0 in
     let to : AreMovedTo m c.deref.result.now new.x s.states.levels.items h.states =
     subst (λ js. AreMovedTo m js new.x s.states.levels.items h.states) (sym c.deref.ensures.value)
-    (moved_to m c.args.tick agenda s taken c.requires.in_time moved assigned new h handled) in
+    (moved_to m c.args.before agenda s taken c.requires.in_time moved assigned new h handled) in
     let allowed : AreNextLevels (IsAllowedLevel c.args.q.now.name) m h.states s.states.levels.items fresh =
     c.requantize.ensures.taken.1.allowed h.states to in
     let fine : overflow_of c.requantize.result ≡ None = ap overflow_of c.in_ok-requantize.was in
@@ -399,7 +399,7 @@ returns-clause-kept g c none j inside unaffected =
     let allowed_now : AreNextLevels (IsAllowedLevel c.args.q.now.name) m h.states s.states.levels.items levels =
     subst (λ l. AreNextLevels (IsAllowedLevel c.args.q.now.name) m h.states s.states.levels.items l) (sym are_fresh) allowed in
     let fits = taken.stands.fits in
-    let w : Snapshot = snapshot_of c.args.tick s in
+    let w : Snapshot = snapshot_of c.args.before s in
     let last : Store = c.continue_after_handlers.new.s in
     let next : Snapshot = snapshot_of t last in
     let x : List ℤ = states_with s.states.lines.items t moved new.x in
@@ -412,7 +412,7 @@ returns-clause-kept g c none j inside unaffected =
     fits.values.discretes (ap length next_discretes ∙ handled.fits.discretes) s.states.lines.items slopes
     (λ k known. (taken.stands.stands_for.lines k known).own_level) (λ k known. (taken.stands.stands_for.lines k known).own_slope)
     (ap (λ l. tabulate (state_count m) (λ k. slope_at m k l new.d)) (sym next_levels) ∙ ap (λ d. tabulate (state_count m) (λ k. slope_at m k next.levels d)) (sym next_discretes))
-    x j inside still (on_line m c.args.tick agenda s taken c.requires.in_time moved assigned new h handled is_h c.args.q.now.name levels allowed_now next next_levels j inside still) in
+    x j inside still (on_line m c.args.before agenda s taken c.requires.in_time moved assigned new h handled is_h c.args.q.now.name levels allowed_now next next_levels j inside still) in
     let of_lines : c.requantize.new.self.lines.items ≡ s.states.lines.items =
     ap (λ (v : States). v.lines.items) c.requantize.ensures.same in
     let line : line_at last.states.lines.items j ≡ line_at s.states.lines.items j =
@@ -421,8 +421,8 @@ returns-clause-kept g c none j inside unaffected =
     ∙ ap (λ z. goes_from t (int_at x j) (int_at next.levels j) z (line_at s.states.lines.items j)) (sym (int_at-tabulate (state_count m) (λ k. slope_at m k levels new.d) j inside))
     ∙ goes) in (
       line,
-      same_due m c.args.tick agenda s taken c.requires.in_time moved assigned new h handled is_h c.args.q.now.name levels allowed_now next next_levels j inside still
+      same_due m c.args.before agenda s taken c.requires.in_time moved assigned new h handled is_h c.args.q.now.name levels allowed_now next next_levels j inside still
           c.handle_changed_conditions.new.agenda last.agenda (c.handle_changed_conditions.ensures.without calm) (line_at last.states.lines.items j) line
           (c.continue_after_handlers.ensures.stands.stands_for.dues j inside),
-      not_due m c.args.tick agenda s taken c.requires.in_time moved assigned new h handled is_h c.args.q.now.name levels allowed_now next next_levels j inside still,
+      not_due m c.args.before agenda s taken c.requires.in_time moved assigned new h handled is_h c.args.q.now.name levels allowed_now next next_levels j inside still,
     )

@@ -22,15 +22,15 @@ make_risen_due-requires-clause-ready g c =
     }
 
 pub make_risen_due-requires-clause-none_risen : goal.make_risen_due-requires-clause-none_risen
-make_risen_due-requires-clause-none_risen g c calm place h = none_to_call c.args.m.now c.args.tick c.args.s.now c.requires.stands calm place
+make_risen_due-requires-clause-none_risen g c calm place h = none_to_call c.args.m.now c.args.before c.args.s.now c.requires.stands calm place
 
 pub take_due_states-requires-clause-none_before : goal.take_due_states-requires-clause-none_before
 take_due_states-requires-clause-none_before g c =
     let s : Store = c.args.s.now in
     let fits = c.requires.stands.fits in
-    none_called_before c.len-states.result (c.args.tick + 1) s.conditions s.agenda c.make_risen_due.new.agenda c.make_risen_due.ensures
+    none_called_before c.len-states.result (c.args.before + 1) s.conditions s.agenda c.make_risen_due.new.agenda c.make_risen_due.ensures
     (omega (arith, fits.places, c.len-states.ensures, s.states.lines.ok.0, fits.lines, fits.own_conditions.after_handlers))
-    (λ place due e. omega (arith, dues_later c.args.m.now c.args.tick s c.requires.stands place due e))
+    (λ place due e. omega (arith, dues_later c.args.m.now c.args.before s c.requires.stands place due e))
 
 pub take_due_conditions-requires-clause-count_limit : goal.take_due_conditions-requires-clause-count_limit
 take_due_conditions-requires-clause-count_limit g c =
@@ -51,10 +51,10 @@ pub take_due_conditions-requires-clause-none_before : goal.take_due_conditions-r
 take_due_conditions-requires-clause-none_before g c =
     let s : Store = c.args.s.now in
     let fits = c.requires.stands.fits in
-    none_left_before c.len-states.result (c.args.tick + 1) c.take_due_states.new.moved.items c.make_risen_due.new.agenda c.take_due_states.new.agenda c.take_due_states.ensures.due c.take_due_states.ensures.out.without
-    (none_called_before c.len-states.result (c.args.tick + 1) s.conditions s.agenda c.make_risen_due.new.agenda c.make_risen_due.ensures
+    none_left_before c.len-states.result (c.args.before + 1) c.take_due_states.new.moved.items c.make_risen_due.new.agenda c.take_due_states.new.agenda c.take_due_states.ensures.due c.take_due_states.ensures.out.without
+    (none_called_before c.len-states.result (c.args.before + 1) s.conditions s.agenda c.make_risen_due.new.agenda c.make_risen_due.ensures
     (omega (arith, fits.places, c.len-states.ensures, s.states.lines.ok.0, fits.lines, fits.own_conditions.after_handlers))
-    (λ place due e. omega (arith, dues_later c.args.m.now c.args.tick s c.requires.stands place due e)))
+    (λ place due e. omega (arith, dues_later c.args.m.now c.args.before s c.requires.stands place due e)))
 
 pub run_due_event-requires : goal.run_due_event-requires
 run_due_event-requires g c =
@@ -66,7 +66,7 @@ run_due_event-requires g c =
     record {
       taken = (
         s.agenda,
-        is_taken m c.args.tick s c.len-states.result c.len-conditions.result c.take_due_states.new.moved c.take_due_conditions.new.changed
+        is_taken m c.args.before s c.len-states.result c.len-conditions.result c.take_due_states.new.moved c.take_due_conditions.new.changed
             c.make_risen_due.new.agenda c.take_due_states.new.agenda c.take_due_conditions.new.agenda c.requires.stands states places
             c.make_risen_due.ensures c.take_due_states.ensures.due c.take_due_states.ensures.out.without c.take_due_conditions.ensures.changing c.take_due_conditions.ensures.taken c.take_due_states.ensures.out.room c.take_due_conditions.ensures.room,
       );

@@ -9,16 +9,16 @@ use Rattle.qss_run.proofs.Rewatching.{settled_at}
 use Rattle.qss_run.proofs.Settling.{arrived_of}
 use Rattle.qss_run.proofs.run_conditions.Conditions.settle_detector_along.Goals as goal
 
-pub move_work_states_read-requires : goal.move_work_states_read-requires
-move_work_states_read-requires c = may_arrive c.requires.ready.values.states c.requires.ready.moment.lines.up_to
+pub move_work_read_by_form-requires : goal.move_work_read_by_form-requires
+move_work_read_by_form-requires c = may_arrive c.requires.ready.values.states c.requires.ready.moment.lines.up_to
 
 pub settle_detector-requires-clause-allowed : goal.settle_detector-requires-clause-allowed
 settle_detector-requires-clause-allowed c =
     let at = c.args.at.now in
     let ready = c.requires.ready in
     let full : List ℤ = states_at at.lines.now at.tick in
-    let read = c.move_work_states_read.ensures in
-    let left : Values = c.move_work_states_read.new.work in
+    let read = c.move_work_read_by_form.ensures in
+    let left : Values = c.move_work_read_by_form.new.work in
     let x : c.deref.result.now ≡ left.x = c.deref.ensures.value ∙ ap (λ (v : Values). v.x) c.work.view_is in
     let d : c.deref-2.result.now ≡ c.args.work.now.d = c.deref-2.ensures.value ∙ ap (λ (v : Values). v.d) c.work.view_is ∙ ap (λ (v : Values). v.d) read.work in
     let many : length c.args.work.now.x ≡ length full = ready.values.states ∙ sym ready.moment.lines.up_to.as_many ∙ sym (length-states_at at.lines.now at.tick) in
@@ -45,8 +45,8 @@ returns c =
     let place : ℕ = c.args.place in
     let ready = c.requires.ready in
     let full : List ℤ = states_at at.lines.now at.tick in
-    let read = c.move_work_states_read.ensures in
-    let left : Values = c.move_work_states_read.new.work in
+    let read = c.move_work_read_by_form.ensures in
+    let left : Values = c.move_work_read_by_form.new.work in
     let work : Values = c.args.work.now in
     let before = detector_states_of c.args.self.now c.args.agenda.now in
     let after = detector_states_of c.settle_detector.new.self c.settle_detector.new.agenda in

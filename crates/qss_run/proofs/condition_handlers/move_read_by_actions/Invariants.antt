@@ -1,5 +1,5 @@
 use Rattle.qss_run.proofs.Common.{action_reads, AreArrived, list_any, states_at, take}
-use Rattle.qss_run.proofs.condition_handlers.move_states_handlers_read.Given as goal
+use Rattle.qss_run.proofs.condition_handlers.move_read_by_actions.Given as goal
 
 -- the states of the statements so far
 abbrev pub invariant-loop-action : goal.invariant-loop-action

@@ -1,5 +1,5 @@
 use Rattle.qss_run.proofs.Common.{AreArrived, has_entry, states_at, take}
-use Rattle.qss_run.proofs.condition_handlers.move_handler_states_read.Given as goal
+use Rattle.qss_run.proofs.condition_handlers.move_read_by_form.Given as goal
 
 -- the states of the entries so far
 abbrev pub invariant-loop-entry : goal.invariant-loop-entry

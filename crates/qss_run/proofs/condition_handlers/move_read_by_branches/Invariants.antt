@@ -1,5 +1,5 @@
 use Rattle.qss_run.proofs.Common.{AreArrived, fired_reads, states_at, take}
-use Rattle.qss_run.proofs.condition_handlers.move_fired_handler_states.Given as goal
+use Rattle.qss_run.proofs.condition_handlers.move_read_by_branches.Given as goal
 
 -- the states of the branches so far
 abbrev pub invariant-loop-place : goal.invariant-loop-place

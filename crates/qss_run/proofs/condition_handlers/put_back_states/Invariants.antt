@@ -1,5 +1,5 @@
 use Rattle.qss_run.proofs.Common.{◌≡◌, IsWritten, None, Some, take}
-use Rattle.qss_run.proofs.event_steps.put_back_states.Given as goal
+use Rattle.qss_run.proofs.condition_handlers.put_back_states.Given as goal
 
 -- the states put back so far
 abbrev pub invariant-loop-place : goal.invariant-loop-place
