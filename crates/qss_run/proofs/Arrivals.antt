@@ -2,16 +2,16 @@
 use Rattle.qss_run.proofs.Common
 use Common.{[], ℕ, ℤ, ◌&&◌, ◌+◌, ◌<◌, ◌^◌, ◌||◌, ◌∙◌, ◌∷◌, ◌≡◌, ◌≤◌, ◌⊎◌, All, all_within, among_at}
 use Common.{ap, AreRisingBelow, AreValuesOf, arith, assigned_of, became_true, Bool, cases_Bool}
-use Common.{StatesAt, condition_at, Conditions, conditions, detector_at, discrete_count}
-use Common.{eqb, eqb-true, false, filter, firing_flags, first_exceeding, flag_at, flags_of, get_or}
+use Common.{condition_at, Conditions, conditions, detector_at, discrete_count, eqb, eqb-true, false}
+use Common.{filter, firing_flags, first_exceeding, flag_at, flags_of, get_or}
 use Common.{get_or-map-range_with_len, get_or_default, HandlerState, handling_from}
 use Common.{handling_of_fired, holds_at, if◌then◌else◌, inl, inr, int_at, int_at-states_at}
 use Common.{int_at-tabulate, is_listed, is_reinit, is_reinitialized, IsHandlerEffect, IsWithin}
 use Common.{IsWritten, length, length-map-range_with_len, length-states_at, Line, line_at, List}
 use Common.{list_any, ListsFlipped, Machine, map, None, not, Option, or_cases, or_parts, pos}
 use Common.{range_with_len, refl, Row, row_room, rows_clauses, run_clauses, same_lists, state_at}
-use Common.{state_count, states_at, states_with, subst, sym, true, truth, truths, truths_are}
-use Common.{Values}
+use Common.{state_count, states_at, states_with, StatesAt, subst, sym, true, truth, truths}
+use Common.{truths_are, Values}
 use Rattle.std.proofs.lemmas.List.Elements.{All-filter}
 use Rattle.std.proofs.lemmas.List.Kept.{IsStrictlyIncreasing-filter}
 use Rattle.std.proofs.lemmas.Map.Views.{any-filter_same}

@@ -120,8 +120,8 @@ pub use Rattle.qss_states.specs.declared.states.States.{States}
 pub use Rattle.qss_run.specs.ConditionPlaces.{AreBranches, AreConditionsOf, detector_at, IsBranchOf}
 pub use Rattle.qss_run.specs.ConditionPlaces.{IsDetectorAt, ListsFlipped}
 pub use Rattle.qss_run.specs.DetectorUpdates.{AreSettled, AreSettledAlong, detector_states_of}
-pub use Rattle.qss_run.specs.DetectorUpdates.{DetectorStates, IsSettled, one_reads, readers_before}
-pub use Rattle.qss_run.specs.DetectorUpdates.{readers_of, touched_after, touched_by, touched_of}
+pub use Rattle.qss_run.specs.DetectorUpdates.{DetectorStates, IsSettled, readers_before, readers_of}
+pub use Rattle.qss_run.specs.DetectorUpdates.{touched_after, touched_by, touched_of}
 pub use Rattle.qss_run.specs.DueLists.{AreAlikeBut, AreDue, AreRisenDue, differ, IsWithout}
 pub use Rattle.qss_run.specs.HandlerReads.{action_reads, AreArrived, fired_reads}
 pub use Rattle.qss_run.specs.HandlerResults.{AreDetectorsUpTo, flags_of, handling_from}
@@ -133,6 +133,6 @@ pub use Rattle.qss_run.specs.Stores.{CanStart, FitsMachine, HasDueRemovedFrom, I
 pub use Rattle.qss_run.specs.Stores.{snapshot_of}
 pub use Rattle.qss_run.specs.TouchCounts.{MovesTouched, touches_at, touches_left}
 pub use Rattle.qss_run.specs.declared.run_conditions.BranchPlace.{BranchPlace}
-pub use Rattle.qss_run.specs.declared.run_conditions.StatesAt.{StatesAt}
 pub use Rattle.qss_run.specs.declared.run_conditions.Conditions.{Conditions}
+pub use Rattle.qss_run.specs.declared.run_conditions.StatesAt.{StatesAt}
 pub use Rattle.qss_run.specs.declared.run_start.Store.{Store}

@@ -2,9 +2,8 @@
 use Rattle.qss_run.proofs.Common
 use Common.{[], ℕ, ℤ, ◌++◌, ◌∙◌, ◌≡◌, All, All-append, ap, AreBranches, AreConditionsOf}
 use Common.{AreDetectorsUpdated, AreSettled, AreSettledAlong, arith, Bool, Conditions, conditions}
-use Common.{detector_states_of, DetectorStates, Global, HasSpeed, IsSmall, IsWithin, length, Line}
-use Common.{List, Machine, Option, PlaceList, refl, states_at, subst, sym, touched_after, Values}
-use Common.{Vec}
+use Common.{detector_states_of, Global, HasSpeed, IsSmall, IsWithin, length, List, Machine, Option}
+use Common.{PlaceList, refl, states_at, subst, sym, Values, Vec}
 use Rattle.qss_run.specs.ConditionContexts.{CanSettle, CanUpdateDetectors}
 use Rattle.qss_run.specs.declared.run_conditions.ConditionContext.{ConditionContext}
 use Rattle.qss_run.proofs.Apart.{none_noted, noted_then}

@@ -4,11 +4,11 @@ use Common.{[], ℕ, ℤ, ◌++◌, ◌+◌, ◌<◌, ◌==◌, ◌||◌, ◌∙
 use Common.{Any-from_list_any, ap, append-nil, AreArrived, Bool, cases_lt, Condition, condition_at}
 use Common.{condition_reads, conditions, discrete_count, eqb-yes, false, false_from_ne_true}
 use Common.{flat_map, get_or_past, inl, inr, is_listed, length, Less, List, list_any}
-use Common.{list_any-append, list_any_at, Machine, one_reads, pos, readers_before, readers_of}
+use Common.{list_any-append, list_any_at, Machine, pos, readers_before, readers_of}
 use Common.{reading_conditions, reading_rows, refl, sym, touched_after, touched_by, touched_of}
 use Common.{true}
+use Rattle.qss_run.specs.DetectorUpdates.{one_reads, depends_on, settles_after}
 use Rattle.std.proofs.lemmas.Grind.{flat_map-append}
-use Rattle.qss_run.specs.DetectorUpdates.{depends_on, settles_after}
 use Rattle.qss_run.proofs.Arrived.{arrived_then}
 
 in_two : (xs ys : List ℕ) (place : ℕ) → is_listed (xs ++ ys) place ≡ (is_listed xs place || is_listed ys place)

@@ -76,7 +76,8 @@ pub record CanSettle (at : ConditionContext) (all : Conditions) (due : List (Opt
 
 -- the conditions on arrival at a tick: detectors have the truths there, and conditions that are not
 -- evaluated do not change
-pub record KnowsArrival (at : StatesAt) (changed : List ℕ) (all : Conditions) (d : List ℤ) : Type 0 where
+pub record KnowsArrival (at : StatesAt) (changed : List ℕ) (all : Conditions) (d : List ℤ) :
+    Type 0 where
   pub fits : AreConditionsOf at.machine.now all
   pub numbers : AreRisingBelow (length (conditions at.machine.now)) changed
   pub watched : (place : ℕ) → place < length (conditions at.machine.now) →

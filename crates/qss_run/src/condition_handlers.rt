@@ -1,7 +1,7 @@
 //! Runs the handlers of a tick at which conditions change. The statements of the due branches are
 //! executed, and the states and discrete variables that they set are listed.
 
-ghost use Rattle.std.specs.Prelude.{◌≡◌, ◌≤◌, [], ◌+◌, ◌<◌, ◌||◌, None, length, vec_capacity, ℕ, true, false, Some};
+ghost use Rattle.std.specs.Prelude.{◌≡◌, ◌≤◌, [], ◌+◌, ◌<◌, ◌||◌, All, None, length, vec_capacity, ℕ, true, false, Some};
 ghost use Rattle.qss_run.specs.Prelude.{conditions, truths, run_clauses, state_count, row_room, AreValuesOf, handling_of, values_after, overflow_of, states_at, CanArriveWithin, HaveArrivedWithin, AreLinesAt, MayArrive, list_any, form_of, has_entry, int_at, AreWithin, is_reinit, due_at, is_set, assigned_of, is_listed, AreRisingBelow};
 ghost use Rattle.qss_run.specs.ConditionContexts.{CanHandle};
 ghost use Rattle.qss_run.specs.ConditionPlaces.{AreConditionsOf, AreBranchesAt};
@@ -166,12 +166,7 @@ fn move_work_read_by_branches(
 }
 
 // Moves the states that the statements of these branches read to a tick along their lines.
-fn move_read_by_branches(
-    at: &StatesAt,
-    branches: &[BranchPlace],
-    fired: &[u32],
-    x: &mut [i128],
-)
+fn move_read_by_branches(at: &StatesAt, branches: &[BranchPlace], fired: &[u32], x: &mut [i128])
     requires due { AreBranchesAt at.now.machine.now branches.now fired.now }
     requires may_arrive { MayArrive at.now.tick at.now.states.now.lines.items x.old }
     ensures { AreArrived (λ j. fired_reads j at.now.machine.now branches.now fired.now)

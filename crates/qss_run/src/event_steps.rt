@@ -1,7 +1,7 @@
 //! Advances a run from one event to the next: skips event-free ticks, and runs the event step of
 //! the tick after them.
 
-ghost use Rattle.std.specs.Prelude.{◌≡◌, ◌+◌, ◌<◌, ◌^◌, if◌then◌else◌, ◌≢◌, ◌≤◌, ◌++◌, ◌-◌, ℕ, None, Some, length, All, true, false, vec_capacity, vec_len, List, Option};
+ghost use Rattle.std.specs.Prelude.{◌≡◌, ◌+◌, ◌<◌, ◌^◌, if◌then◌else◌, ◌≢◌, ◌≤◌, ◌++◌, ◌-◌, ℕ, None, Some, length, true, false, vec_capacity, vec_len, List, Option};
 ghost use Rattle.qss_run.specs.Prelude.{overflow_of, conditions, int_at, state_count, slope_at, tabulate, due_at, states_with, line_at, states_at, MayArrive, goes_from, replaced_lines_from, is_listed, state_rows, discrete_rows, snapshot_rows, last_snapshot, tick_rows, IsAllowedLevel, IsNext, tick_of, end_of, Snapshot, Rule, AreEventFree, IsVisit, variable_limit, tick_limit, is_touched, state_at};
 ghost use Rattle.qss_run.specs.Words.{IsUnderWay, snapshot_after, snapshot_of, IsStoreAt, HasDueRemoved, IsEventRun, CanContinueAfterHandlers, snapshot_left, has_risen, ListsFlipped, AreDue, AreChanging, AreMovedOut, HasRoomFor, IsTakenAfter, view_of, MovesTouched, touches_at};
 ghost use Rattle.qss_machine.specs.declared.machine_parts.RowKind.TheVariants as kind;
@@ -136,8 +136,8 @@ pub(crate) fn run_event<L: Ledger>(
     ensures visited { IsEventRun m.now q.now.name before s.old s.new (overflow_of result) steps.old
         steps.new }
     ensures kept { overflow_of result ≡ None → (j : ℕ) → j < state_count m.now
-        → is_touched m.now (before + 1) (snapshot_of before s.old) (snapshot_of (before + 1) s.new) j
-        ≡ false
+        → is_touched m.now (before + 1) (snapshot_of before s.old)
+        (snapshot_of (before + 1) s.new) j ≡ false
         → (line_at s.new.states.lines.items j ≡ line_at s.old.states.lines.items j)
         × (due_at s.new.agenda j ≡ due_at s.old.agenda j) }
 {
@@ -203,8 +203,8 @@ pub(crate) fn run_due_event<L: Ledger>(
     ensures visited { IsEventRun m.now q.now.name before s.old s.new (overflow_of result) steps.old
         steps.new }
     ensures kept { overflow_of result ≡ None → (j : ℕ) → j < state_count m.now
-        → is_touched m.now (before + 1) (snapshot_of before s.old) (snapshot_of (before + 1) s.new) j
-        ≡ false
+        → is_touched m.now (before + 1) (snapshot_of before s.old)
+        (snapshot_of (before + 1) s.new) j ≡ false
         → (line_at s.new.states.lines.items j ≡ line_at s.old.states.lines.items j)
         × (due_at s.new.agenda j ≡ due_at s.old.agenda j)
         × (is_listed s.old.moment.moved.items j ≡ false) }
@@ -297,13 +297,7 @@ fn set_last_rows(m: &Machine, s: &mut Store)
     ensures snapshot { snapshot_of m.now.last s.new ≡ snapshot_of m.now.last s.old }
 {
     move_work_states(&s.states.lines, m.last, &mut s.work);
-    set_all_rows(
-        RowKind::End,
-        m.last,
-        &s.work,
-        &s.states.levels,
-        &mut s.rows,
-    );
+    set_all_rows(RowKind::End, m.last, &s.work, &s.states.levels, &mut s.rows);
 }
 
 /// Sets the states in the values of handlers to those on their lines at a tick.

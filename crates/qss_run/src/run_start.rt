@@ -134,13 +134,7 @@ fn begin(m: &Machine, s: &mut Store)
     start_lines_and_detectors(m, s);
     let work = &s.work;
     s.states.weights.start(m, &s.states.levels, &work.d);
-    set_all_rows(
-        RowKind::Start,
-        0,
-        &s.work,
-        &s.states.levels,
-        &mut s.rows,
-    );
+    set_all_rows(RowKind::Start, 0, &s.work, &s.states.levels, &mut s.rows);
 }
 
 // Starts the lines of all states and the detectors of all conditions at tick 0.

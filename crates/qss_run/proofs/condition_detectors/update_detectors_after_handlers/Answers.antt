@@ -1,10 +1,10 @@
 -- All conditions are settled, or go on at their speeds.
 use Rattle.qss_run.proofs.Common
-use Common.{ℕ, ℤ, ◌+◌, ◌∙◌, ◌≡◌, All, ap, AreAlikeBut, AreLinesAt, AreRisingBelow, AreSlopesBefore}
-use Common.{arith, Bool, condition_at, Conditions, conditions, detector_at, detector_states_of}
-use Common.{DetectorView, due_at, eqb-true, flag_at, is_listed, IsDetectorAt, IsSmall, IsWithin}
-use Common.{length, List, one_reads, reinitialized_of, speed_of, state_count, states_at, Store}
-use Common.{subst, sym, touched_after, truths_are, Values, vec_len}
+use Common.{ℤ, ◌+◌, ◌∙◌, ◌≡◌, All, ap, AreLinesAt, AreRisingBelow, AreSlopesBefore, arith, Bool}
+use Common.{condition_at, Conditions, conditions, detector_at, detector_states_of, DetectorView}
+use Common.{due_at, eqb-true, flag_at, is_listed, IsDetectorAt, IsSmall, IsWithin, length, List}
+use Common.{reinitialized_of, speed_of, state_count, states_at, Store, subst, sym, truths_are}
+use Common.{Values, vec_len}
 use Rattle.qss_states.specs.Variables.{AreSlopesOf}
 use Rattle.qss_run.proofs.Apart.{alike_then}
 use Rattle.qss_run.proofs.OwnConditions.{settled_fits, still_fits, rest_watched}

@@ -3,8 +3,7 @@ use Rattle.qss_run.proofs.Common
 use Common.{ℕ, ◌<◌, ◌==◌, ◌∙◌, ◌≡◌, ap, AreArrived, arith, Entry, FitsSigned, get_or, length}
 use Common.{length-states_at, List, of_z, pos, set, states_at, subst, sym, to_z, w128}
 use Rattle.qss_run.proofs.Arrived.{arrived_more, arrived_along, arrived_past}
-use Rattle.qss_run.proofs.condition_handlers.move_read_by_form.Goals.{then-j-lines}
-use Rattle.qss_run.proofs.condition_handlers.move_read_by_form.Goals.{else-j-lines}
+use Rattle.qss_run.proofs.condition_handlers.move_read_by_form.Goals.{then-j-lines, else-j-lines}
 use Rattle.qss_run.proofs.condition_handlers.move_read_by_form.Goals as goal
 
 pub loop-entry-preserved : goal.loop-entry-preserved

@@ -1,14 +1,14 @@
 -- A tick at which conditions change.
 use Rattle.qss_run.proofs.Common
-use Common.{ℕ, ℤ, ◌++◌, ◌+◌, ◌∙◌, ◌≡◌, ◌≤◌, All, ap, AreAlikeBut, AreMovedTo, AreNextLevels}
-use Common.{AreRisingBelow, AreSumsBefore, AreWeights, arith, Bool, clash, condition_at, Conditions}
-use Common.{conditions, detector_at, DiffersOnlyAt, due_at, Err, exceeds_row_limits}
-use Common.{first_exceeding, flag_at, goes_from, handlers_at, HandlerState, handling_from, HaveLeft}
-use Common.{int_at, int_at-states_at, int_at-tabulate, is_listed, is_reinitialized, is_some}
-use Common.{IsAllowedLevel, IsDetectorAt, IsWithin, length, level_rows, line_at, List, moved_states}
-use Common.{None, Ok, Option, option_or, overflow_of, position, refl, replaced_lines_from, rules}
-use Common.{Slope, slope_at, Snapshot, snapshot_of, state_count, States, states_at, states_with}
-use Common.{Store, subst, sym, tabulate, touches_at, true, truth, truths, Values, vec_capacity}
+use Common.{ℕ, ℤ, ◌++◌, ◌+◌, ◌∙◌, ◌≡◌, ◌≤◌, All, ap, AreMovedTo, AreNextLevels, AreRisingBelow}
+use Common.{AreSumsBefore, AreWeights, arith, Bool, clash, condition_at, Conditions, conditions}
+use Common.{detector_at, DiffersOnlyAt, due_at, Err, exceeds_row_limits, first_exceeding, flag_at}
+use Common.{goes_from, handlers_at, HandlerState, handling_from, HaveLeft, int_at, int_at-states_at}
+use Common.{int_at-tabulate, is_reinitialized, is_some, IsAllowedLevel, IsDetectorAt, IsWithin}
+use Common.{length, level_rows, line_at, List, moved_states, None, Ok, Option, option_or}
+use Common.{overflow_of, position, refl, replaced_lines_from, rules, Slope, slope_at, Snapshot}
+use Common.{snapshot_of, state_count, States, states_at, states_with, Store, subst, sym, tabulate}
+use Common.{touches_at, true, truth, truths, Values, vec_capacity}
 use Rattle.qss_states.specs.Variables.{AreAssignedFrom}
 use Rattle.qss_states.proofs.DueLevels.{may_move}
 use Rattle.qss_run.proofs.AfterHandlers.{same_worlds}
@@ -242,8 +242,8 @@ continue_after_handlers-requires g c =
         };
         before = handled.fits.before;
         lists = c.handle_changed_conditions.ensures.lists;
-          log = omega (arith, ap (λ (v : Values). v.room) handled.values, fits.log);
-          rows = omega (arith, c.requantize.ensures.room, fits.rows);
+        log = omega (arith, ap (λ (v : Values). v.room) handled.values, fits.log);
+        rows = omega (arith, c.requantize.ensures.room, fits.rows);
       };
       in_time = omega (arith, c.requires.in_time, m.has_units.last_tick);
       assigned = handled.assigns;

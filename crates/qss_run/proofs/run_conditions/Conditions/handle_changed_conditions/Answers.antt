@@ -1,12 +1,12 @@
 -- The branches of the conditions that hold on arrival, and did not both before, are those that are due.
 use Rattle.qss_run.proofs.Common
 use Common.{[], ℕ, ℤ, ◌<◌, ◌||◌, ◌∙◌, ◌≡◌, All, all_within, ap, AreAlikeBut, AreBranches}
-use Common.{AreConditionsOf, AreRisingBelow, AreValuesOf, arith, assigned_of, StatesAt}
-use Common.{clash, Conditions, conditions, detector_at, eqb-true, Err, false, first_exceeding}
-use Common.{flag_at, HandlerState, handling_from, handling_of_fired, holds_at, is_listed}
-use Common.{is_reinitialized, is_some, IsHandlerEffect, IsWithin, IsWritten, length, line_at, List}
-use Common.{None, overflow_of, PlaceList, pos, refl, Result, Row, rules, state_at, state_count}
-use Common.{states_at, subst, sym, true, Values, vec_len}
+use Common.{AreConditionsOf, AreRisingBelow, AreValuesOf, arith, assigned_of, clash, Conditions}
+use Common.{conditions, detector_at, eqb-true, Err, false, first_exceeding, flag_at, HandlerState}
+use Common.{handling_from, handling_of_fired, holds_at, is_listed, is_reinitialized, is_some}
+use Common.{IsHandlerEffect, IsWithin, IsWritten, length, line_at, List, None, overflow_of}
+use Common.{PlaceList, pos, refl, Result, Row, rules, state_at, state_count, states_at, StatesAt}
+use Common.{subst, sym, true, Values, vec_len}
 use Rattle.qss_hand.specs.declared.handler_statements.Over.{Over}
 use Rattle.qss_run.proofs.Arrivals.{lists_flipped, may_be_read, fired_numbers, read_on_arrival}
 use Rattle.qss_run.proofs.Arrivals.{read_handling, rows_fired, known_states, is_handled, idle}
