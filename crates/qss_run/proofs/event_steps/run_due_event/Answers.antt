@@ -295,8 +295,8 @@ continue_after_handlers-requires g c =
           ∙ taken.without.behind;
     })
 
-pub returns-clause-visited : goal.returns-clause-visited
-returns-clause-visited g c =
+pub returns : goal.returns
+returns g c =
     let m = c.args.m.now in
     let t = c.args.before + 1 in
     let s : Store = c.args.s.now in
@@ -327,7 +327,8 @@ returns-clause-visited g c =
     let are_fresh : levels ≡ fresh = c.requantize.ensures.taken.1.levels fine in
     let fits = taken.stands.fits in
     let w : Snapshot = snapshot_of c.args.before s in
-    let next : Snapshot = snapshot_of t c.continue_after_handlers.new.s in
+    let last : Store = c.continue_after_handlers.new.s in
+    let next : Snapshot = snapshot_of t last in
     let x : List ℤ = states_with s.states.lines.items t moved new.x in
     let of_x : x ≡ h.states = sym handled.own_states in
     let at_arrival : List Bool = c.handle_changed_conditions.new.self.at_arrival.items in
@@ -347,82 +348,50 @@ returns-clause-visited g c =
     let next_discretes : next.discretes ≡ new.d = ap (λ (v : Snapshot). v.discretes) snapshot in
     let next_states : next.states ≡ h.states = ap (λ (v : Snapshot). v.states) end in
     let slopes : List ℤ = tabulate (state_count m) (λ j. slope_at m j levels new.d) in
+    let each = taken.stands.stands_for.left.one_each in
+    let many_levels = ap length (next_levels ∙ are_fresh) ∙ c.requantize.ensures.taken.1.others.as_many ∙ fits.levels in
+    let many_discretes = ap length next_discretes ∙ handled.fits.discretes in
+    let of_slopes = ap (λ l. tabulate (state_count m) (λ j. slope_at m j l new.d)) (sym next_levels)
+    ∙ ap (λ d. tabulate (state_count m) (λ j. slope_at m j next.levels d)) (sym next_discretes) in
     let touched : replaced_lines_from (state_count m) t x next.levels slopes s.states.lines.items ≤ touches_at m t w (Ok next) =
-    renewals_from_touched m t w next taken.stands.stands_for.left.one_each (ap length (next_levels ∙ are_fresh) ∙ c.requantize.ensures.taken.1.others.as_many ∙ fits.levels)
-    fits.values.discretes (ap length next_discretes ∙ handled.fits.discretes) s.states.lines.items slopes
+    renewals_from_touched m t w next each many_levels fits.values.discretes many_discretes s.states.lines.items slopes
     (λ j inside. (taken.stands.stands_for.lines j inside).own_level) (λ j inside. (taken.stands.stands_for.lines j inside).own_slope)
-    (ap (λ l. tabulate (state_count m) (λ j. slope_at m j l new.d)) (sym next_levels) ∙ ap (λ d. tabulate (state_count m) (λ j. slope_at m j next.levels d)) (sym next_discretes))
-    x
+    of_slopes x
     (λ j inside none.
     sym (int_at-states_at s.states.lines.items t j (omega (arith, inside, fits.lines))) ∙ ap (λ xs. int_at xs j) files_read ∙ sym (kept_state m t w j none)
     ∙ ap (λ (k : HandlerState). int_at k.states j) (sym is_h) ∙ ap (λ xs. int_at xs j) (sym of_x)) in
     let counted : c.continue_after_handlers.new.steps ≡ c.args.steps.now + replaced_lines_from (state_count m) t x next.levels slopes s.states.lines.items =
     (rw of_lines at c.continue_after_handlers.ensures.counted) ∙ ap (λ l. c.args.steps.now + replaced_lines_from (state_count m) t x l slopes s.states.lines.items) (sym next_levels) in
-    record {
-      stepped = steps_to (IsAllowedLevel c.args.q.now.name) m t w next h fresh is_h calm_h allowed (sym fine ∙ over) end;
-      rows = λ none.
-          ap (λ v. v.items) c.continue_after_handlers.ensures.rows
-          ∙ c.requantize.ensures.rows fine h.states to
-          ∙ ap (λ r. r ++ level_rows t s.states.levels.items levels h.states) (ap (λ (v : Values). v.log) handled.values ∙ ap (λ (k : HandlerState). k.rows) is_h)
-          ∙ ap (λ l. (handlers_at m t w).rows ++ level_rows t s.states.levels.items l h.states) (sym next_levels)
-          ∙ ap (λ y. (handlers_at m t w).rows ++ level_rows t s.states.levels.items next.levels y) (sym next_states);
-      stands = λ none. c.continue_after_handlers.ensures.stands;
-      room = ap (λ v. vec_capacity v) c.continue_after_handlers.ensures.rows ∙ c.requantize.ensures.room;
-      counted = omega (arith, counted, touched);
-    }
-
-pub returns-clause-kept : goal.returns-clause-kept
-returns-clause-kept g c none j inside unaffected =
-    let m = c.args.m.now in
-    let t = c.args.before + 1 in
-    let s : Store = c.args.s.now in
-    let agenda : List (Option ℕ) = c.requires.taken.0 in
-    let taken = c.requires.taken.1 in
-    let h : HandlerState = handling_from m t (states_at s.states.lines.items t) s.work.d s.conditions.at_arrival.items s.conditions.after_handlers.items in
-    let is_h : h ≡ handlers_at m t (snapshot_of c.args.before s) =
-    handles m c.args.before (record s { agenda = agenda }) taken.stands in
-    let calm : overflow_of c.handle_changed_conditions.result ≡ None =
-    ap overflow_of c.in_ok-handle_changed_conditions.was in
-    let moved = c.handle_changed_conditions.new.moment.moved.items in
-    let assigned = c.handle_changed_conditions.new.moment.assigned.items in
-    let new : Values = c.handle_changed_conditions.new.work in
-    let handled = c.handle_changed_conditions.ensures.handled calm in
-    let fresh : List ℤ = c.requantize.ensures.taken.0 in
-    let to : AreMovedTo m c.deref.result.now new.x s.states.levels.items h.states =
-    subst (λ js. AreMovedTo m js new.x s.states.levels.items h.states) (sym c.deref.ensures.value)
-    (moved_to m c.args.before agenda s taken c.requires.in_time moved assigned new h handled) in
-    let allowed : AreNextLevels (IsAllowedLevel c.args.q.now.name) m h.states s.states.levels.items fresh =
-    c.requantize.ensures.taken.1.allowed h.states to in
-    let fine : overflow_of c.requantize.result ≡ None = ap overflow_of c.in_ok-requantize.was in
-    let levels : List ℤ = c.requantize.new.self.levels.items in
-    let are_fresh : levels ≡ fresh = c.requantize.ensures.taken.1.levels fine in
     let allowed_now : AreNextLevels (IsAllowedLevel c.args.q.now.name) m h.states s.states.levels.items levels =
     subst (λ l. AreNextLevels (IsAllowedLevel c.args.q.now.name) m h.states s.states.levels.items l) (sym are_fresh) allowed in
-    let fits = taken.stands.fits in
-    let w : Snapshot = snapshot_of c.args.before s in
-    let last : Store = c.continue_after_handlers.new.s in
-    let next : Snapshot = snapshot_of t last in
-    let x : List ℤ = states_with s.states.lines.items t moved new.x in
-    let next_levels : next.levels ≡ levels = ap (λ (v : Snapshot). v.levels) c.continue_after_handlers.ensures.snapshot in
-    let next_discretes : next.discretes ≡ new.d = ap (λ (v : Snapshot). v.discretes) c.continue_after_handlers.ensures.snapshot in
-    let slopes : List ℤ = tabulate (state_count m) (λ k. slope_at m k levels new.d) in
-    let still : IsUntouched m t w next j = untouched m t w next j unaffected in
-    let goes : goes_from t (int_at x j) (int_at next.levels j) (int_at slopes j) (line_at s.states.lines.items j) ≡ true =
-    goes_on_from m t w next taken.stands.stands_for.left.one_each (ap length (next_levels ∙ are_fresh) ∙ c.requantize.ensures.taken.1.others.as_many ∙ fits.levels)
-    fits.values.discretes (ap length next_discretes ∙ handled.fits.discretes) s.states.lines.items slopes
-    (λ k known. (taken.stands.stands_for.lines k known).own_level) (λ k known. (taken.stands.stands_for.lines k known).own_slope)
-    (ap (λ l. tabulate (state_count m) (λ k. slope_at m k l new.d)) (sym next_levels) ∙ ap (λ d. tabulate (state_count m) (λ k. slope_at m k next.levels d)) (sym next_discretes))
-    x j inside still (on_line m c.args.before agenda s taken c.requires.in_time moved assigned new h handled is_h c.args.q.now.name levels allowed_now next next_levels j inside still) in
-    let of_lines : c.requantize.new.self.lines.items ≡ s.states.lines.items =
-    ap (λ (v : States). v.lines.items) c.requantize.ensures.same in
-    let line : line_at last.states.lines.items j ≡ line_at s.states.lines.items j =
-    (rw of_lines at c.continue_after_handlers.ensures.kept j inside)
-    (ap (λ l. goes_from t (int_at x j) (int_at l j) (slope_at m j levels new.d) (line_at s.states.lines.items j)) (sym next_levels)
-    ∙ ap (λ z. goes_from t (int_at x j) (int_at next.levels j) z (line_at s.states.lines.items j)) (sym (int_at-tabulate (state_count m) (λ k. slope_at m k levels new.d) j inside))
-    ∙ goes) in (
-      line,
-      same_due m c.args.before agenda s taken c.requires.in_time moved assigned new h handled is_h c.args.q.now.name levels allowed_now next next_levels j inside still
-          c.handle_changed_conditions.new.agenda last.agenda (c.handle_changed_conditions.ensures.without calm) (line_at last.states.lines.items j) line
-          (c.continue_after_handlers.ensures.stands.stands_for.dues j inside),
-      not_due m c.args.before agenda s taken c.requires.in_time moved assigned new h handled is_h c.args.q.now.name levels allowed_now next next_levels j inside still,
-    )
+    record {
+      visited = record {
+        stepped = steps_to (IsAllowedLevel c.args.q.now.name) m t w next h fresh is_h calm_h allowed (sym fine ∙ over) end;
+        rows = λ none.
+            ap (λ v. v.items) c.continue_after_handlers.ensures.rows
+            ∙ c.requantize.ensures.rows fine h.states to
+            ∙ ap (λ r. r ++ level_rows t s.states.levels.items levels h.states) (ap (λ (v : Values). v.log) handled.values ∙ ap (λ (k : HandlerState). k.rows) is_h)
+            ∙ ap (λ l. (handlers_at m t w).rows ++ level_rows t s.states.levels.items l h.states) (sym next_levels)
+            ∙ ap (λ y. (handlers_at m t w).rows ++ level_rows t s.states.levels.items next.levels y) (sym next_states);
+        stands = λ none. c.continue_after_handlers.ensures.stands;
+        room = ap (λ v. vec_capacity v) c.continue_after_handlers.ensures.rows ∙ c.requantize.ensures.room;
+        counted = omega (arith, counted, touched);
+      };
+      kept = λ none j inside unaffected.
+          let still : IsUntouched m t w next j = untouched m t w next j unaffected in
+          let goes : goes_from t (int_at x j) (int_at next.levels j) (int_at slopes j) (line_at s.states.lines.items j) ≡ true =
+          goes_on_from m t w next each many_levels fits.values.discretes many_discretes s.states.lines.items slopes
+          (λ k known. (taken.stands.stands_for.lines k known).own_level) (λ k known. (taken.stands.stands_for.lines k known).own_slope)
+          of_slopes x j inside still (on_line m c.args.before agenda s taken c.requires.in_time moved assigned new h handled is_h c.args.q.now.name levels allowed_now next next_levels j inside still) in
+          let line : line_at last.states.lines.items j ≡ line_at s.states.lines.items j =
+          (rw of_lines at c.continue_after_handlers.ensures.kept j inside)
+          (ap (λ l. goes_from t (int_at x j) (int_at l j) (slope_at m j levels new.d) (line_at s.states.lines.items j)) (sym next_levels)
+          ∙ ap (λ z. goes_from t (int_at x j) (int_at next.levels j) z (line_at s.states.lines.items j)) (sym (int_at-tabulate (state_count m) (λ k. slope_at m k levels new.d) j inside))
+          ∙ goes) in (
+            line,
+            same_due m c.args.before agenda s taken c.requires.in_time moved assigned new h handled is_h c.args.q.now.name levels allowed_now next next_levels j inside still
+                c.handle_changed_conditions.new.agenda last.agenda (c.handle_changed_conditions.ensures.without calm) (line_at last.states.lines.items j) line
+                (c.continue_after_handlers.ensures.stands.stands_for.dues j inside),
+            not_due m c.args.before agenda s taken c.requires.in_time moved assigned new h handled is_h c.args.q.now.name levels allowed_now next next_levels j inside still,
+          );
+    }
