@@ -37,7 +37,7 @@ pub use Rattle.mu_num.proofs.Tables.{int_at-tabulate}
 pub use Rattle.mu_num.proofs.Tests.{eqb-false, eqb-no, eqb-true, eqb-yes, if-false, if-true}
 pub use Rattle.mu_num.proofs.Tests.{if_cases, int_lt-false, int_lt-true, int_lt-yes}
 pub use Rattle.mu_num.proofs.Writes.{among_at, among_more, index_of, written_all, written_more}
-pub use Rattle.mu_num.specs.Curves.{curve_at, FirstUpTo}
+pub use Rattle.mu_num.specs.Curves.{curve_at}
 pub use Rattle.mu_num.specs.IndexedSums.{abs_of, first_exceeding, int_at, sum_below, sum_over}
 pub use Rattle.mu_num.specs.IndexedSums.{tabulate}
 pub use Rattle.mu_num.specs.ListedPlaces.{AreRisingBelow, is_listed}
@@ -47,13 +47,13 @@ pub use Rattle.mu_num.specs.Writes.{IsWritten}
 pub use Rattle.qss_sched.specs.PlaceSets.{PlaceList}
 pub use Rattle.qss_machine.proofs.Loops.{fits_below, product_bound, product_is, sum_done, sum_step}
 pub use Rattle.qss_machine.proofs.ModeTests.{mode_small}
-pub use Rattle.qss_machine.proofs.Near.{option_or-None, quanta_positive, unit_fits, unit_positive}
+pub use Rattle.qss_machine.proofs.Near.{option_or-None, unit_fits, unit_positive}
 pub use Rattle.qss_machine.proofs.Ranges.{none_past}
 pub use Rattle.qss_machine.proofs.StartValues.{discretes_start}
 pub use Rattle.qss_machine.proofs.SumLaws.{weighted_sum-is}
 pub use Rattle.qss_machine.specs.Legitimate.{start_coefficient, start_constant_part}
-pub use Rattle.qss_machine.specs.Machines.{discrete_count, level_unit, quanta, row_at}
-pub use Rattle.qss_machine.specs.Machines.{start_discretes, start_states, state_count}
+pub use Rattle.qss_machine.specs.Machines.{discrete_count, level_unit, row_at, start_discretes}
+pub use Rattle.qss_machine.specs.Machines.{start_states, state_count}
 pub use Rattle.qss_machine.specs.Slopes.{coefficient_of, mode_coefficient}
 pub use Rattle.qss_machine.specs.declared.compiled_machine.Machine.{Machine}
 pub use Rattle.qss_machine.specs.declared.machine_parts.DiscreteInfo.{DiscreteInfo}
@@ -91,13 +91,13 @@ pub use Rattle.qss_order2.specs.SecondSteps.{next_levels, next_snapshot, next_st
 pub use Rattle.qss_order2.specs.SecondSteps.{rise_at, rise_change_weight, rise_weight, second_scale}
 pub use Rattle.qss_order2.specs.SecondSteps.{second_snapshot_unless, second_start, second_step}
 pub use Rattle.qss_order2.specs.SecondSteps.{SecondSnapshot, SlopeRuleOf}
-pub use Rattle.qss_order2.specs.SlopeRules.{IsAnswer, IsAsked, IsRuled2}
-pub use Rattle.qss_order2.specs.Stores.{AreMovableUntil, AreQuiet, due_at, HasChanged, HasDues}
-pub use Rattle.qss_order2.specs.Stores.{HasLists, HasNewLevels, HasRuledSlopes, is_due, IsDue2}
-pub use Rattle.qss_order2.specs.Stores.{IsMovedOn, IsNear2, IsNextEvent, IsQuiet, IsRuleApplied}
-pub use Rattle.qss_order2.specs.Stores.{IsSized, IsStoreAt, IsWindow, KeepsDues, levels_after}
-pub use Rattle.qss_order2.specs.Stores.{motion_at, MotionAt, Moves, place_rows, place_there}
-pub use Rattle.qss_order2.specs.Stores.{rows_of_left, snapshot_of, start_place, until}
+pub use Rattle.qss_order2.specs.SlopeRules.{IsAnswer, IsRuled2}
+pub use Rattle.qss_order2.specs.Stores.{AreMovableUntil, AreQuiet, due_at, HasDues, HasLists}
+pub use Rattle.qss_order2.specs.Stores.{HasNewLevels, is_due, IsDue2, IsMovedOn, IsNear2}
+pub use Rattle.qss_order2.specs.Stores.{IsNextEvent, IsQuiet, IsRuleApplied, IsSized, IsStoreAt}
+pub use Rattle.qss_order2.specs.Stores.{IsWindow, levels_after, motion_at, MotionAt, Moves}
+pub use Rattle.qss_order2.specs.Stores.{place_rows, place_there, rows_of_left, snapshot_of}
+pub use Rattle.qss_order2.specs.Stores.{start_place, until}
 pub use Rattle.qss_order2.specs.declared.fixed_machine.FixedMachine.{FixedMachine}
 pub use Rattle.qss_order2.specs.declared.order2_motion.Motion.{Motion}
 pub use Rattle.qss_order2.specs.declared.order2_motion.Place.{Place}

@@ -1,14 +1,42 @@
 -- What is read of a machine whose discrete values stay those of the start.
 use Rattle.qss_order2.proofs.Common
-use Common.{[], ℕ, ℤ, ◌<◌, ◌∙◌, ◌≡◌, ap, AreModes, arith, column_at, Entry, FitsSigned}
-use Common.{FixedMachine, get_or, get_or_default, int_at, int_at-tabulate, ints, IsWithin, length}
-use Common.{length-map-range_with_len, List, start_constant_part, state_count, subst, sym, vec_len}
-use Common.{w128}
+use Common.{[], ℕ, ℤ, ◌<◌, ◌∙◌, ◌≡◌, ap, AreModes, arith, Bool, column_at, Entry, FitsSigned}
+use Common.{FixedMachine, get_or, get_or_default, int_at, int_at-tabulate, ints, IsAnswer}
+use Common.{IsPositiveWithin, IsWithin, length, length-map-range_with_len, level_unit, List, of_z}
+use Common.{start_constant_part, state_count, subst, sym, to_z, to_z-of_z, unit_fits, vec_len, w128}
+use Rattle.qss_order2.specs.SlopeRules.{IsAsked}
 use Rattle.qss_order2.proofs.Bounds.{at_index}
 use Rattle.qss_order2.proofs.Sizes.{drive_small}
 
 pub wide : (z : ℤ) → IsWithin 126 z → FitsSigned w128 z
 wide z small = omega (arith, ints, small)
+
+-- ---- the level unit
+
+module _ (f : FixedMachine) where
+  pub unit_small : IsPositiveWithin 44 f.unit
+  unit_small = rw f.is_fixed.own_unit (unit_fits f.machine)
+
+  pub unit_wide : FitsSigned w128 f.unit
+  unit_wide = wide f.unit (omega (arith, unit_small.within))
+
+  -- a rule may be applied to a slope, and allows its result
+  module _ (rise : ℤ) (small : IsWithin 95 rise) where
+    fits : FitsSigned w128 rise
+    fits = wide rise (omega (arith, small))
+
+    pub asked : IsAsked (to_z w128 (of_z w128 rise)) (to_z w128 (of_z w128 f.unit))
+    asked = rw (to_z-of_z w128 rise fits, to_z-of_z w128 f.unit unit_wide) (record {
+      small_rise = small;
+      small_unit = unit_small;
+    })
+
+    pub answered : (nearest : Bool) (z : ℤ) → IsAnswer nearest (to_z w128 (of_z w128 rise))
+        (to_z w128 (of_z w128 f.unit)) z → IsAnswer nearest rise (level_unit f.machine) z
+    answered nearest z own = rw (to_z-of_z w128 rise fits, to_z-of_z w128 f.unit unit_wide,
+        f.is_fixed.own_unit) at own
+
+-- ---- the lists
 
 module _ (f : FixedMachine) (j : ℕ) (h : j < state_count f.machine) where
   many_drives : length f.drives.items ≡ state_count f.machine

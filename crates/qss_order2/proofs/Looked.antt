@@ -1,106 +1,78 @@
 -- An event step after the rule was applied.
 use Rattle.qss_order2.proofs.Common
-use Common.{[], ℕ, ℤ, ◌+◌, ◌<◌, ◌∙◌, ◌≡◌, ◌≤◌, ap, AreChanges, AreQuiet, arith}
-use Common.{first_exceeding_limit, HasEach, HasLists, HasNewLevels, HasRuledSlopes, is_listed}
-use Common.{IsMovedOn, IsNextEvent, IsRuleApplied, IsVisit2, last_second_snapshot, levels_after}
-use Common.{levels_on, List, Machine, Motion, motion_at, MotionAt, Moves, None, Option, place_in}
-use Common.{refl, rows_of_left, second_snapshot_after, second_snapshot_unless, SecondSnapshot}
-use Common.{snapshot_of, state_count, subst, suc, tick_rows2}
-use Rattle.qss_order2.proofs.Arrivals.{levels_there, states2, levels2, has_rises2, sized2}
+use Common.{[], ℕ, ℤ, ◌+◌, ◌∙◌, ◌≡◌, ap, AreChanges, arith, first_exceeding_limit, HasEach}
+use Common.{is_listed, IsMovedOn, IsNear2, IsNextEvent, IsVisit2, last_second_snapshot}
+use Common.{levels_after, List, Machine, Motion, motion_at, Moves, None, Ok, Option, refl}
+use Common.{rows_of_left, second_snapshot_after, second_snapshot_unless, SecondSnapshot}
+use Common.{snapshot_of, Some, state_count, subst, suc, sym, tick_rows2}
+use Rattle.qss_order2.proofs.Arrivals.{IsEvent, levels_there, states2, levels2, has_rises2, sized2}
 use Rattle.qss_order2.proofs.Looks.{moved_on}
 use Rattle.qss_order2.proofs.Silent.{event_free_snapshots}
-use Rattle.qss_order2.proofs.Visits.{looked, looked_rows, looked_near, looked_within}
+use Rattle.qss_order2.proofs.Visits.{visit, rows_are, near_there}
 use Rattle.qss_order2.specs.declared.order2_rows.Kind2.TheVariants as kind
 
-module _ (Rule : ℤ → ℤ → ℤ → Type 0) (m : Machine) (tick ticks : ℕ) (q1 q2 q3 : Motion) (due : ℕ →
-    Option ℕ) (left affected : List ℕ) (over : Option ℕ) (moves : Moves m (motion_at m q1 tick))
-    (past : (j : ℕ) → j < state_count m → (place_in q1.places.items j).since ≤ tick)
-    (next : IsNextEvent m tick (snapshot_of (motion_at m q1 tick)) due (is_listed left) ticks)
-    (arrived : HasNewLevels m (tick + ticks) left affected q1 q2) (quiet : AreQuiet m (is_listed
-    left)
-    (is_listed affected)) (lists : HasLists m q3)
-    (applied : IsRuleApplied Rule m left affected (levels_on (state_count m) q2.places.items
-    q2.changes.items (tick + ticks)) q2 q3 over) where
+module _ {Rule : ℤ → ℤ → ℤ → Type 0} {m : Machine} {tick ticks : ℕ} {left affected : List ℕ}
+    {q0 q1 q2 : Motion} {over : Option ℕ} {due : ℕ → Option ℕ} (event : IsEvent Rule m tick ticks
+    left affected q0 q1 q2 over) (next : IsNextEvent m tick (snapshot_of (motion_at m q0 tick)) due
+    (is_listed left) ticks) where
   abbrev w : SecondSnapshot
-  w = snapshot_of (motion_at m q1 tick)
+  w = snapshot_of (motion_at m q0 tick)
+
+  abbrev states : List ℤ
+  states = (second_snapshot_after m w ticks).states
 
   abbrev levels : List ℤ
-  levels = levels_on (state_count m) q2.places.items q2.changes.items (tick + ticks)
+  levels = levels_after m w (is_listed left) ticks
 
-  abbrev v1 : MotionAt
-  v1 = record {
-    states = (second_snapshot_after m w ticks).states;
-    levels =
-        levels_after m w (is_listed left) ticks;
-    changes = q1.changes.items;
-    rises = [];
-    bends = [];
-  }
+  abbrev v2 : SecondSnapshot
+  v2 = snapshot_of (motion_at m q2 (tick + ticks))
 
-  abbrev v3 : MotionAt
-  v3 = motion_at m q3 (tick + ticks)
-
-  pub levels_are_there : levels ≡ levels_after m w (is_listed left) ticks
-  levels_are_there = levels_there m tick ticks left affected q1 q2 moves past arrived
-
-  pub found : (k : ℕ) × (ticks ≡ suc k) × IsMovedOn m tick w k (is_listed left)
-      (second_snapshot_after m w ticks).states (levels_after m w (is_listed left) ticks)
-  found = moved_on m tick w due (is_listed left) ticks (second_snapshot_after m w ticks).states
-      (levels_after m w (is_listed left) ticks) next refl refl
+  pub found : (k : ℕ) × (ticks ≡ suc k) × IsMovedOn m tick w k (is_listed left) states levels
+  found = moved_on m tick w due (is_listed left) ticks states levels next refl refl
 
   each : HasEach m w
   each = record {
-    states = moves.sized.states;
-    levels = moves.sized.levels;
-    changes =
-        moves.sized.changes;
+    states = event.arrival.moves.sized.states;
+    levels = event.arrival.moves.sized.levels;
+    changes = event.arrival.moves.sized.changes;
   }
 
-  has_ruled_slopes : HasRuledSlopes Rule m (is_listed left) v1 v3 over
-  has_ruled_slopes = record {
-    changes = applied.changes;
-    are_changes = subst (λ (ls : List ℤ). AreChanges Rule m (is_listed left) ls q1.changes.items
-        applied.changes) levels_are_there
-        (subst (λ (old : List ℤ). AreChanges Rule m (is_listed left) levels old applied.changes)
-        arrived.changes applied.are_changes);
-    is_over = applied.is_over ∙ ap (λ (ls : List ℤ). first_exceeding_limit m ls applied.changes)
-        levels_are_there;
-    taken = applied.taken;
-    has_rises = λ e. has_rises2 m tick ticks left affected q1 q2 moves past arrived Rule q3 over
-        levels levels_are_there quiet lists applied e;
-  }
+  are : AreChanges Rule m (is_listed left) levels w.changes event.applied.changes
+  are = rw (← levels_there event.arrival, ← event.arrival.arrived.changes) event.applied.are_changes
 
-  same_states : over ≡ None → v3.states ≡ v1.states
-  same_states e = states2 m tick ticks left affected q1 q2 moves past arrived Rule q3 over levels
-      levels_are_there quiet lists applied e
+  is_over : over ≡ first_exceeding_limit m levels event.applied.changes
+  is_over = event.applied.is_over ∙ ap (λ (ls : List ℤ). first_exceeding_limit m ls
+      event.applied.changes) (levels_there event.arrival)
 
-  same_levels : over ≡ None → v3.levels ≡ v1.levels
-  same_levels e = levels2 m tick ticks left affected q1 q2 moves past arrived Rule q3 over levels
-      levels_are_there quiet lists applied e
+  there : over ≡ None → record { states = states; levels = levels; changes = event.applied.changes }
+      ≡ v2
+  there e = sym (rw (states2 event e, levels2 event e, event.applied.taken e))
 
-  next_is : tick + found.0 + 1 ≡ tick + ticks
-  next_is = omega (arith, found.1)
+  unless_same : (o : Option ℕ) (a b : SecondSnapshot) → (o ≡ None → a ≡ b) →
+      second_snapshot_unless o a ≡ second_snapshot_unless o b
+  unless_same None a b same = ap Ok (same refl)
+  unless_same (Some var) a b same = refl
 
   pub visited : IsVisit2 Rule m tick w (event_free_snapshots m w found.0) (tick + ticks)
-      (second_snapshot_unless over (snapshot_of v3))
-  visited = subst (λ n. IsVisit2 Rule m tick w (event_free_snapshots m w found.0) n
-      (second_snapshot_unless over (snapshot_of v3))) next_is
-      (looked Rule m tick w found.0 (is_listed left) v1 v3 over found.2 each refl has_ruled_slopes
-      same_states same_levels)
+      (second_snapshot_unless over v2)
+  visited =
+      let next_is : tick + found.0 + 1 ≡ tick + ticks = omega (arith, found.1) in
+      subst (IsVisit2 Rule m tick w (event_free_snapshots m w found.0) (tick + ticks))
+      (unless_same over _ v2 there) (rw next_is at (visit Rule m tick w found.0 (is_listed left)
+      states levels found.2 each event.applied.changes are over is_over))
 
   pub visited_rows : (t : ℕ) (to : SecondSnapshot) → rows_of_left kind.Level t to (is_listed left)
       (state_count m) ≡ tick_rows2 m t (last_second_snapshot w (event_free_snapshots m w found.0))
       to
-  visited_rows t to = looked_rows Rule m tick w found.0 (is_listed left) v1 v3 over found.2 each
-      refl has_ruled_slopes same_states same_levels t to
+  visited_rows t to = rows_are Rule m tick w found.0 (is_listed left) states levels found.2 each
+      event.applied.changes are t to
 
-  pub moves_on : over ≡ None → Moves m v3
+  pub moves_on : over ≡ None → Moves m (motion_at m q2 (tick + ticks))
   moves_on e = record {
-    sized = sized2 m tick ticks left affected q1 q2 moves past arrived Rule q3 over levels
-        levels_are_there quiet lists applied e;
-    near = looked_near Rule m tick w found.0 (is_listed left) v1 v3 over found.2 each refl
-        has_ruled_slopes same_states same_levels e;
-    within = looked_within Rule m tick w found.0 (is_listed left) v1 v3 over found.2 each refl
-        has_ruled_slopes same_states same_levels e ∙ e;
-    has_rises = has_ruled_slopes.has_rises e;
+    sized = sized2 event e;
+    near = subst (IsNear2 m) (there e) (near_there Rule m tick w found.0 (is_listed left) states
+        levels found.2 each event.applied.changes are);
+    within = ap (λ (v : SecondSnapshot). first_exceeding_limit m v.levels v.changes)
+        (sym (there e)) ∙ sym is_over ∙ e;
+    has_rises = has_rises2 event e;
   }

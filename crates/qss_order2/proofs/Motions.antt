@@ -1,10 +1,10 @@
 -- Places, and the motion of all states that they give at a tick.
 use Rattle.qss_order2.proofs.Common
-use Common.{ℕ, ℤ, ◌*ℤ◌, ◌+ℤ◌, ◌+◌, ◌-◌, ◌<◌, ◌∙◌, ◌≡◌, ◌≤ℤ◌, ◌≤◌, abs_of, add-mul, ap}
+use Common.{[], ℕ, ℤ, ◌*ℤ◌, ◌+ℤ◌, ◌+◌, ◌-◌, ◌<◌, ◌∙◌, ◌≡◌, ◌≤ℤ◌, ◌≤◌, abs_of, add-mul, ap}
 use Common.{AreMovableUntil, arith, bend_at, CanMove, cases_Bool, curve_at, curve_zero, false}
 use Common.{HasLists, inl, inr, int_at, int_at-tabulate, ints, is_listed, IsSized, IsSmallPlace}
 use Common.{IsWithin, IsWritten, length, length-map-range_with_len, level_on, levels_on, List}
-use Common.{Machine, Motion, motion_at, MotionAt, Moves, no_place, Option, Place, place_at}
+use Common.{Machine, Motion, motion_at, MotionAt, Moves, no_place, not, Option, Place, place_at}
 use Common.{place_in, place_there, pos, rise_at, rise_on, rises_on, second_snapshot_after}
 use Common.{snapshot_of, Some, state_count, state_on, states_on, subst, sym, tabulate, true}
 use Common.{zero-*ℤ}
@@ -31,12 +31,7 @@ pub here_level : (p : Place) (v : ℤ) (tick : ℕ) → p.since ≡ tick → lev
 here_level p v tick e = here_line p.level v p.since tick e
 
 pub here_place : (p : Place) (v r a : ℤ) (tick : ℕ) → p.since ≡ tick → place_at p v r a tick ≡ p
-here_place p v r a tick e =
-    ap (λ (t : ℕ). record { since = t; state = state_on p r a tick; level = level_on p v tick })
-    (sym e)
-    ∙ ap (λ (x : ℤ). record { since = p.since; state = x; level = level_on p v tick })
-    (here_state p r a tick e)
-    ∙ ap (λ (l : ℤ). record { since = p.since; state = p.state; level = l }) (here_level p v tick e)
+here_place p v r a tick e = rw (here_state p r a tick e, here_level p v tick e, sym e)
 
 -- ---- the lists
 
@@ -377,47 +372,7 @@ moved_levels n tick q ps affected there stayed =
 
 pub same_motion : (a b : MotionAt) → a.states ≡ b.states → a.levels ≡ b.levels →
     a.changes ≡ b.changes → a.rises ≡ b.rises → a.bends ≡ b.bends → a ≡ b
-same_motion a b states levels changes rises bends =
-    ap (λ (l : List ℤ). record {
-      states = l;
-      levels = a.levels;
-      changes = a.changes;
-      rises =
-          a.rises;
-      bends = a.bends;
-    }) states
-    ∙ ap (λ (l : List ℤ). record {
-      states = b.states;
-      levels = l;
-      changes = a.changes;
-      rises =
-          a.rises;
-      bends = a.bends;
-    }) levels
-    ∙ ap (λ (l : List ℤ). record {
-      states = b.states;
-      levels = b.levels;
-      changes = l;
-      rises =
-          a.rises;
-      bends = a.bends;
-    }) changes
-    ∙ ap (λ (l : List ℤ). record {
-      states = b.states;
-      levels = b.levels;
-      changes =
-          b.changes;
-      rises = l;
-      bends = a.bends;
-    }) rises
-    ∙ ap (λ (l : List ℤ). record {
-      states = b.states;
-      levels = b.levels;
-      changes =
-          b.changes;
-      rises = b.rises;
-      bends = l;
-    }) bends
+same_motion a b states levels changes rises bends = rw (states, levels, changes, rises, bends)
 
 some_same : (a b : ℤ) → Some a ≡ Some b → a ≡ b
 some_same a b e = cc

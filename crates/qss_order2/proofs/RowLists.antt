@@ -3,11 +3,10 @@ use Rattle.qss_order2.proofs.Common
 use Common.{[], ℕ, ℤ, ◌++◌, ◌+◌, ◌<◌, ◌∙◌, ◌∷◌, ◌≡◌, ap, append-nil, append_assoc, AreRisingBelow}
 use Common.{arith, Bool, flat_map, flat_map-append, get_or, if-false, if-true, if◌then◌else◌}
 use Common.{index_of, int_at, is_listed, Kind2, length, level_row, List, map}
-use Common.{map-range_with_len_more, Place, place_in, place_rows, pos, range_with_len, refl, Row2}
+use Common.{map-range_with_len_more, Place, place_in, place_rows, range_with_len, refl, Row2}
 use Common.{rows_of_left, SecondSnapshot, slope_row, sym, tabulate, true}
 use Rattle.mu_num.proofs.RisingNumbers.{rows_among}
 use Rattle.mu_num.proofs.Writes.{among_head, among_rest}
-use Rattle.qss_order2.specs.declared.order2_rows.Kind2.TheVariants.{Slope}
 
 map-same : (xs : List ℕ) → map (λ (x : ℕ). x) xs ≡ xs
 map-same [] = refl
@@ -61,45 +60,8 @@ listed_rows kind tick n places changes w left numbers levels states same =
     one : (j : ℕ) → is_listed left j ≡ true → place_rows kind tick places changes j ≡ left_rows kind
         tick w (is_listed left) j
     one j e =
-        ap (λ (l : ℤ). record {
-          tick = tick;
-          kind = kind;
-          var = j;
-          level = l;
-          state =
-              (place_in places j).state;
-        } ∷ record {
-          tick = tick;
-          kind = Slope;
-          var = j;
-          level = int_at changes j;
-          state =
-              pos 0;
-        } ∷ []) (levels j e)
-        ∙ ap (λ (x : ℤ). record {
-          tick = tick;
-          kind = kind;
-          var = j;
-          level =
-              int_at w.levels j;
-          state = x;
-        } ∷ record {
-          tick = tick;
-          kind = Slope;
-          var = j;
-          level = int_at changes j;
-          state =
-              pos 0;
-        } ∷ []) (states j e)
-        ∙ ap (λ (v : ℤ). level_row kind tick w j ∷ record {
-          tick = tick;
-          kind = Slope;
-          var =
-              j;
-          level = v;
-          state = pos 0;
-        } ∷ []) (same j e)
-        ∙ sym (if-true (is_listed left j) (level_row kind tick w j ∷ slope_row tick w j ∷ []) [] e)
+        rw (levels j e, states j e, same j e) (sym (if-true (is_listed left j)
+        (level_row kind tick w j ∷ slope_row tick w j ∷ []) [] e))
 
     each_same : (some : List ℕ) → ((j : ℕ) → is_listed some j ≡ true → is_listed left j ≡ true) →
         flat_map (place_rows kind tick places changes) some ≡ flat_map (left_rows kind tick w

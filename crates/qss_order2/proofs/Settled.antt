@@ -1,12 +1,13 @@
 -- What follows from new levels, of the states of a list.
 use Rattle.qss_order2.proofs.Common
 use Common.{ℕ, ℤ, ◌*ℤ◌, ◌+◌, ◌<◌, ◌^◌, ◌∙◌, ◌≡◌, ◌≤ℤ◌, ◌≤◌, abs_of, All, ap, AreChanges, AreQuiet}
-use Common.{arith, bend_at, Bool, CanRead, cases_lt, exceeds, false, HasChanged, index_of, inl, inr}
-use Common.{int_at, int_at-tabulate, int_wrap, ints, is_listed, IsAnswer, IsRuleApplied, IsRuled2}
+use Common.{arith, bend_at, Bool, CanRead, cases_lt, exceeds, false, index_of, inl, inr, int_at}
+use Common.{int_at-tabulate, int_wrap, ints, is_listed, IsAnswer, IsRuleApplied, IsRuled2}
 use Common.{IsSafeBound, IsWithin, IsWritten, length, level_unit, levels_on, List, Machine}
 use Common.{MatchBool, Motion, None, none_past, Option, option_or-None, past_levels, Place}
 use Common.{place_in, pos, refl, rise_at, rise_change_weight, rise_weight, Some, start_coefficient}
 use Common.{state_count, subst, sym, tabulate, true, unit_fits, within-passes}
+use Rattle.qss_order2.specs.Stores.{HasChanged}
 use Rattle.std.specs.Int.{w128}
 use Rattle.std.specs.Prelude.{is_some}
 use Rattle.qss_order2.proofs.Bounds.{rise_by_weight, bend_by_weight, factor_small}

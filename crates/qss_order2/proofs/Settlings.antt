@@ -1,11 +1,14 @@
 -- What follows from new levels.
 use Rattle.qss_order2.proofs.Common
-use Common.{ℕ, ℤ, ◌*ℤ◌, ◌<◌, ◌∙◌, ◌≡◌, ap, AreChanges, arith, Bool, false, first_exceeding}
-use Common.{first_exceeding_limit, if◌then◌else◌, int_at, int_at-tabulate, ints, IsAnswer, IsRuled2}
-use Common.{IsWithin, length, length-map-range_with_len, level_unit, List, Machine, MatchBool}
+use Common.{[], ℕ, ℤ, ◌*ℤ◌, ◌<◌, ◌∙◌, ◌≡◌, ap, AreChanges, arith, Bool, false, first_exceeding}
+use Common.{first_exceeding_limit, FreeChange, if◌then◌else◌, int_at, int_at-tabulate, ints}
+use Common.{IsAnswer, IsRuled2, IsWithin, length, level_unit, List, Machine, MatchBool}
 use Common.{nearest_change, None, Option, option_or, past_levels, refl, rise_at, rise_change_weight}
-use Common.{rise_weight, Some, state_count, subst, sym, tabulate, true, unit_fits, unit_positive}
-use Rattle.qss_order2.proofs.Legitimacy.{nearest_is_free}
+use Common.{rise_weight, SlopeRuleOf, Some, state_count, subst, sym, tabulate, true, unit_fits}
+use Common.{unit_positive}
+use Rattle.mu_num.proofs.Quotients.{nearest_meets}
+use Rattle.qss_order2.specs.SecondRunLaws.{NearestIsFree}
+use Rattle.qss_order2.proofs.Uniqueness.{changes_by, changes_are}
 
 -- ---- limits in their order
 
@@ -31,6 +34,9 @@ module _ (m : Machine) (levels changes : List ℤ) where
   past_then e = sym again ∙ ap (λ (o : Option ℕ). option_or o (of_changes m changes)) e
 
 -- ---- changes
+
+pub nearest_is_free : NearestIsFree
+nearest_is_free unit rise h = let f = nearest_meets rise unit h in omega (arith, ints, f.near)
 
 module _ (nearest : Bool) (m : Machine) (asked : ℕ → Bool) (levels old : List ℤ) where
   answered : (b : Bool) (rise is z y : ℤ) → rise ≡ is →
@@ -58,27 +64,12 @@ module _ (nearest : Bool) (m : Machine) (asked : ℕ → Bool) (levels old : Lis
   near_ones = tabulate (state_count m) (λ j. if asked j then nearest_change (level_unit m)
       (rise_at m j levels) else int_at old j)
 
-  near_one : (b : Bool) (j : ℕ) → MatchBool b (IsRuled2 nearest (level_unit m) (rise_at m j levels)
-      (if b then nearest_change (level_unit m) (rise_at m j levels) else int_at old j))
-      ((if b then nearest_change (level_unit m) (rise_at m j levels) else int_at old j)
-      ≡ int_at old j)
-  near_one true j = record {
-    close = nearest_is_free (level_unit m) (rise_at m j levels)
-        (unit_positive m);
-    named = λ e. refl;
-  }
-  near_one false j = refl
-
   pub near_are : AreChanges (IsRuled2 nearest) m asked levels old near_ones
-  near_are =
-      let f = λ (j : ℕ). if asked j then nearest_change (level_unit m) (rise_at m j levels)
-      else int_at old j in
-      record {
-        one_each = length-map-range_with_len f 0 (state_count m);
-        each = λ j h. subst (λ z. MatchBool (asked j) (IsRuled2 nearest (level_unit m)
-            (rise_at m j levels) z) (z ≡ int_at old j))
-            (sym (int_at-tabulate (state_count m) f j h)) (near_one (asked j) j);
-      }
+  near_are = changes_by (SlopeRuleOf nearest_change) (IsRuled2 nearest) (λ rise z is. record {
+    close = subst (FreeChange (level_unit m) rise) (sym is) (nearest_is_free (level_unit m) rise
+        (unit_positive m));
+    named = λ e. is;
+  }) (changes_are nearest_change m asked levels old)
 
   held_by : (b : Bool) (rise new before : ℤ) → IsWithin 94 rise →
       IsWithin 95 (level_unit m *ℤ before) → MatchBool b (IsRuled2 nearest (level_unit m) rise new)

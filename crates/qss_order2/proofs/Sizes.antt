@@ -4,11 +4,13 @@ use Common.{*ℤ_comm, [], ℕ, ℤ, ◌*ℤ◌, ◌*◌, ◌+ℤ◌, ◌+◌, �
 use Common.{ap, arith, Bool, coefficient_of, false, fine_levels, fine_states, floor_meets, floor_of}
 use Common.{get_or-map, int_at, int_lt, int_lt-false, int_lt-true, ints, IsPositiveWithin, IsWithin}
 use Common.{length, length-map, length-replicate, level_unit, List, Machine, map, mode_coefficient}
-use Common.{mode_small, mul-add, mul-le, mul-le-mul_left, mul_assoc, negsuc, pos, quanta}
-use Common.{quanta_positive, reach_of, refl, replicate, rise_at, row_at, SlopeRow}
-use Common.{start_coefficient, start_constant_part, start_discretes, start_states, state_count}
-use Common.{StateInfo, subst, suc, sum_below, sum_below-same, sum_below-zero, sym, true, unit_fits}
-use Common.{unit_positive, unsigned_abs-mul, zero}
+use Common.{mode_small, mul-add, mul-le, mul-le-mul_left, mul_assoc, negsuc, pos, reach_of, refl}
+use Common.{replicate, rise_at, row_at, SlopeRow, start_coefficient, start_constant_part}
+use Common.{start_discretes, start_states, state_count, StateInfo, subst, suc, sum_below}
+use Common.{sum_below-same, sum_below-zero, sym, true, unit_fits, unit_positive, unsigned_abs-mul}
+use Common.{zero}
+use Rattle.qss_machine.specs.Machines.{quanta}
+use Rattle.qss_machine.proofs.Near.{quanta_positive}
 use Rattle.std.proofs.Math.IntN.{pos-*ℤ-pos}
 use Rattle.std.specs.Int.RustNames.{unsigned_abs}
 use Rattle.mu_num.proofs.Integers.{mul-above, mul-nonneg}

@@ -2,13 +2,12 @@
 use Rattle.qss_order2.proofs.Common
 use Common.{[], ℕ, ℤ, ◌*ℤ◌, ◌++◌, ◌+◌, ◌-ℤ◌, ◌<ℤ◌, ◌<◌, ◌∙◌, ◌∷◌, ◌≡◌, ◌≤◌, ap, AreChanges, arith}
 use Common.{Bool, false, finish_second_tick, first_exceeding_limit, flat_map, floor_meets, floor_of}
-use Common.{HasEach, HasRuledSlopes, if_cases, if◌then◌else◌, int_at, int_at-tabulate, int_lt}
-use Common.{int_lt-true, ints, IsMovedOn, IsNear2, IsSecondStep, IsVisit2, last_second_snapshot}
-use Common.{leaves_quantum, level_row, level_unit, List, Machine, MatchBool, MotionAt, moved_level}
-use Common.{moved_state, next_levels, next_snapshot, next_states, None, not, Ok, Option, pos}
-use Common.{range_with_len, reach_of, refl, rise_at, Row2, rows_of_left, second_snapshot_after}
-use Common.{second_snapshot_unless, SecondSnapshot, slope_row, snapshot_of, Some, state_count}
-use Common.{subst, suc, sym, tick_rows2, true, unit_positive, zero}
+use Common.{HasEach, if_cases, if◌then◌else◌, int_at, int_at-tabulate, int_lt, int_lt-true, ints}
+use Common.{IsMovedOn, IsNear2, IsSecondStep, IsVisit2, last_second_snapshot, leaves_quantum}
+use Common.{level_row, level_unit, List, Machine, MatchBool, moved_level, moved_state, next_levels}
+use Common.{next_states, not, Option, pos, range_with_len, reach_of, refl, rise_at, Row2}
+use Common.{rows_of_left, second_snapshot_after, second_snapshot_unless, SecondSnapshot, slope_row}
+use Common.{state_count, subst, suc, sym, tick_rows2, true, unit_positive, zero}
 use Rattle.std.specs.Int.RustNames.{unsigned_abs}
 use Rattle.qss_order2.proofs.RowLists.{left_rows}
 use Rattle.qss_order2.proofs.Silent.{event_free_snapshots, event_free_length, event_free_last}
@@ -87,19 +86,7 @@ module _ (Rule : ℤ → ℤ → ℤ → Type 0) (m : Machine) (tick : ℕ) (w :
     }) ≡ finish_second_tick m (tick + skipped + 1) (second_snapshot_after m w skipped) changes
     after_handlers =
         let v = second_snapshot_after m w skipped in
-        ap (λ (o : Option ℕ). second_snapshot_unless o (record {
-          states = states;
-          levels =
-              levels;
-          changes = changes;
-        })) is_over
-        ∙ ap (λ (ls : List ℤ). second_snapshot_unless (first_exceeding_limit m ls changes)
-        (record { states = states; levels = ls; changes = changes })) moved.levels_there
-        ∙ ap (λ (xs : List ℤ). second_snapshot_unless (first_exceeding_limit m (next_levels m v)
-        changes) (record { states = xs; levels = next_levels m v; changes = changes }))
-        moved.states_there
-        ∙ sym (ap (λ (b : Bool). second_snapshot_unless (if b then first_exceeding_limit m
-        (next_levels m v) changes else None) (next_snapshot m v changes)) moved.looks)
+        rw (is_over, moved.levels_there, moved.states_there, moved.looks)
 
     pub visit : IsVisit2 Rule m tick w (event_free_snapshots m w skipped) (tick + skipped + 1)
         (second_snapshot_unless over (record {
@@ -139,70 +126,3 @@ module _ (Rule : ℤ → ℤ → ℤ → Type 0) (m : Machine) (tick : ℕ) (w :
       <ℤ reach_of m j) (sym moved.states_there)
       (subst (λ (ls : List ℤ). pos (unsigned_abs (int_at (next_states m v) j -ℤ level_unit m *ℤ
       int_at ls j)) <ℤ reach_of m j) (sym moved.levels_there) (next_inside m v j h))
-
-unless_same : (o : Option ℕ) (a b : SecondSnapshot) → (o ≡ None → a ≡ b) →
-    second_snapshot_unless o a ≡ second_snapshot_unless o b
-unless_same None a b same = ap Ok (same refl)
-unless_same (Some var) a b same = refl
-
--- ---- a motion that was moved on, with new level slopes
-
-module _ (Rule : ℤ → ℤ → ℤ → Type 0) (m : Machine) (tick : ℕ) (w : SecondSnapshot) (skipped : ℕ)
-    (left : ℕ → Bool) (q1 q2 : MotionAt) (over : Option ℕ)
-    (moved : IsMovedOn m tick w skipped left q1.states q1.levels) (each : HasEach m w)
-    (kept : q1.changes ≡ w.changes) (after_handlers : HasRuledSlopes Rule m (left) q1 q2 over)
-    (states : over ≡ None → q2.states ≡ q1.states) (levels : over ≡ None → q2.levels ≡ q1.levels)
-  where
-    are : AreChanges Rule m (left) q1.levels w.changes after_handlers.changes
-    are = subst (λ old. AreChanges Rule m (left) q1.levels old after_handlers.changes)
-        kept after_handlers.are_changes
-
-    there : over ≡ None → record {
-      states = q1.states;
-      levels = q1.levels;
-      changes =
-          after_handlers.changes;
-    } ≡ snapshot_of q2
-    there e =
-        ap (λ (xs : List ℤ). record {
-          states = xs;
-          levels = q1.levels;
-          changes =
-              after_handlers.changes;
-        }) (sym (states e))
-        ∙ ap (λ (ls : List ℤ). record {
-          states = q2.states;
-          levels = ls;
-          changes =
-              after_handlers.changes;
-        }) (sym (levels e))
-        ∙ ap (λ (cs : List ℤ). record { states = q2.states; levels = q2.levels; changes = cs })
-        (sym (after_handlers.taken e))
-
-    pub looked : IsVisit2 Rule m tick w (event_free_snapshots m w skipped) (tick + skipped + 1)
-        (second_snapshot_unless over (snapshot_of q2))
-    looked =
-        subst (IsVisit2 Rule m tick w (event_free_snapshots m w skipped) (tick + skipped + 1))
-        (unless_same over (record {
-          states = q1.states;
-          levels = q1.levels;
-          changes =
-              after_handlers.changes;
-        }) (snapshot_of q2) there)
-        (visit Rule m tick w skipped left q1.states q1.levels moved each after_handlers.changes are
-        over
-        after_handlers.is_over)
-
-    pub looked_rows : (t : ℕ) (next : SecondSnapshot) → rows_of_left kind.Level t next left
-        (state_count m) ≡ tick_rows2 m t (last_second_snapshot w (event_free_snapshots m w skipped))
-        next
-    looked_rows t next = rows_are Rule m tick w skipped left q1.states q1.levels moved each
-        after_handlers.changes are t next
-
-    pub looked_near : over ≡ None → IsNear2 m (snapshot_of q2)
-    looked_near e = subst (IsNear2 m) (there e) (near_there Rule m tick w skipped left q1.states
-        q1.levels moved each after_handlers.changes are)
-
-    pub looked_within : over ≡ None → first_exceeding_limit m q2.levels q2.changes ≡ over
-    looked_within e = ap (λ (v : SecondSnapshot). first_exceeding_limit m v.levels v.changes)
-        (sym (there e)) ∙ sym after_handlers.is_over

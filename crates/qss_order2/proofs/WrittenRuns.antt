@@ -1,14 +1,13 @@
 -- A call of a second-order simulator, and a run from its start.
 use Rattle.qss_order2.proofs.Common
-use Common.{[], ℕ, ◌++◌, ◌+◌, ◌-◌, ◌<◌, ◌∙◌, ◌≡◌, All, ap, arith, Bool, discrete_count, EndsAs}
-use Common.{Events, first_exceeding_limit, HasVariable2, inl, inr, IsAble, IsNext2, IsRuled2}
-use Common.{IsStarted, line2_of, List, Machine, nearest_change, Option, Outcome2, Over}
+use Common.{[], ℕ, ◌++◌, ◌+◌, ◌-◌, ◌<◌, ◌∙◌, ◌≡◌, All, ap, arith, Bool, discrete_count, Done}
+use Common.{EndsAs, Events, first_exceeding_limit, HasVariable2, inl, inr, IsAble, IsNext2}
+use Common.{IsRuled2, IsStarted, line2_of, List, Machine, nearest_change, Option, Outcome2, Over}
 use Common.{overflow_ahead, refl, row2_lines, rows2_after, rows2_left, run2_rows, second_order_run}
 use Common.{SecondRunView, snapshots_from, snapshots_unless, Some, state_count, subst, sym, text_in}
 use Common.{true}
 use Rattle.std.proofs.lemmas.List.Elements.{All-head}
 use Rattle.qss_order2.specs.Events.{unless_ended2}
-use Rattle.qss_order2.proofs.NamedRows.{all_rows}
 use Rattle.qss_rows.specs.declared.simulation_rows.RunResult.{RunResult}
 use Rattle.qss_rows.specs.declared.simulation_rows.RunEnd.{RunEnd}
 use Rattle.qss_order2.specs.RemainingSecondRows.{remaining_second_rows, outcome2_of}
@@ -16,7 +15,7 @@ use Rattle.qss_order2.specs.SecondRunTexts.{second_run_text, IsSecondRunResult, 
 use Rattle.qss_order2.specs.SecondRunTexts.{IsSecondRunWritten}
 use Rattle.qss_rows.specs.Simulations.{HasResult, IsCutAtLine, IsSimulated}
 use Rattle.qss_rows.proofs.WrittenLines.{writes_none}
-use Rattle.qss_order2.proofs.Ends2.{able_before, event_end, start_over}
+use Rattle.qss_order2.proofs.Ahead.{able_before, event_end, start_over, all_rows}
 use Rattle.qss_rows.proofs.KnownParts.{all_front, all_back}
 use Rattle.qss_order2.proofs.KnownRows2.{run_known}
 use Rattle.qss_rows.proofs.RowLines.{lines_by-append}

@@ -1,13 +1,15 @@
 -- Event steps without rows are silent; the first with rows is the next event.
 use Rattle.qss_order2.proofs.Common
 use Common.{[], ℕ, ◌++◌, ◌==◌, ◌∙◌, ◌∷◌, ◌≡◌, ◌≢◌, ap, arith, end_rows, eqb-false, eqb-true, false}
-use Common.{Global, IsRuled2, IsVisit2, length, List, motion_at, None, Option, overflow_of, refl}
-use Common.{Row2, second_snapshot_unless, SecondSnapshot, snapshot_of, state_count, subst, sym}
-use Common.{true, Vec, vec_len, view_of, zero}
+use Common.{Global, IsRuled2, IsVisit2, last_second_snapshot, length, List, motion_at, None, Over}
+use Common.{overflow_of, refl, Row2, second_snapshot_unless, SecondSnapshot, snapshot_of}
+use Common.{state_count, sym, tick_rows2, true, Vec, vec_len, view_of, zero}
+use Rattle.qss_order2.proofs.order2_events.advance_to_event.Goals.{After-go_to_event-step}
 use Rattle.qss_order2.proofs.Motions.{can_move}
 use Rattle.qss_order2.proofs.Advances.{visit_on, rows_on, silent_visit, overflows_at_start}
 use Rattle.qss_order2.proofs.Advances.{overflows_later}
 use Rattle.qss_order2.proofs.order2_events.advance_to_event.Goals as goal
+use Rattle.qss_order2.proofs.order2_events.advance_to_event.Given as given
 
 some_rows : (v : Vec Row2 Global) → (vec_len v == 0) ≡ false → v.items ≢ []
 some_rows v e none =
@@ -20,6 +22,35 @@ empty_list (x ∷ xs) e = absurd (omega (arith, e))
 
 no_rows : (v : Vec Row2 Global) → (vec_len v == 0) ≡ true → v.items ≡ []
 no_rows v e = empty_list v.items (sym v.ok.0 ∙ eqb-true v.len 0 e)
+
+-- what follows from the start of the call, up to an event step
+record IsSeen (g : given.Over) (c : After-go_to_event-step g) : Type 0 where
+  pub silent : List SecondSnapshot
+  pub visit : IsVisit2 (IsRuled2 c.args.rule.now.nearest) c.args.f.now.machine c.args.from
+      (snapshot_of (motion_at c.args.f.now.machine c.args.s.now.motion c.args.from)) silent
+      c.go_to_event-step.result.tick (second_snapshot_unless (overflow_of
+      c.go_to_event-step.result.ran) (snapshot_of (motion_at c.args.f.now.machine
+      c.go_to_event-step.new.s.motion c.go_to_event-step.result.tick)))
+  pub rows : overflow_of c.go_to_event-step.result.ran ≡ None →
+      c.go_to_event-step.new.s.rows.items ≡ tick_rows2 c.args.f.now.machine
+      c.go_to_event-step.result.tick (last_second_snapshot (snapshot_of (motion_at
+      c.args.f.now.machine c.args.s.now.motion c.args.from)) silent) (snapshot_of (motion_at
+      c.args.f.now.machine c.go_to_event-step.new.s.motion c.go_to_event-step.result.tick))
+
+seen : (g : given.Over) (c : After-go_to_event-step g) → IsSeen g c
+seen g c =
+    let m = c.args.f.now.machine in
+    let Rule = IsRuled2 c.args.rule.now.nearest in
+    let w0 : SecondSnapshot = snapshot_of (motion_at m c.args.s.now.motion c.args.from) in
+    let before = c.loop-tick.invariant.are_silent in
+    let visited = c.go_to_event-step.ensures.visited in
+    record {
+      silent = before.0 ++ visited.0;
+      visit = visit_on Rule m c.args.from w0 before.0 c.loop-tick.tick _ before.1 visited.0 _ _
+          visited.1;
+      rows = λ none. visited.2 none ∙ rows_on Rule m c.args.from w0 before.0 c.loop-tick.tick _
+          before.1 visited.0 _ _;
+    }
 
 pub loop-tick-init : goal.loop-tick-init
 loop-tick-init g c = record {
@@ -47,22 +78,13 @@ returns-in-Err-clause-next g c = (
 
 pub returns-in-Err-ran-clause-next : goal.returns-in-Err-ran-clause-next
 returns-in-Err-ran-clause-next g c =
-    let Rule = IsRuled2 c.args.rule.now.nearest in
-    let m = c.args.f.now.machine in
-    let w0 : SecondSnapshot = snapshot_of (motion_at m c.args.s.now.motion c.args.from) in
-    let w : SecondSnapshot = snapshot_of (motion_at m c.loop-tick.s.motion c.loop-tick.tick) in
-    let before = c.loop-tick.invariant.are_silent in
-    let visited = c.go_to_event-step.ensures.visited in
-    let t = c.go_to_event-step.result.tick in
-    let next : SecondSnapshot = snapshot_of (motion_at m c.go_to_event-step.new.s.motion t) in
-    let all = visit_on Rule m c.args.from w0 before.0 c.loop-tick.tick w before.1 visited.0 t
-    (second_snapshot_unless (overflow_of c.go_to_event-step.result.ran) next) visited.1 in (
+    let is = seen g (goal.at.returns-in-Err-ran-clause-next g c).After-go_to_event-step in (
       record {
-        overflows = overflows_later Rule (view_of m c.args.from c.args.s.now None)
-            (before.0 ++ visited.0) t c.in-Err-ran.over.var (c.requires.is_store.over
+        overflows = overflows_later (IsRuled2 c.args.rule.now.nearest) (view_of
+            c.args.f.now.machine c.args.from c.args.s.now None) is.silent
+            c.go_to_event-step.result.tick c.in-Err-ran.over.var (c.requires.is_store.over
             ∙ c.loop-tick.invariant.began) c.go_to_event-step.ensures.tick_limit
-            (subst (λ (o : Option ℕ). IsVisit2 Rule m c.args.from w0 (before.0 ++ visited.0) t
-            (second_snapshot_unless o next)) (ap overflow_of c.in-Err-ran.is) all);
+            (rw (ap overflow_of c.in-Err-ran.is) at is.visit);
         own_rows = c.set_overflow_row-in-Err-ran.ensures;
         here = refl;
       },
@@ -71,31 +93,18 @@ returns-in-Err-ran-clause-next g c =
 
 pub returns-then-not-is_empty-clause-next : goal.returns-then-not-is_empty-clause-next
 returns-then-not-is_empty-clause-next g c =
-    let Rule = IsRuled2 c.args.rule.now.nearest in
-    let m = c.args.f.now.machine in
-    let w0 : SecondSnapshot = snapshot_of (motion_at m c.args.s.now.motion c.args.from) in
-    let w : SecondSnapshot = snapshot_of (motion_at m c.loop-tick.s.motion c.loop-tick.tick) in
-    let before = c.loop-tick.invariant.are_silent in
-    let visited = c.go_to_event-step.ensures.visited in
-    let t = c.go_to_event-step.result.tick in
-    let next : SecondSnapshot = snapshot_of (motion_at m c.go_to_event-step.new.s.motion t) in
-    let all = visit_on Rule m c.args.from w0 before.0 c.loop-tick.tick w before.1 visited.0 t
-    (second_snapshot_unless (overflow_of c.go_to_event-step.result.ran) next) visited.1 in
-    let stepped = subst (λ (o : Option ℕ). IsVisit2 Rule m c.args.from w0 (before.0 ++ visited.0) t
-    (second_snapshot_unless o next)) (ap overflow_of c.in_default-ran.is) all in (
-      before.0 ++ visited.0,
+    let is = seen g (goal.at.returns-then-not-is_empty-clause-next g c).After-go_to_event-step in
+    let stepped = rw (ap overflow_of c.in_default-ran.is) at is.visit in (
+      is.silent,
       record {
         goes = record {
           within = c.requires.is_store.over ∙ c.loop-tick.invariant.began;
-          leads =
-              stepped.leads;
+          leads = stepped.leads;
         };
         is_next = stepped.is_next;
         in_time = c.go_to_event-step.ensures.tick_limit;
         is_step = stepped.is_step;
-        own_rows = visited.2 (ap overflow_of c.in_default-ran.is)
-            ∙ rows_on Rule m c.args.from w0 before.0
-            c.loop-tick.tick w before.1 visited.0 t next;
+        own_rows = is.rows (ap overflow_of c.in_default-ran.is);
         some_rows = some_rows c.go_to_event-step.new.s.rows (sym c.is_empty.ensures
             ∙ c.if-not-is_empty.true);
         here = refl;
@@ -109,31 +118,19 @@ returns-then-not-is_empty-clause-is_store g c e = c.go_to_event-step.ensures.is_
 
 pub loop-tick-preserved : goal.loop-tick-preserved
 loop-tick-preserved g c =
-    let Rule = IsRuled2 c.args.rule.now.nearest in
-    let m = c.args.f.now.machine in
-    let w0 : SecondSnapshot = snapshot_of (motion_at m c.args.s.now.motion c.args.from) in
-    let w : SecondSnapshot = snapshot_of (motion_at m c.loop-tick.s.motion c.loop-tick.tick) in
-    let before = c.loop-tick.invariant.are_silent in
-    let visited = c.go_to_event-step.ensures.visited in
-    let t = c.go_to_event-step.result.tick in
-    let next : SecondSnapshot = snapshot_of (motion_at m c.go_to_event-step.new.s.motion t) in
-    let all = visit_on Rule m c.args.from w0 before.0 c.loop-tick.tick w before.1 visited.0 t
-    (second_snapshot_unless (overflow_of c.go_to_event-step.result.ran) next) visited.1 in
-    let stepped = subst (λ (o : Option ℕ). IsVisit2 Rule m c.args.from w0 (before.0 ++ visited.0) t
-    (second_snapshot_unless o next)) (ap overflow_of c.in_default-ran.is) all in
-    let none = sym (visited.2 (ap overflow_of c.in_default-ran.is)
-    ∙ rows_on Rule m c.args.from w0 before.0
-    c.loop-tick.tick w before.1 visited.0 t next)
-    ∙ no_rows c.go_to_event-step.new.s.rows (sym c.is_empty.ensures ∙ c.if-not-is_empty.false) in
+    let is = seen g (goal.at.loop-tick-preserved g c).After-go_to_event-step in
+    let within = ap overflow_of c.in_default-ran.is in
     record {
-      is_store = c.go_to_event-step.ensures.is_store (ap overflow_of c.in_default-ran.is);
+      is_store = c.go_to_event-step.ensures.is_store within;
       within = ap overflow_of c.go_to_event-step.ensures.same ∙ c.loop-tick.invariant.within;
       began = c.loop-tick.invariant.began;
       in_time = c.go_to_event-step.ensures.tick_limit;
       are_silent = (
-        (before.0 ++ visited.0) ++ next ∷ [],
-        silent_visit Rule m c.args.from w0
-            (before.0 ++ visited.0) t next stepped none,
+        is.silent ++ _ ∷ [],
+        silent_visit (IsRuled2 c.args.rule.now.nearest) c.args.f.now.machine c.args.from _ is.silent
+            c.go_to_event-step.result.tick _ (rw within at is.visit) (sym (is.rows within)
+            ∙ no_rows c.go_to_event-step.new.s.rows (sym c.is_empty.ensures
+            ∙ c.if-not-is_empty.false)),
       );
     }
 

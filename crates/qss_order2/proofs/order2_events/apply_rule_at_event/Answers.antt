@@ -1,15 +1,18 @@
 -- The limits are checked in their order.
 use Rattle.qss_order2.proofs.Common
-use Common.{ℕ, ℤ, ◌<◌, ◌∙◌, ◌≡◌, ◌≤ℤ◌, abs_of, All, ap, AreQuiet, arith, CanRead, cases_Bool, Err}
-use Common.{false, Global, HasChanged, inl, inr, int_at, is_listed, IsRuleApplied, IsRuled2, length}
-use Common.{levels_on, List, Motion, None, not, Option, overflow_of, past_levels, Place, rise_at}
-use Common.{rules, Some, state_count, Store, subst, sym, true, Vec}
+use Common.{[], ℕ, ℤ, ◌<◌, ◌∙◌, ◌≡◌, ◌≤ℤ◌, abs_of, All, ap, AreQuiet, arith, cases_Bool, Err, false}
+use Common.{inl, inr, int_at, is_listed, IsRuleApplied, IsRuled2, length, levels_on, List, None}
+use Common.{not, Option, Over, overflow_of, past_levels, rise_at, rules, Some, state_count, Store}
+use Common.{subst, sym, true}
+use Rattle.qss_order2.proofs.order2_events.apply_rule_at_event.Goals.{After-apply_slope_rule}
 use Rattle.qss_order2.proofs.Arrivals.{by_false}
 use Rattle.qss_order2.proofs.BoundedLines.{same_bound}
 use Rattle.qss_order2.proofs.Settled.{is_past_limit, is_rule_applied, window_reads, rise_bounded}
 use Rattle.qss_order2.proofs.Settled.{flat_after, bounded_flat, exact}
 use Rattle.qss_order2.proofs.Settlings.{of_changes}
+use Rattle.qss_order2.specs.Stores.{levels_of}
 use Rattle.qss_order2.proofs.order2_events.apply_rule_at_event.Goals as goal
+use Rattle.qss_order2.proofs.order2_events.apply_rule_at_event.Given as given
 
 not_none : {A : Type 0} (o : Option ℕ) (var : ℕ) → o ≡ Some var → o ≡ None → A
 not_none o var e f = absurd (cc)
@@ -18,15 +21,11 @@ pub returns-in_err-check_event_levels-clause-applied : goal.returns-in_err-check
 returns-in_err-check_event_levels-clause-applied g c =
     let m = c.args.f.now.machine in
     let s = c.args.s.now in
-    let n = state_count m in
-    let levels = levels_on n s.motion.places.items s.motion.changes.items c.args.tick in
     let over = c.in_err-check_event_levels.field-0.0 in
     let given : c.from_residual.result ≡ Err over = search rules in
-    subst (λ (q : Motion). IsRuleApplied (IsRuled2 c.args.rule.now.nearest) m s.left.items
-    s.affected.places levels s.motion q (overflow_of c.from_residual.result))
-    (sym (ap (λ (t : Store). t.motion) c.check_event_levels.ensures.same))
-    (is_past_limit c.args.rule.now.nearest m s.left.items s.affected.places levels s.motion
-    (overflow_of c.from_residual.result) over.var (ap overflow_of given)
+    rw (ap (λ (t : Store). t.motion) c.check_event_levels.ensures.same)
+    (is_past_limit c.args.rule.now.nearest m s.left.items s.affected.places (levels_of m s.motion
+    c.args.tick) s.motion (overflow_of c.from_residual.result) over.var (ap overflow_of given)
     (ap overflow_of given ∙ ap overflow_of (sym c.in_err-check_event_levels.was)
     ∙ c.check_event_levels.ensures.past))
 
@@ -37,13 +36,15 @@ returns-in_err-check_event_levels-clause-unbounded g c none =
 
 pub apply_slope_rule-requires-clause-within : goal.apply_slope_rule-requires-clause-within
 apply_slope_rule-requires-clause-within g c =
-    let m = c.args.f.now.machine in
-    let n = state_count m in
-    let none : past_levels m (levels_on n c.args.s.now.motion.places.items
-    c.args.s.now.motion.changes.items c.args.tick) ≡ None = sym c.check_event_levels.ensures.past
-    ∙ ap overflow_of c.in_ok-check_event_levels.was in
-    subst (λ (q : Motion). past_levels m (levels_on n q.places.items q.changes.items c.args.tick)
-    ≡ None) (sym (ap (λ (t : Store). t.motion) c.check_event_levels.ensures.same)) none
+    rw (ap (λ (t : Store). t.motion) c.check_event_levels.ensures.same)
+    (sym c.check_event_levels.ensures.past ∙ ap overflow_of c.in_ok-check_event_levels.was)
+
+-- the levels exceed no limit
+within : (g : given.Over) (c : After-apply_slope_rule g) → past_levels c.args.f.now.machine
+    (levels_of c.args.f.now.machine c.check_event_levels.new.s.motion c.args.tick) ≡ None
+within g c =
+    rw (ap (λ (t : Store). t.motion) c.check_event_levels.ensures.same)
+    (sym c.check_event_levels.ensures.past ∙ ap overflow_of c.in_ok-check_event_levels.was)
 
 pub apply_slope_rule-requires-clause-left : goal.apply_slope_rule-requires-clause-left
 apply_slope_rule-requires-clause-left g c = subst (λ (l : List ℕ).
@@ -71,33 +72,19 @@ apply_slope_rule-requires-clause-held g c = c.check_event_levels.ensures.can_app
 
 pub is_line_limit_needed-s-requires-clause-list : goal.is_line_limit_needed-s-requires-clause-list
 is_line_limit_needed-s-requires-clause-list g c =
-    let q2 = c.apply_slope_rule.new.q in
-    subst (λ (l : List ℕ). All (λ j. j < length q2.places.items) l) (sym c.deref-2.ensures.value)
-    (subst (λ n. All (λ j. j < n) c.check_event_levels.new.s.left.items)
-    (sym c.apply_slope_rule.ensures.lists.places)
-    c.check_event_levels.ensures.can_apply.numbers.below)
+    rw (c.deref-2.ensures.value, c.apply_slope_rule.ensures.lists.places)
+    c.check_event_levels.ensures.can_apply.numbers.below
 
 pub is_line_limit_needed-s-requires-clause-reads : goal.is_line_limit_needed-s-requires-clause-reads
 is_line_limit_needed-s-requires-clause-reads g c =
-    let m = c.args.f.now.machine in
-    let n = state_count m in
     let s1 = c.check_event_levels.new.s in
-    let q1 = s1.motion in
-    let q2 = c.apply_slope_rule.new.q in
     let can_apply = c.check_event_levels.ensures.can_apply in
     let applied = c.apply_slope_rule.ensures.applied in
-    let none : past_levels m (levels_on n s1.motion.places.items s1.motion.changes.items
-    c.args.tick) ≡ None =
-    subst (λ (q : Motion). past_levels m (levels_on n q.places.items q.changes.items c.args.tick)
-    ≡ None) (sym (ap (λ (t : Store). t.motion) c.check_event_levels.ensures.same))
-    (sym c.check_event_levels.ensures.past ∙ ap overflow_of c.in_ok-check_event_levels.was) in
-    subst (λ k. CanRead k s1.window q2.places.items q2.changes.items)
-    (sym c.apply_slope_rule.ensures.lists.places)
-    (subst (λ (ps : Vec Place Global). CanRead n s1.window ps.items q2.changes.items)
-    (sym applied.places)
-    (window_reads m c.args.tick s1.window q1.places.items q1.changes.items q2.changes.items
-    can_apply.reads none can_apply.in_window can_apply.near c.apply_slope_rule.ensures.lists.changes
-    applied.held))
+    rw (c.apply_slope_rule.ensures.lists.places, applied.places)
+    (window_reads c.args.f.now.machine c.args.tick s1.window s1.motion.places.items
+    s1.motion.changes.items c.apply_slope_rule.new.q.changes.items can_apply.reads
+    (within g (goal.at.is_line_limit_needed-s-requires-clause-reads g c).After-apply_slope_rule)
+    can_apply.in_window can_apply.near c.apply_slope_rule.ensures.lists.changes applied.held)
 
 -- the level slopes of the states that did not leave stay
 pub check_level_slopes-requires-clause-list : goal.check_level_slopes-requires-clause-list
@@ -118,10 +105,7 @@ check_level_slopes-requires-clause-flat g c j h not =
     let affected : List ℕ = c.places.result.now in
     let new : List ℤ = c.deref-3.result.now in
     let quiet : AreQuiet m (is_listed left) (is_listed affected) =
-    subst (λ (l : List ℕ). AreQuiet m (is_listed l) (is_listed affected))
-    (sym c.deref.ensures.value)
-    (subst (λ (l : List ℕ). AreQuiet m (is_listed s1.left.items) (is_listed l))
-    (sym c.places.ensures.places) can_apply.quiet) in
+    rw (c.deref.ensures.value, c.places.ensures.places) can_apply.quiet in
     let kept : (i : ℕ) → i < state_count m → is_listed left i ≡ false →
     int_at new i ≡ int_at s1.motion.changes.items i = λ i k stays.
     ap (λ (xs : List ℤ). int_at xs i) c.deref-3.ensures.value ∙ by_false (is_listed left i)
@@ -157,27 +141,14 @@ check_level_slopes-requires-clause-bounded g c is_bounded j h =
 pub returns-clause-applied : goal.returns-clause-applied
 returns-clause-applied g c =
     let m = c.args.f.now.machine in
-    let n = state_count m in
     let nearest = c.args.rule.now.nearest in
-    let tick = c.args.tick in
     let s1 = c.check_event_levels.new.s in
-    let q2 : Motion = c.apply_slope_rule.new.q in
     let over = overflow_of c.check_level_slopes.result in
-    let levels = levels_on n s1.motion.places.items s1.motion.changes.items tick in
-    let none : past_levels m (levels_on n s1.motion.places.items s1.motion.changes.items
-    c.args.tick) ≡ None =
-    subst (λ (q : Motion). past_levels m (levels_on n q.places.items q.changes.items c.args.tick)
-    ≡ None) (sym (ap (λ (t : Store). t.motion) c.check_event_levels.ensures.same))
-    (sym c.check_event_levels.ensures.past ∙ ap overflow_of c.in_ok-check_event_levels.was) in
-    let changed : HasChanged (IsRuled2 nearest) m s1.left.items levels s1.motion q2 =
-    subst (λ (l : List ℕ). HasChanged (IsRuled2 nearest) m l levels s1.motion q2)
-    c.deref.ensures.value c.apply_slope_rule.ensures.applied in
-    let there : IsRuleApplied (IsRuled2 nearest) m s1.left.items s1.affected.places levels s1.motion
-    q2
-    over =
-    is_rule_applied nearest m s1.left.items s1.affected.places levels s1.motion q2 over changed none
-    (c.check_level_slopes.ensures ∙ ap (of_changes m) c.deref-3.ensures.value)
-    c.check_event_levels.ensures.can_apply.risen in
     subst (λ (t : Store). IsRuleApplied (IsRuled2 nearest) m t.left.items t.affected.places
-    (levels_on n t.motion.places.items t.motion.changes.items tick) t.motion q2 over)
-    c.check_event_levels.ensures.same there
+    (levels_of m t.motion c.args.tick) t.motion c.apply_slope_rule.new.q over)
+    c.check_event_levels.ensures.same (is_rule_applied nearest m s1.left.items s1.affected.places
+    (levels_of m s1.motion c.args.tick) s1.motion c.apply_slope_rule.new.q over
+    (rw c.deref.ensures.value at c.apply_slope_rule.ensures.applied)
+    (within g (goal.at.returns-clause-applied g c).After-apply_slope_rule)
+    (c.check_level_slopes.ensures ∙ ap (of_changes m) c.deref-3.ensures.value)
+    c.check_event_levels.ensures.can_apply.risen)

@@ -1,9 +1,9 @@
 -- The affected states move, and those that left have new levels.
 use Rattle.qss_order2.proofs.Common
-use Common.{ℕ, ℤ, ◌+ℤ◌, ◌<◌, ◌∙◌, ◌≡◌, ap, arith, cases_Bool, false, floor_place, Global}
+use Common.{[], ℕ, ℤ, ◌+ℤ◌, ◌<◌, ◌∙◌, ◌≡◌, ap, arith, cases_Bool, false, floor_place, Global}
 use Common.{HasNewLevels, inl, inr, int_at, int_wrap, ints, is_listed, IsWithin, length}
-use Common.{level_shift, level_unit, levels_on, List, Place, place_in, place_there, pos, rise_at}
-use Common.{rise_on, state_count, sym, true, Vec, with_items, with_items_is}
+use Common.{level_shift, level_unit, levels_on, List, not, Place, place_in, place_there, pos}
+use Common.{rise_at, rise_on, state_count, sym, true, Vec, with_items, with_items_is}
 use Rattle.std.specs.Int.{w128}
 use Rattle.qss_order2.proofs.ColumnSums.{wrap_small}
 use Rattle.qss_order2.proofs.Gains.{rise_on_small, risen_by, quiet_shift}
@@ -58,31 +58,19 @@ returns c =
     with_items_is moved.places qs (c.take_motion_levels.auto.places ∙ c.deref_mut.ensures.len) in
     let shifted : (with_items moved.rises ss).items ≡ ss =
     with_items_is moved.rises ss (c.take_motion_levels.auto.rises ∙ c.deref_mut-2.ensures.len) in
-    let third : c.deref_mut.result.now ≡ ps = c.deref_mut.ensures.value in
-    let fourth : c.deref_mut-2.result.now ≡ rs = c.deref_mut-2.ensures.value in
+    let taken = rw (c.deref_mut.ensures.value, c.deref_mut-2.ensures.value) at
+    c.take_motion_levels.ensures in
     let there : (j : ℕ) → is_listed affected j ≡ true → place_in ps j ≡ place_there tick q j =
-    λ j e. is.places.each j e in
-    let stayed : (j : ℕ) → is_listed affected j ≡ false → place_in ps j
-    ≡ place_in q.places.items j =
-    λ j not. is.places.others j not in
-    let same : (j : ℕ) → is_listed left j ≡ false → place_in qs j ≡ place_in ps j = λ j stays.
-    c.take_motion_levels.ensures.places.others j stays
-    ∙ ap (λ (l : List Place). place_in l j) third in
+    is.places.each in
+    let same : (j : ℕ) → is_listed left j ≡ false → place_in qs j ≡ place_in ps j =
+    taken.places.others in
     let leaves : (j : ℕ) → is_listed left j ≡ true → place_in qs j ≡ floor_place (place_in ps j)
-    (level_unit m) = λ j e.
-    c.take_motion_levels.ensures.places.each j e
-    ∙ ap (λ (l : List Place). floor_place (place_in l j)
-    (level_unit m)) third in
+    (level_unit m) = taken.places.each in
     let since : (j : ℕ) → j < n → (place_in qs j).since ≡ (place_in ps j).since =
     λ j h. elim (cases_Bool (is_listed left j)) [
       | inl e ↦ ap (λ (p : Place). p.since) (leaves j e)
       | inr stays ↦ ap (λ (p : Place). p.since) (same j stays)
     ] in
-    let kept : (j : ℕ) → is_listed left j ≡ false →
-    place_in (with_items moved.places qs).items j ≡ place_in ps j =
-    λ j stays. ap (λ (l : List Place). place_in l j) floored ∙ same j stays in
-    let shift : (j : ℕ) → level_shift m j c.deref_mut.result.now qs ≡ level_shift m j ps qs =
-    λ j. ap (λ (l : List Place). level_shift m j l qs) third in
     let arrived : HasNewLevels m tick left affected q (record moved {
       places = with_items moved.places qs;
       rises = with_items moved.rises ss;
@@ -92,50 +80,39 @@ returns c =
       rises = λ j h not.
           let z : ℤ = int_at q.rises.items j in
           let small : IsWithin 126 z = omega (arith, way.small_rises j h) in
-          let start : int_at c.deref_mut-2.result.now j ≡ int_wrap w128 z =
-          ap (λ (l : List ℤ). int_at l j) fourth ∙ is.rises.others j not
-          ∙ sym (wrap_small z small) in
           let none : level_shift m j ps qs ≡ pos 0 =
           quiet_shift m j ps qs (is_listed left) (c.requires.quiet j h not) (λ k low stays.
           ap (λ (p : Place). p.level) (same k stays)) in
           let nothing : z +ℤ level_shift m j ps qs ≡ z = omega (arith, ints, none) in
-          ap (λ (l : List ℤ). int_at l j) shifted ∙ c.take_motion_levels.ensures.rises j z h start
-          ∙ ap (λ (y : ℤ). int_wrap w128 (z +ℤ y)) (shift j) ∙ ap (int_wrap w128) nothing
-          ∙ wrap_small z small;
+          rw (shifted, taken.rises j z h (is.rises.others j not ∙ sym (wrap_small z small)),
+          nothing) (wrap_small z small);
       risen = λ j h e.
-          let levels : List ℤ = levels_on n q.places.items q.changes.items tick in
           let z : ℤ = rise_on (place_in q.places.items j) (int_at q.rises.items j)
           (int_at q.bends.items j) tick in
-          let start : int_at c.deref_mut-2.result.now j ≡ int_wrap w128 z =
-          ap (λ (l : List ℤ). int_at l j) fourth ∙ is.rises.each j e
+          let start : int_at rs j ≡ int_wrap w128 z = is.rises.each j e
           ∙ sym (wrap_small z (rise_on_small (place_in q.places.items j) (int_at q.rises.items j)
           (int_at q.bends.items j) tick (way.near j h) (way.small_rises j h) (way.small_bends j h)))
           in
-          let before : levels_on n ps q.changes.items tick ≡ levels =
-          moved_levels n tick q ps affected there stayed in
           let rise : z +ℤ level_shift m j ps qs ≡ rise_at m j
           (levels_on n qs q.changes.items tick) =
-          ap (λ (y : ℤ). y +ℤ level_shift m j ps qs) (c.requires.rises j h
-          ∙ ap (rise_at m j) (sym before)) ∙ sym (risen_by m j ps qs q.changes.items tick since) in
-          ap (λ (l : List ℤ). int_at l j) shifted ∙ c.take_motion_levels.ensures.rises j z h start
-          ∙ ap (λ (y : ℤ). int_wrap w128 (z +ℤ y)) (shift j) ∙ ap (int_wrap w128) rise
-          ∙ ap (λ (l : List Place). int_wrap w128
-          (rise_at m j (levels_on n l q.changes.items tick))) (sym floored)
-          ∙ ap (λ (xs : List ℤ). int_wrap w128
-          (rise_at m j (levels_on n (with_items moved.places qs).items xs tick))) (sym changes);
+          ap (λ (y : ℤ). y +ℤ level_shift m j ps qs) (c.requires.rises j h ∙ ap (rise_at m j)
+          (sym (moved_levels n tick q ps affected there is.places.others)))
+          ∙ sym (risen_by m j ps qs q.changes.items tick since) in
+          rw (shifted, floored, changes) (taken.rises j z h start ∙ ap (int_wrap w128) rise);
       own = c.requires.own;
-      leaving = λ j e. ap (λ (l : List Place). place_in l j) floored ∙ leaves j e
-          ∙ ap (λ (p : Place). floor_place p (level_unit m)) (there j (c.requires.own j e));
-      moved = λ j e stays. kept j stays ∙ there j e;
-      others = λ j not. kept j (not_own left affected c.requires.own j not) ∙ stayed j not;
+      leaving = λ j e. rw floored (leaves j e ∙ ap (λ (p : Place). floor_place p (level_unit m))
+          (there j (c.requires.own j e)));
+      moved = λ j e stays. rw floored (same j stays ∙ there j e);
+      others = λ j not. rw floored (same j (not_own left affected c.requires.own j not)
+          ∙ is.places.others j not);
     } in
     record {
       lists = record {
-        places = ap length floored ∙ c.take_motion_levels.auto.places ∙ ap length third
+        places = ap length floored ∙ c.take_motion_levels.auto.places ∙ ap length c.deref_mut.ensures.value
             ∙ is.places.as_many ∙ l.places;
         changes = ap length changes ∙ l.changes;
-        rises = ap length shifted ∙ c.take_motion_levels.auto.rises ∙ ap length fourth
-            ∙ is.rises.as_many ∙ l.rises;
+        rises = ap length shifted ∙ c.take_motion_levels.auto.rises
+            ∙ ap length c.deref_mut-2.ensures.value ∙ is.rises.as_many ∙ l.rises;
         bends = ap length bends ∙ l.bends;
       };
       arrived = arrived;

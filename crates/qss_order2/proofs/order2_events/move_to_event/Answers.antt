@@ -1,11 +1,10 @@
 -- The states that leave are those that are due.
 use Rattle.qss_order2.proofs.Common
-use Common.{ℕ, ℤ, ◌*ℤ◌, ◌+◌, ◌<◌, ◌∙◌, ◌≡◌, ◌≤ℤ◌, abs_of, All, ap, AreQuiet, arith, bend_at}
-use Common.{exceeds, false, HasNewLevels, int_at, int_wrap, is_listed, IsWithin, level_unit, List}
-use Common.{motion_at, refl, rise_change_weight, snapshot_of, state_count, subst, sym, true}
-use Common.{within-passes}
+use Common.{[], ℕ, ℤ, ◌*ℤ◌, ◌+◌, ◌<◌, ◌∙◌, ◌≡◌, ◌≤ℤ◌, abs_of, All, ap, arith, bend_at, exceeds}
+use Common.{false, int_at, int_wrap, is_listed, IsWithin, level_unit, List, motion_at, refl}
+use Common.{rise_change_weight, snapshot_of, state_count, subst, sym, true, within-passes}
 use Rattle.std.specs.Int.{w128}
-use Rattle.qss_order2.proofs.Arrivals.{since_touched, level1, reads1, near1}
+use Rattle.qss_order2.proofs.Arrivals.{IsArrival, since_touched, level1, reads1, near1}
 use Rattle.qss_order2.proofs.Bounds.{bends_flat}
 use Rattle.qss_order2.proofs.ColumnSums.{wrap_small}
 use Rattle.qss_order2.proofs.Gains.{follows_levels}
@@ -36,6 +35,10 @@ returns-clause-dues c = c.ticks_to_next_event-ticks.ensures.others
 pub returns-clause-kept : goal.returns-clause-kept
 returns-clause-kept c = (refl, refl, refl)
 
+pub returns-clause-arrived : goal.returns-clause-arrived
+returns-clause-arrived c =
+    rw (c.deref-2.ensures.value, c.places.ensures.places) at c.move_on_at_event.ensures.arrived
+
 pub returns-clause-can_apply : goal.returns-clause-can_apply
 returns-clause-can_apply c =
     let m = c.args.f.now.machine in
@@ -52,27 +55,25 @@ returns-clause-can_apply c =
     let window = c.requires.ready.dues.is_window in
     let within = c.ticks_to_next_event-ticks.ensures.within in
     let lists = c.move_on_at_event.ensures.lists in
-    let listed : c.deref.result.now ≡ left = c.deref.ensures.value in
     let own : (j : ℕ) → is_listed left j ≡ true → is_listed affected j ≡ true =
-    λ j e. c.touch.ensures.own j (ap (λ (l : List ℕ). is_listed l j) listed ∙ e) in
-    let arrived : HasNewLevels m t left affected q0 q1 =
-    subst (λ (l : List ℕ). HasNewLevels m t l affected q0 q1) c.deref-2.ensures.value
-    (subst (λ (l : List ℕ). HasNewLevels m t c.deref-2.result.now l q0 q1) c.places.ensures.places
-    c.move_on_at_event.ensures.arrived) in
+    λ j e. c.touch.ensures.own j (ap (λ (l : List ℕ). is_listed l j) c.deref.ensures.value ∙ e) in
+    let arrived = returns-clause-arrived c in
+    let is : IsArrival m tick ticks left affected q0 q1 = record {
+      moves = goes.moves;
+      past = goes.movable.past;
+      arrived = arrived;
+    } in
     record {
-      reads = reads1 m tick ticks left affected q0 q1 goes.moves goes.movable.past arrived
-          s.window goes.movable within lists;
+      reads = reads1 is s.window goes.movable within lists;
       in_window = within;
-      near = near1 m tick ticks left affected q0 q1 goes.moves goes.movable.past arrived s.window
-          (omega (arith, window.few, goes.in_window)) goes.movable.near;
+      near = near1 is s.window (omega (arith, window.few, goes.in_window)) goes.movable.near;
       bounded = λ is_bounded.
           let before = goes.bounded is_bounded in (
             before.0,
             before.1,
             λ j h stays.
                 subst (λ z. abs_of z ≤ℤ before.0)
-                (sym (level1 m tick ticks left affected q0 q1 goes.moves goes.movable.past arrived
-                j stays)) (before.2 j t h (omega arith) within),
+                (sym (level1 is j stays)) (before.2 j t h (omega arith) within),
           );
       bounded_slopes = λ is_bounded.
           let before = goes.bounded_slopes is_bounded in (
@@ -105,22 +106,11 @@ returns-clause-can_apply c =
               ∙ e),
           c.touch.ensures.count,
         ),
-        since_touched m tick ticks left affected q0 q1 goes.moves goes.movable.past arrived j e,
+        since_touched is j e,
       );
       own = own;
-      quiet = subst (λ (l : List ℕ). AreQuiet m (is_listed l) (is_listed affected))
-          listed c.touch.ensures.quiet;
+      quiet = rw c.deref.ensures.value at c.touch.ensures.quiet;
     }
-
-pub returns-clause-arrived : goal.returns-clause-arrived
-returns-clause-arrived c =
-    let m = c.args.f.now.machine in
-    let q0 = c.args.s.now.motion in
-    let q1 = c.move_on_at_event.new.q in
-    let t : ℕ = c.args.tick + c.ticks_to_next_event-ticks.result in
-    subst (λ (l : List ℕ). HasNewLevels m t l c.touch.new.affected.places q0 q1)
-    c.deref-2.ensures.value (subst (λ (l : List ℕ). HasNewLevels m t c.deref-2.result.now l q0
-    q1) c.places.ensures.places c.move_on_at_event.ensures.arrived)
 
 pub move_on_at_event-requires-clause-movable : goal.move_on_at_event-requires-clause-movable
 move_on_at_event-requires-clause-movable c =
@@ -156,11 +146,8 @@ move_on_at_event-requires-clause-own c j e =
 
 pub move_on_at_event-requires-clause-quiet : goal.move_on_at_event-requires-clause-quiet
 move_on_at_event-requires-clause-quiet c =
-    let m = c.args.f.now.machine in
-    subst (λ (l : List ℕ). AreQuiet m (is_listed c.deref-2.result.now) (is_listed l))
-    (sym c.places.ensures.places)
-    (subst (λ (l : List ℕ). AreQuiet m (is_listed l) (is_listed c.touch.new.affected.places))
-    (c.deref.ensures.value ∙ sym c.deref-2.ensures.value) c.touch.ensures.quiet)
+    rw (c.places.ensures.places, c.deref-2.ensures.value) (rw c.deref.ensures.value at
+    c.touch.ensures.quiet)
 
 pub move_on_at_event-requires-clause-rises : goal.move_on_at_event-requires-clause-rises
 move_on_at_event-requires-clause-rises c =

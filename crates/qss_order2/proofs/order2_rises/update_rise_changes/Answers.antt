@@ -1,14 +1,16 @@
 -- One more level slope, and the shifts that it causes.
 use Rattle.qss_order2.proofs.Common
-use Common.{ℕ, ℤ, ◌*ℤ◌, ◌+ℤ◌, ◌-ℤ◌, ◌<◌, ◌∙◌, ◌≡◌, All, among_at, ap, arith, coefficient_of}
-use Common.{column_at, Entry, FitsSigned, get_or, get_or-set_other, get_or-set_same, Global, int_at}
-use Common.{int_wrap, ints, IsAnswer, IsAsked, IsPositiveWithin, IsWithin, length, level_unit, List}
-use Common.{of_z, Place, pos, refl, rules, set, start_coefficient, state_count, subst, sym, to_z}
-use Common.{to_z-of_z, unit_fits, Vec, w128, with_items, with_items_is, written_all, written_more}
+use Common.{[], ℕ, ℤ, ◌*ℤ◌, ◌+ℤ◌, ◌-ℤ◌, ◌<◌, ◌∙◌, ◌≡◌, All, among_at, ap, arith, coefficient_of}
+use Common.{column_at, Entry, false, FitsSigned, get_or, get_or-set_other, get_or-set_same, Global}
+use Common.{int_at, int_wrap, ints, IsAnswer, IsWithin, length, level_unit, List, of_z, Over, Place}
+use Common.{pos, refl, rules, set, start_coefficient, state_count, subst, sym, to_z, to_z-of_z}
+use Common.{true, Vec, w128, with_items, with_items_is, written_all, written_more}
+use Rattle.qss_order2.proofs.order2_rises.update_rise_changes.Goals.{After-index}
 use Rattle.qss_order2.proofs.Bounds.{at_index}
 use Rattle.qss_order2.proofs.ColumnSums.{gain_none, column_gain}
-use Rattle.qss_order2.proofs.FixedFacts.{wide, column_is}
+use Rattle.qss_order2.proofs.FixedFacts.{asked, answered, column_is}
 use Rattle.qss_order2.proofs.order2_rises.update_rise_changes.Goals as goal
+use Rattle.qss_order2.proofs.order2_rises.update_rise_changes.Given as given
 
 pub loop-state-init : goal.loop-state-init
 loop-state-init g c = record {
@@ -41,28 +43,25 @@ index-requires g c =
       c.requires.lists.rises,
     ))
 
+-- the slope that is read
+slope : (g : given.Over) (c : After-index g) → (j : ℕ) → j ≡ get_or c.args.list.now
+    c.loop-state.state-index 0 → c.loop-state.state-index < length c.args.list.now →
+    (c.index.result.now ≡ int_at c.args.q.now.rises.items j) × IsWithin 95 c.index.result.now
+slope g c j here before =
+    let is : c.index.result.now ≡ int_at c.args.q.now.rises.items j = rw (here,
+    ← c.loop-state.invariant.rises) (at_index c.loop-state.q.rises.items _
+    (length c.loop-state.q.rises.items) c.index.result.now refl
+    (rw c.loop-state.invariant.rises (omega (
+      arith,
+      c.requires.list c.loop-state.state-index 0 before,
+      c.requires.lists.rises,
+    ))) c.index.ensures) in
+    (is, rw (is, here) (c.requires.size_limit _ (among_at c.args.list.now c.loop-state.state-index
+    before)))
+
 pub change-new-requires : goal.change-new-requires
-change-new-requires g c =
-    let a = c.args in
-    let s = c.loop-state in
-    let j : ℕ = get_or a.list.now s.state-index 0 in
-    let h : j < state_count a.f.now.machine = c.requires.list s.state-index 0 c.loop-state-test.true
-    in
-    let small : IsPositiveWithin 44 a.f.now.unit =
-    subst (IsPositiveWithin 44) (sym a.f.now.is_fixed.own_unit) (unit_fits a.f.now.machine) in
-    let of_unit : FitsSigned w128 a.f.now.unit = wide _ (omega (arith, small.within)) in
-    let read : c.index.result.now ≡ int_at a.q.now.rises.items j =
-    at_index s.q.rises.items j (state_count a.f.now.machine) c.index.result.now
-    (ap (λ (v : Vec ℤ Global). length v.items) s.invariant.rises ∙ c.requires.lists.rises) h
-    c.index.ensures ∙ ap (λ (v : Vec ℤ Global). int_at v.items j) s.invariant.rises in
-    let rise : IsWithin 95 c.index.result.now = subst (IsWithin 95) (sym read)
-    (c.requires.size_limit j (among_at a.list.now s.state-index c.loop-state-test.true)) in
-    let of_rise : FitsSigned w128 c.index.result.now = wide _ (omega (arith, rise)) in
-    let asked : IsAsked c.index.result.now a.f.now.unit = record {
-      small_rise = rise;
-      small_unit = small;
-    } in
-    simp to_z-of_z asked
+change-new-requires g c = asked c.args.f.now c.index.result.now (slope g (goal.at.change-new-requires
+    g c).After-index _ refl c.loop-state-test.true).1
 
 pub add_fixed_column_multiple-requires : goal.add_fixed_column_multiple-requires
 add_fixed_column_multiple-requires g c =
@@ -98,23 +97,11 @@ loop-state-preserved g c =
     let h : j < n = c.requires.list i 0 before in
     let many : length now ≡ n = inv.changes.as_many ∙ c.requires.lists.changes in
     let inside : j < length now = omega (arith, h, many) in
-    let small : IsPositiveWithin 44 f.unit = subst (IsPositiveWithin 44) (sym f.is_fixed.own_unit)
-    (unit_fits m) in
-    let of_unit : FitsSigned w128 f.unit = wide _ (omega (arith, small.within)) in
-    let read : c.index.result.now ≡ int_at q.rises.items j =
-    at_index s.rises.items j n c.index.result.now
-    (ap (λ (v : Vec ℤ Global). length v.items) inv.rises ∙ c.requires.lists.rises) h
-    c.index.ensures ∙ ap (λ (v : Vec ℤ Global). int_at v.items j) inv.rises in
-    let rise : IsWithin 95 c.index.result.now = subst (IsWithin 95) (sym read)
-    (c.requires.size_limit j (among_at a.list.now i before)) in
-    let of_rise : FitsSigned w128 c.index.result.now = wide _ (omega (arith, rise)) in
+    let read = slope g (goal.at.loop-state-preserved g c).After-index j refl before in
     let fits : FitsSigned w128 c.change-new.result = record { sfits = c.change-new.type_inv } in
-    let own : IsAnswer nearest c.index.result.now f.unit c.change-new.result =
-    simp to_z-of_z at c.change-new.ensures.answer in
     let there : IsAnswer nearest (int_at q.rises.items j) (level_unit m) c.change-new.result =
-    subst (λ r. IsAnswer nearest r (level_unit m) c.change-new.result) read
-    (subst (λ u. IsAnswer nearest c.index.result.now u c.change-new.result) f.is_fixed.own_unit
-    own) in
+    rw read.0 at (answered f c.index.result.now read.1 nearest c.change-new.result
+    c.change-new.ensures.answer) in
     let v : ℤ = to_z w128 (of_z w128 c.change-new.result) in
     let same : v ≡ c.change-new.result = to_z-of_z w128 c.change-new.result fits in
     let is : c.as_slice.result.now ≡ column_at f.columns.items j = c.as_slice.ensures

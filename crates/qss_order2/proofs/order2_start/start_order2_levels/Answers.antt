@@ -1,8 +1,8 @@
 -- One more level.
 use Rattle.qss_order2.proofs.Common
-use Common.{ℤ, ◌<ℤ◌, ◌∙◌, ◌≡◌, ap, arith, FitsSigned, floor_of, int_at, ints, level_unit, map, pos}
-use Common.{take_all, to_z-of_z, unit_fits, unsigned_abs, w128}
-use Rattle.qss_order2.proofs.FixedFacts.{wide}
+use Common.{[], ℤ, ◌<ℤ◌, ◌∙◌, ◌≡◌, ap, arith, false, FitsSigned, floor_of, int_at, ints, level_unit}
+use Common.{map, pos, take_all, to_z-of_z, true, w128}
+use Rattle.qss_order2.proofs.FixedFacts.{unit_small, unit_wide}
 use Rattle.qss_order2.proofs.Tables.{map_more}
 use Rattle.qss_order2.proofs.order2_start.start_order2_levels.Goals as goal
 
@@ -11,13 +11,8 @@ loop-j-preserved c =
     let j = c.loop-j.j in
     let f = c.args.f.now in
     let inv = c.loop-j.invariant in
-    let u = unit_fits f.machine in
     let unit : f.unit ≡ level_unit f.machine = f.is_fixed.own_unit in
-    let of_unit : FitsSigned w128 f.unit = wide f.unit (omega (
-      arith,
-      ap unsigned_abs unit,
-      u.within,
-    )) in
+    let of_unit = unit_wide f in
     let of_x : FitsSigned w128 (int_at c.args.states.now j) = omega (arith, ints) in
     let fits : FitsSigned w128 c.floor_div.result = record { sfits = c.floor_div.type_inv } in
     let own : c.floor_div.result ≡ floor_of (int_at c.args.states.now j) f.unit =
@@ -42,12 +37,6 @@ returns c =
 pub floor_div-requires : goal.floor_div-requires
 floor_div-requires c =
     let f = c.args.f.now in
-    let u = unit_fits f.machine in
-    let unit : f.unit ≡ level_unit f.machine = f.is_fixed.own_unit in
-    let of_unit : FitsSigned w128 f.unit = wide f.unit (omega (
-      arith,
-      ap unsigned_abs unit,
-      u.within,
-    )) in
-    let low : pos 0 <ℤ f.unit = omega (arith, ints, unit, u.from_one) in
+    let of_unit = unit_wide f in
+    let low : pos 0 <ℤ f.unit = omega (arith, ints, (unit_small f).from_one) in
     simp to_z-of_z low

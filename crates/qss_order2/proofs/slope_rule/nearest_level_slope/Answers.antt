@@ -3,7 +3,7 @@ use Rattle.qss_order2.proofs.Common
 use Common.{◌<ℤ◌, ◌≡◌, arith, FitsSigned, FreeChange, ints, IsAnswer, pos, subst, sym, to_z-of_z}
 use Common.{true, w128}
 use Rattle.mu_num.specs.Rounding.{nearest_of}
-use Rattle.qss_order2.proofs.Legitimacy.{nearest_is_free}
+use Rattle.qss_order2.proofs.Settlings.{nearest_is_free}
 use Rattle.qss_order2.proofs.slope_rule.nearest_level_slope.Goals as goal
 
 pub returns : goal.returns

@@ -1,5 +1,5 @@
 use Rattle.qss_order2.proofs.Common.{◌∙◌, ◌≡◌, ap, Done, Events, Over, refl, row2_lines}
-use Rattle.qss_order2.proofs.Ends2.{able_before, done_end, over_end}
+use Rattle.qss_order2.proofs.Ahead.{able_before, done_end, over_end}
 use Rattle.qss_order2.proofs.WrittenRuns.{call_of, known_on, none_left, ends_on, over_in}
 use Rattle.qss_order2.proofs.second_run.SecondRunSimulation.next_event.Goals as goal
 
