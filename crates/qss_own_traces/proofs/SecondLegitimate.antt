@@ -7,7 +7,8 @@ use Common.{states_from2, subst, sym, true, unit_positive}
 use Rattle.std.specs.Prelude.{MatchBool}
 use Rattle.qss_order2.specs.SecondSteps.{next_levels, FreeChange, AreChanges}
 use Rattle.qss_order2.specs.SecondRuns.{Leads2}
-use Rattle.qss_order2.proofs.Legitimacy.{second_runs_are_legitimate, nearest_is_free}
+use Rattle.qss_order2.proofs.Legitimacy.{second_runs_are_legitimate}
+use Rattle.qss_order2.proofs.Settlings.{nearest_is_free}
 
 free_change : (m : Machine) (asked : ℕ → Bool) (levels old new : List ℤ) → AreChanges (SlopeRuleOf nearest_change) m asked levels old new → AreChanges FreeChange m asked levels old new
 free_change m asked levels old new are = record { one_each = are.one_each; each = λ j h. by (asked j) (rise_at m j levels) (int_at new j) (int_at old j) (are.each j h) }
