@@ -1,26 +1,19 @@
 -- A motion at the next event.
 use Rattle.qss_order2.proofs.Common
 use Common.{[], ℕ, ℤ, ◌*ℤ◌, ◌+ℤ◌, ◌+◌, ◌-◌, ◌<◌, ◌∙◌, ◌≡◌, ◌≤◌, ap, AreMovableUntil, AreQuiet}
-use Common.{arith, bend_at, Bool, CanRead, cases_Bool, false, floor_of, HasLists, HasNewLevels}
-use Common.{if-false, if-true, if◌then◌else◌, inl, inr, int_at, int_at-tabulate, is_listed}
-use Common.{IsRuleApplied, IsSized, IsSmallPlace, IsWithin, length-map-range_with_len, level_on}
-use Common.{level_unit, levels_after, levels_on, List, Machine, MatchBool, Motion, motion_at, Moves}
-use Common.{None, not, Option, Place, place_in, pos, refl, rise_at, second_snapshot_after}
-use Common.{SecondSnapshot, snapshot_of, state_count, state_on, subst, sym, tabulate, true}
+use Common.{arith, bend_at, CanRead, cases_Bool, false, floor_of, HasLists, HasNewLevels, if-false}
+use Common.{if-true, if◌then◌else◌, inl, inr, int_at, int_at-tabulate, is_listed, IsRuleApplied}
+use Common.{IsSized, IsSmallPlace, IsWithin, length-map-range_with_len, level_on, level_unit}
+use Common.{levels_after, levels_on, List, Machine, Motion, motion_at, Moves, None, not, Option}
+use Common.{Place, place_in, pos, refl, rise_at, second_snapshot_after, SecondSnapshot, snapshot_of}
+use Common.{state_count, state_on, subst, sym, tabulate, true}
 use Rattle.qss_order2.specs.Stores.{HasRises}
 use Rattle.qss_order2.proofs.Motions.{here_level, here_state, here_line, line_later, states_later}
 use Rattle.qss_order2.proofs.Motions.{levels_later, rises_later, bend_v, levels_are, states_are}
 use Rattle.qss_order2.proofs.Motions.{rises_are, many_states, many_levels, many_rises}
+use Rattle.qss_order2.proofs.QuietStates.{not_own}
 use Rattle.qss_order2.proofs.Quiet.{rise_stays, same_bend}
-use Rattle.qss_order2.proofs.Tables.{same_list}
-
--- what holds where a test fails
-pub by_false : (b : Bool) (P Q : Type 0) → b ≡ false → MatchBool b P Q → Q
-by_false true P Q e q = absurd (cc)
-by_false false P Q e q = q
-
-clash : {A : Type 0} (b : Bool) → b ≡ true → b ≡ false → A
-clash b yes_ no_ = absurd (cc)
+use Rattle.qss_order2.proofs.Tables.{same_list, by_false}
 
 -- a motion at a tick, and the one after some ticks at which some states leave
 pub record IsArrival (m : Machine) (tick ticks : ℕ) (left affected : List ℕ) (q0 q1 : Motion) : Type
@@ -191,11 +184,7 @@ module _ {Rule : ℤ → ℤ → ℤ → Type 0} {m : Machine} {tick ticks : ℕ
   kept_place j not = same_place j ∙ before.arrived.others j not
 
   not_left : (j : ℕ) → is_listed affected j ≡ false → is_listed left j ≡ false
-  not_left j not = elim (cases_Bool (is_listed left j)) [
-    | inl leaves ↦ clash (is_listed affected j)
-        (before.arrived.own j leaves) not
-    | inr stays ↦ stays
-  ]
+  not_left = not_own left (is_listed affected) before.arrived.own
 
   state2 : (j : ℕ) → j < state_count m → state_on (place j) (int_at q2.rises.items j)
       (int_at q2.bends.items j) (tick + ticks) ≡ int_at (there before).states j

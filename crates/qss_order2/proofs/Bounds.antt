@@ -1,23 +1,19 @@
 -- Sizes in a motion from a snapshot that passed its limit check.
 use Rattle.qss_order2.proofs.Common
-use Common.{ℕ, ℤ, ◌*ℤ◌, ◌*◌, ◌+◌, ◌-ℤ◌, ◌<ℤ◌, ◌<◌, ◌^◌, ◌∙◌, ◌≡◌, ◌≤ℤ◌, ◌≤◌, abs_of, All, ap, arith}
+use Common.{[], ℕ, ℤ, ◌*ℤ◌, ◌*◌, ◌+◌, ◌-ℤ◌, ◌<ℤ◌, ◌<◌, ◌^◌, ◌∙◌, ◌≡◌, ◌≤ℤ◌, ◌≤◌, All, ap, arith}
 use Common.{bend_at, first_exceeding, first_exceeding_limit, get_or, get_or_default, int_at}
 use Common.{int_at-tabulate, ints, IsWithin, length, List, Machine, MotionAt, Moves, mul-le}
 use Common.{mul-le-mul_right, None, none_past, option_or, option_or-None, pos, reach_of, rise_at}
-use Common.{rise_change_weight, rise_weight, start_coefficient, state_count, subst, suc, sum_below}
-use Common.{sym, tabulate, unit_fits, unsigned_abs-mul, zero}
+use Common.{rise_change_weight, rise_weight, start_coefficient, state_count, subst, sym, tabulate}
+use Common.{unit_fits, unsigned_abs-mul}
 use Rattle.std.specs.Int.RustNames.{unsigned_abs}
-use Rattle.qss_order2.proofs.Sizes.{reach_small}
+use Rattle.qss_order2.proofs.Sizes.{reach_small, sum_within_sizes}
 use Rattle.qss_order2.proofs.Tables.{all_of}
 
 -- a value that was read
 pub at_index : (xs : List ℤ) (j n : ℕ) (z : ℤ) → length xs ≡ n → j < n → z ≡ get_or xs j z →
     z ≡ int_at xs j
 at_index xs j n z many h is = is ∙ get_or_default xs j z (pos 0) (omega (arith, h, many))
-
-sum_within_sizes : (n : ℕ) (f : ℕ → ℤ) → abs_of (sum_below n f) ≤ℤ sum_below n (λ i. abs_of (f i))
-sum_within_sizes zero f = omega (arith, ints)
-sum_within_sizes (suc n) f = omega (arith, ints, sum_within_sizes n f)
 
 pub rise_by_weight : (m : Machine) (levels : List ℤ) →
     first_exceeding 94 (tabulate (state_count m) (rise_weight m levels)) ≡ None → (j : ℕ) →

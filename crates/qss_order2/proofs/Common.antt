@@ -45,12 +45,14 @@ pub use Rattle.mu_num.specs.Rounding.{floor_of}
 pub use Rattle.mu_num.specs.Sizes.{exceeds, IsPositiveWithin, IsWithin}
 pub use Rattle.mu_num.specs.Writes.{IsWritten}
 pub use Rattle.qss_sched.specs.PlaceSets.{PlaceList}
+pub use Rattle.qss_machine.proofs.Distinct.{none_at}
 pub use Rattle.qss_machine.proofs.Loops.{fits_below, product_bound, product_is, sum_done, sum_step}
 pub use Rattle.qss_machine.proofs.ModeTests.{mode_small}
 pub use Rattle.qss_machine.proofs.Near.{option_or-None, unit_fits, unit_positive}
 pub use Rattle.qss_machine.proofs.Ranges.{none_past}
 pub use Rattle.qss_machine.proofs.StartValues.{discretes_start}
 pub use Rattle.qss_machine.proofs.SumLaws.{weighted_sum-is}
+pub use Rattle.qss_machine.proofs.WeightLaws.{size-mul}
 pub use Rattle.qss_machine.specs.Legitimate.{start_coefficient, start_constant_part}
 pub use Rattle.qss_machine.specs.Machines.{discrete_count, level_unit, row_at, start_discretes}
 pub use Rattle.qss_machine.specs.Machines.{start_states, state_count}

@@ -1,12 +1,12 @@
 -- From a snapshot to the next event step.
 use Rattle.qss_order2.proofs.Common
-use Common.{ℕ, ℤ, ◌%◌, ◌*ℤ◌, ◌+ℤ◌, ◌+◌, ◌<◌, ◌==◌, ◌||◌, ◌∙◌, ◌≡◌, ◌≤◌, ◌⊎◌, ap, arith, Bool}
-use Common.{eqb-false, eqb-true, eqb-yes, false, floor_of, if◌then◌else◌, inl, inr, int_at}
+use Common.{[], ℕ, ℤ, ◌%◌, ◌*ℤ◌, ◌+ℤ◌, ◌+◌, ◌<◌, ◌==◌, ◌||◌, ◌∙◌, ◌≡◌, ◌≤◌, ap, arith, Bool}
+use Common.{cases_eq, cases_lt, eqb-no, eqb-yes, false, floor_of, if◌then◌else◌, inl, inr, int_at}
 use Common.{int_at-tabulate, is_due, is_limit_check, is_requantization, IsDue2, IsMovedOn}
 use Common.{IsNextEvent, leaves_quantum, level_unit, levels_after, limit_check_period, List}
-use Common.{list_any, Machine, moved_level, moved_state, nat_lt, nat_tests, next_levels}
-use Common.{next_states, None, Option, or_left, or_right, pos, range_with_len, refl}
-use Common.{second_snapshot_after, SecondSnapshot, Some, state_count, subst, suc, sym, true, zero}
+use Common.{list_any, Machine, moved_level, moved_state, next_levels, next_states, None, Option}
+use Common.{or_left, or_right, pos, range_with_len, refl, second_snapshot_after, SecondSnapshot}
+use Common.{Some, state_count, subst, suc, sym, true, zero}
 use Rattle.qss_order2.proofs.EventFree.{state_later, level_later}
 use Rattle.qss_order2.proofs.DueTicks.{dues_event_free, due_leaves, undue_stays}
 use Rattle.qss_order2.proofs.Tables.{same_table}
@@ -15,21 +15,11 @@ use Rattle.qss_order2.proofs.Tables.{same_table}
 any_of : (p : ℕ → Bool) (first count j : ℕ) → first ≤ j → j < first + count → p j ≡ true →
     list_any p (range_with_len first count) ≡ true
 any_of p first zero j low high leaving = absurd (omega arith)
-any_of p first (suc count) j low high leaving =
-    by_test (λ more. any_of p (first + 1) count j more (omega (arith, high)) leaving) (first == j)
-    refl
-  where
-    by_test : (first + 1 ≤ j → list_any p (range_with_len (first + 1) count) ≡ true) →
-        (test : Bool) → (first == j) ≡ test → list_any p (range_with_len first (suc count)) ≡ true
-    by_test rest true e = or_left (p first) (list_any p (range_with_len (first + 1) count))
-        (ap p (eqb-true first j e) ∙ leaving)
-    by_test rest false e =
-        let other = eqb-false first j e in
-        let more : first + 1 ≤ j = later first j low other in
-        or_right (p first) (list_any p (range_with_len (first + 1) count)) (rest more)
-      where
-        later : (a b : ℕ) → a ≤ b → (a ≡ b → ⊥) → a + 1 ≤ b
-        later a b le ne = grind arith
+any_of p first (suc count) j low high leaving = elim (cases_eq first j) [
+  | inl e ↦ or_left (p first) (list_any p (range_with_len (first + 1) count)) (ap p e ∙ leaving)
+  | inr other ↦ or_right (p first) (list_any p (range_with_len (first + 1) count)) (any_of p
+      (first + 1) count j (omega (arith, low, other)) (omega (arith, high)) leaving)
+]
 
 module _ (m : Machine) (tick : ℕ) (w : SecondSnapshot) (due : ℕ → Option ℕ) (left : ℕ →
     Bool) (k : ℕ) (next : IsNextEvent m tick w due left (suc k)) where
@@ -39,30 +29,21 @@ module _ (m : Machine) (tick : ℕ) (w : SecondSnapshot) (due : ℕ → Option �
     where
       stays : (found : Option ℕ) → due j ≡ found → ((d : ℕ) → found ≡ Some d → suc k < d) →
           leaves_quantum m (second_snapshot_after m w k) j ≡ false
-      stays found e later = undue_stays m w next.reach k j found h (subst (IsDue2 m w next.reach j)
-          e (next.each j h)) later next.within
+      stays found e later = undue_stays m w next.reach k j found h (rw e at (next.each j h)) later
+          next.within
+
+      later : (d t : ℕ) → Some d ≡ Some t → suc k < d → suc k < t
+      later d t same less = let is : d ≡ t = cc in omega (arith, is, less)
 
       by_due : (found : Option ℕ) → due j ≡ found → is_due found (suc k) ≡ leaves_quantum m
           (second_snapshot_after m w k) j
       by_due None e = sym (stays None e (λ d f. absurd (cc)))
-      by_due (Some d) e = by_test (d == suc k) refl
-        where
-          by_test : (test : Bool) → (d == suc k) ≡ test → (d == suc k) ≡ leaves_quantum m
-              (second_snapshot_after m w k) j
-          by_test true f =
-              let here : due j ≡ Some (suc k) = e ∙ ap (λ (n : ℕ). Some n) (eqb-true d (suc k) f) in
-              f ∙ sym (due_leaves m w next.reach k j h (subst (IsDue2 m w next.reach j) here
-              (next.each j h)))
-          by_test false f =
-              let other = eqb-false d (suc k) f in
-              let least : suc k ≤ d = next.none_before j d h e in
-              f ∙ sym (stays (Some d) e (λ t same. later d t same (strictly (suc k) d least other)))
-            where
-              later : (d t : ℕ) → Some d ≡ Some t → suc k < d → suc k < t
-              later d t same less = let is : d ≡ t = cc in omega (arith, is, less)
-
-              strictly : (a b : ℕ) → a ≤ b → (b ≡ a → ⊥) → a < b
-              strictly a b le ne = grind arith
+      by_due (Some d) e = elim (cases_eq d (suc k)) [
+        | inl f ↦ eqb-yes d (suc k) f ∙ sym (due_leaves m w next.reach k j h (subst (IsDue2 m w
+            next.reach j) (e ∙ ap (λ (n : ℕ). Some n) f) (next.each j h)))
+        | inr other ↦ eqb-no d (suc k) other ∙ sym (stays (Some d) e (λ t same. later d t same
+            (omega (arith, next.none_before j d h e, other))))
+      ]
 
   flags_are : (j : ℕ) → j < state_count m → left j ≡ leaves_quantum m (second_snapshot_after m w k)
       j
@@ -95,49 +76,27 @@ module _ (m : Machine) (tick : ℕ) (w : SecondSnapshot) (due : ℕ → Option �
 
   looks_are : is_limit_check m (tick + k + 1) (is_requantization m (second_snapshot_after m w k))
       ≡ true
-  looks_are = by_reach (nat_lt (suc k) next.reach) refl
-    where
-      at_look : (a b c : Bool) → a ≡ true → (a || b || c) ≡ true
-      at_look true b c e = refl
-      at_look false b c e = absurd (cc)
-
-      at_last : (a b c : Bool) → b ≡ true → (a || b || c) ≡ true
-      at_last true b c e = refl
-      at_last false true c e = refl
-      at_last false false c e = absurd (cc)
-
-      at_leaving : (a b c : Bool) → c ≡ true → (a || b || c) ≡ true
-      at_leaving true b c e = refl
-      at_leaving false true c e = refl
-      at_leaving false false c e = e
-
-      by_end : (suc k ≡ next.reach) → (tick + next.reach ≡ m.last) ⊎ ((tick + next.reach)
-          % limit_check_period ≡ 0) → is_limit_check m (tick + k + 1) (is_requantization m
-          (second_snapshot_after m w k)) ≡ true
-      by_end e (inl last) = at_last ((tick + k + 1) % limit_check_period == 0)
-          (tick + k + 1 == m.last) (is_requantization m (second_snapshot_after m w k))
-          (eqb-yes (tick + k + 1) m.last (omega (arith, e, last)))
-      by_end e (inr multiple) =
-          let here : tick + next.reach ≡ tick + k + 1 = omega (arith, e) in
-          at_look ((tick + k + 1) % limit_check_period == 0) (tick + k + 1 == m.last)
-          (is_requantization m (second_snapshot_after m w k))
-          (eqb-yes ((tick + k + 1) % limit_check_period) 0 (subst (λ t. t % limit_check_period ≡ 0)
-          here multiple))
-
-      by_reach : (less : Bool) → nat_lt (suc k) next.reach ≡ less → is_limit_check m (tick + k + 1)
-          (is_requantization m (second_snapshot_after m w k)) ≡ true
-      by_reach true e =
-          let found = next.reached (grind (arith, nat_tests)) in
-          let leaving : leaves_quantum m (second_snapshot_after m w k) found.0 ≡ true =
-          due_leaves m w next.reach k found.0 found.1 (subst (IsDue2 m w next.reach found.0) found.2
-          (next.each found.0 found.1)) in
-          at_leaving ((tick + k + 1) % limit_check_period == 0) (tick + k + 1 == m.last)
-          (is_requantization m (second_snapshot_after m w k))
-          (any_of (leaves_quantum m (second_snapshot_after m w k)) 0 (state_count m) found.0
-          (omega arith) (omega (arith, found.1)) leaving)
-      by_reach false e =
-          let most : next.reach ≤ suc k = grind (arith, nat_tests) in
-          by_end (omega (arith, most, next.within)) next.is_window.ends
+  looks_are =
+      let check = (tick + k + 1) % limit_check_period == 0 in
+      let end = tick + k + 1 == m.last in
+      let leaving = is_requantization m (second_snapshot_after m w k) in
+      elim (cases_lt (suc k) next.reach) [
+        | inl low ↦
+            let found = next.reached low in
+            let leaves = due_leaves m w next.reach k found.0 found.1 (subst (IsDue2 m w next.reach
+            found.0) found.2 (next.each found.0 found.1)) in
+            or_right (check || end) leaving (any_of (leaves_quantum m (second_snapshot_after m w k)) 0
+            (state_count m) found.0 (omega arith) (omega (arith, found.1)) leaves)
+        | inr high ↦
+            let here : tick + next.reach ≡ tick + k + 1 = omega (arith, high, next.within) in
+            elim next.is_window.ends [
+              | inl last ↦ or_left (check || end) leaving (or_right check end (eqb-yes
+                  (tick + k + 1) m.last (sym here ∙ last)))
+              | inr multiple ↦ or_left (check || end) leaving (or_left check end (eqb-yes
+                  ((tick + k + 1) % limit_check_period) 0 (subst (λ t. t % limit_check_period ≡ 0)
+                  here multiple)))
+            ]
+      ]
 
   moved_from : (states levels : List ℤ) → states ≡ (second_snapshot_after m w (suc k)).states →
       levels ≡ levels_after m w left (suc k) → IsMovedOn m tick w k left states levels

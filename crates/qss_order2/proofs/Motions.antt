@@ -5,12 +5,13 @@ use Common.{AreMovableUntil, arith, bend_at, CanMove, cases_Bool, curve_at, curv
 use Common.{HasLists, inl, inr, int_at, int_at-tabulate, ints, is_listed, IsSized, IsSmallPlace}
 use Common.{IsWithin, IsWritten, length, length-map-range_with_len, level_on, levels_on, List}
 use Common.{Machine, Motion, motion_at, MotionAt, Moves, no_place, not, Option, Place, place_at}
-use Common.{place_in, place_there, pos, rise_at, rise_on, rises_on, second_snapshot_after}
+use Common.{place_in, place_there, pos, refl, rise_at, rise_on, rises_on, second_snapshot_after}
 use Common.{snapshot_of, Some, state_count, state_on, states_on, subst, sym, tabulate, true}
 use Common.{zero-*ℤ}
 use Rattle.qss_order2.specs.Stores.{AreLevelsBoundedUntil, AreLevelSlopesBounded}
 use Rattle.qss_order2.proofs.Bounds.{state_small, level_within, rise_small, rise_is, bend_small}
 use Rattle.qss_order2.proofs.Bounds.{bend_is, change_small}
+use Rattle.qss_order2.proofs.BoundedLines.{same_bound}
 use Rattle.qss_order2.proofs.Shifts.{curve_on}
 use Rattle.qss_order2.proofs.Tables.{same_table}
 
@@ -93,27 +94,6 @@ pub rises_are : (n : ℕ) (places : List Place) (rises bends : List ℤ) (tick :
 unfolding rises_on
 rises_are n places rises bends tick f same = same_table n _ f same
 
-pub same_levels_on : (n : ℕ) (ps qs : List Place) (vs ws : List ℤ) (tick : ℕ) →
-    ((j : ℕ) → j < n → level_on (place_in ps j) (int_at vs j) tick ≡ level_on (place_in qs j)
-    (int_at ws j) tick) →
-    levels_on n ps vs tick ≡ levels_on n qs ws tick
-unfolding levels_on
-same_levels_on n ps qs vs ws tick same = same_table n _ _ same
-
-pub same_states_on : (n : ℕ) (ps qs : List Place) (rs ss ks bs : List ℤ) (tick : ℕ) →
-    ((j : ℕ) → j < n → state_on (place_in ps j) (int_at rs j) (int_at ks j) tick ≡ state_on
-    (place_in qs j) (int_at ss j) (int_at bs j) tick) → states_on n ps rs ks tick ≡ states_on n qs
-    ss bs tick
-unfolding states_on
-same_states_on n ps qs rs ss ks bs tick same = same_table n _ _ same
-
-pub same_rises_on : (n : ℕ) (ps qs : List Place) (rs ss ks bs : List ℤ) (tick : ℕ) →
-    ((j : ℕ) → j < n → int_at rs j +ℤ pos (tick - (place_in ps j).since) *ℤ int_at ks j ≡ int_at ss
-    j +ℤ pos (tick - (place_in qs j).since) *ℤ int_at bs j) →
-    rises_on n ps rs ks tick ≡ rises_on n qs ss bs tick
-unfolding rises_on
-same_rises_on n ps qs rs ss ks bs tick same = same_table n _ _ same
-
 -- ---- later ticks
 
 pub line_later : (x v : ℤ) (since tick k : ℕ) → since ≤ tick → x +ℤ pos ((tick + k) - since) *ℤ v ≡
@@ -162,13 +142,9 @@ module _ (m : Machine) (q : Motion) (tick : ℕ) (moves : Moves m (motion_at m q
       state_on (place j) (int_at q.rises.items j) (int_at q.bends.items j) (tick + k) ≡ int_at
       (second_snapshot_after m (snapshot_of v) k).states j
   states_later k j h past =
-      state_later (place j) (int_at q.rises.items j) (int_at q.bends.items j) tick k past
-      ∙ ap (λ z. curve_at z (int_at q.rises.items j +ℤ pos (tick - (place j).since)
-      *ℤ int_at q.bends.items j) (int_at q.bends.items j) k) (sym (state_v j h))
-      ∙ ap (λ z. curve_at (int_at v.states j) z (int_at q.bends.items j) k) (rise_v j h)
-      ∙ ap (λ z. curve_at (int_at v.states j) (rise_at m j v.levels) z k) (bend_v j h)
-      ∙ sym (int_at-tabulate n (λ j. curve_at (int_at v.states j) (rise_at m j v.levels)
-      (bend_at m j v.changes) k) j h)
+      rw (state_later (place j) (int_at q.rises.items j) (int_at q.bends.items j) tick k past,
+      ← state_v j h, rise_v j h, bend_v j h) (sym (int_at-tabulate n (λ j. curve_at
+      (int_at v.states j) (rise_at m j v.levels) (bend_at m j v.changes) k) j h))
 
   pub levels_later : (k j : ℕ) → j < n → (place j).since ≤ tick →
       level_on (place j) (int_at q.changes.items j) (tick + k) ≡ int_at (second_snapshot_after m
@@ -182,9 +158,8 @@ module _ (m : Machine) (q : Motion) (tick : ℕ) (moves : Moves m (motion_at m q
       int_at q.rises.items j +ℤ pos ((tick + k) - (place j).since) *ℤ int_at q.bends.items j ≡
       rise_at m j v.levels +ℤ pos k *ℤ bend_at m j v.changes
   rises_later k j h past =
-      line_later (int_at q.rises.items j) (int_at q.bends.items j) (place j).since tick k past
-      ∙ ap (λ z. z +ℤ pos k *ℤ int_at q.bends.items j) (rise_v j h)
-      ∙ ap (λ z. rise_at m j v.levels +ℤ pos k *ℤ z) (bend_v j h)
+      rw (line_later (int_at q.rises.items j) (int_at q.bends.items j) (place j).since tick k past,
+      rise_v j h, bend_v j h) refl
 
   -- a state whose place is of the tick
   module _ (j : ℕ) (h : j < n) (here : (place j).since ≡ tick) where
@@ -201,9 +176,8 @@ module _ (m : Machine) (q : Motion) (tick : ℕ) (moves : Moves m (motion_at m q
 
     pub small_here : IsSmallPlace (place j)
     small_here = record {
-      state = subst (IsWithin 94) (sym state_here) (state_small m v moves j h);
-      level = subst (IsWithin 49) (sym level_here) (level_within m v.levels v.changes moves.within
-          j);
+      state = rw state_here (state_small m v moves j h);
+      level = rw level_here (level_within m v.levels v.changes moves.within j);
     }
 
     pub small_rise_here : IsWithin 94 (int_at q.rises.items j)
@@ -223,23 +197,35 @@ module _ (m : Machine) (q : Motion) (tick : ℕ) (moves : Moves m (motion_at m q
     small_bends = λ j h. bend_small m v moves j h;
   }
 
--- what is on the way may be moved, and read
-pub can_move : (n tick window : ℕ) (places : List Place) (changes rises bends : List ℤ) →
-    length changes ≡ n → length rises ≡ n → length bends ≡ n →
-    AreMovableUntil n tick window places changes rises bends → (next : ℕ) → tick ≤ next →
-    next ≤ window → CanMove n next places changes rises bends
-can_move n tick window places changes rises bends of_changes of_rises of_bends way next later
-    within = record {
-      as_many_changes = of_changes;
-      as_many_rises = of_rises;
-      as_many_bends = of_bends;
-      past = λ j h. omega (arith, way.past j h, later);
-      near = λ j h. omega (arith, way.near j h, within);
-      small = λ j h before. way.small j h;
-      small_changes = way.small_changes;
-      small_rises = λ j h before. way.small_rises j h;
-      small_bends = way.small_bends;
-    }
+-- what is on the way may be moved
+pub can_move : {m : Machine} {q : Motion} {tick window : ℕ} → HasLists m q →
+    AreMovableUntil (state_count m) tick window q.places.items q.changes.items q.rises.items
+    q.bends.items → (next : ℕ) → tick ≤ next → next ≤ window →
+    CanMove (state_count m) next q.places.items q.changes.items q.rises.items q.bends.items
+can_move lists way next later within = record {
+  as_many_changes = lists.changes;
+  as_many_rises = lists.rises;
+  as_many_bends = lists.bends;
+  past = λ j h. omega (arith, way.past j h, later);
+  near = λ j h. omega (arith, way.near j h, within);
+  small = λ j h before. way.small j h;
+  small_changes = way.small_changes;
+  small_rises = λ j h before. way.small_rises j h;
+  small_bends = way.small_bends;
+}
+
+-- and is on the way to an earlier end of a window
+pub still_movable : {n tick window : ℕ} {places : List Place} {changes rises bends : List ℤ} →
+    AreMovableUntil n tick window places changes rises bends → (next end : ℕ) → tick ≤ next →
+    end ≤ window → AreMovableUntil n next end places changes rises bends
+still_movable way next end later within = record {
+  past = λ j h. omega (arith, way.past j h, later);
+  near = λ j h. omega (arith, way.near j h, within);
+  small = way.small;
+  small_changes = way.small_changes;
+  small_rises = way.small_rises;
+  small_bends = way.small_bends;
+}
 
 -- some states have moved to a tick, with their slopes
 module _ (tick : ℕ) (old now : List Place) (cs rs ss bs : List ℤ) (done : List ℕ)
@@ -260,11 +246,7 @@ module _ (tick : ℕ) (old now : List Place) (cs rs ss bs : List ℤ) (done : Li
     | inl e ↦
         here_place (place_in now j) (int_at cs j) (int_at ss j) (int_at bs j) tick (at_tick j e)
         ∙ placed.each j e
-    | inr e ↦
-        ap (λ (p : Place). place_at p (int_at cs j) (int_at ss j) (int_at bs j) tick)
-        (placed.others j e)
-        ∙ ap (λ (r : ℤ). place_at (place_in old j) (int_at cs j) r (int_at bs j) tick)
-        (risen.others j e)
+    | inr e ↦ rw (placed.others j e, risen.others j e) refl
   ]
 
   -- and so is its slope
@@ -273,55 +255,34 @@ module _ (tick : ℕ) (old now : List Place) (cs rs ss bs : List ℤ) (done : Li
   risen_once j = elim (cases_Bool (is_listed done j)) [
     | inl e ↦ here_line (int_at ss j) (int_at bs j) (place_in now j).since tick (at_tick j e)
         ∙ risen.each j e
-    | inr e ↦
-        ap (λ (p : Place). rise_on p (int_at ss j) (int_at bs j) tick) (placed.others j e)
-        ∙ ap (λ (r : ℤ). rise_on (place_in old j) r (int_at bs j) tick) (risen.others j e)
+    | inr e ↦ rw (placed.others j e, risen.others j e) refl
   ]
 
--- the others can still be moved
-pub still_moves : (n tick : ℕ) (old now : List Place) (cs rs ss bs : List ℤ) (done : List ℕ) →
-    CanMove n tick old cs rs bs →
-    IsWritten no_place (λ j p. p ≡ place_at (place_in old j) (int_at cs j) (int_at rs j)
-    (int_at bs j) tick) done old now →
-    IsWritten (pos 0) (λ j z. z ≡ rise_on (place_in old j) (int_at rs j) (int_at bs j) tick)
-    done rs ss → CanMove n tick now cs ss bs
-still_moves n tick old now cs rs ss bs done can placed risen = record {
-  as_many_changes = can.as_many_changes;
-  as_many_rises = risen.as_many ∙ can.as_many_rises;
-  as_many_bends = can.as_many_bends;
-  past = λ j h. elim (cases_Bool (is_listed done j)) [
-    | inl e ↦ omega (arith, there j e)
-    | inr e ↦ omega (arith, before j e, can.past j h)
-  ];
-  near = λ j h. elim (cases_Bool (is_listed done j)) [
-    | inl e ↦ omega (arith, there j e)
-    | inr e ↦ omega (arith, before j e, can.near j h)
-  ];
-  small = λ j h low. elim (cases_Bool (is_listed done j)) [
-    | inl e ↦ absurd (omega (arith, there j e, low))
-    | inr e ↦ subst IsSmallPlace (sym (placed.others j e)) (can.small j h (omega (
-      arith,
-      before j e,
-      low,
-    )))
-  ];
-  small_changes = can.small_changes;
-  small_rises = λ j h low. elim (cases_Bool (is_listed done j)) [
-    | inl e ↦ absurd (omega (arith, there j e, low))
-    | inr e ↦ subst (IsWithin 94) (sym (risen.others j e)) (can.small_rises j h (omega (
-      arith,
-      before j e,
-      low,
-    )))
-  ];
-  small_bends = can.small_bends;
-}
-  where
-    there : (j : ℕ) → is_listed done j ≡ true → (place_in now j).since ≡ tick
-    there j e = ap (λ (p : Place). p.since) (placed.each j e)
-
-    before : (j : ℕ) → is_listed done j ≡ false → (place_in now j).since ≡ (place_in old j).since
-    before j e = ap (λ (p : Place). p.since) (placed.others j e)
+  -- the others can still be moved
+  pub still_moves : (n : ℕ) → CanMove n tick old cs rs bs → CanMove n tick now cs ss bs
+  still_moves n can = record {
+    as_many_changes = can.as_many_changes;
+    as_many_rises = risen.as_many ∙ can.as_many_rises;
+    as_many_bends = can.as_many_bends;
+    past = λ j h. elim (cases_Bool (is_listed done j)) [
+      | inl e ↦ omega (arith, at_tick j e)
+      | inr e ↦ omega (arith, as_before j e, can.past j h)
+    ];
+    near = λ j h. elim (cases_Bool (is_listed done j)) [
+      | inl e ↦ omega (arith, at_tick j e)
+      | inr e ↦ omega (arith, as_before j e, can.near j h)
+    ];
+    small = λ j h low. elim (cases_Bool (is_listed done j)) [
+      | inl e ↦ absurd (omega (arith, at_tick j e, low))
+      | inr e ↦ rw (placed.others j e) (can.small j h (omega (arith, as_before j e, low)))
+    ];
+    small_changes = can.small_changes;
+    small_rises = λ j h low. elim (cases_Bool (is_listed done j)) [
+      | inl e ↦ absurd (omega (arith, at_tick j e, low))
+      | inr e ↦ rw (risen.others j e) (can.small_rises j h (omega (arith, as_before j e, low)))
+    ];
+    small_bends = can.small_bends;
+  }
 
 pub sized_at : (m : Machine) (q : Motion) (tick : ℕ) → HasLists m q → IsSized m (motion_at m q tick)
 sized_at m q tick lists = record {
@@ -339,21 +300,25 @@ module _ (m : Machine) (q : Motion) (tick : ℕ) (ps : List Place) (rs : List �
   since_all j h = ap (λ (p : Place). p.since) (each j h)
 
   pub levels_all : levels_on (state_count m) ps q.changes.items tick ≡ (motion_at m q tick).levels
-  levels_all = same_levels_on (state_count m) ps q.places.items q.changes.items q.changes.items tick
+  unfolding levels_on
+  levels_all = same_table (state_count m) (λ j. level_on (place_in ps j) (int_at q.changes.items j)
+      tick) _
       (λ j h. here_level (place_in ps j) (int_at q.changes.items j) tick (since_all j h)
       ∙ ap (λ (p : Place). p.level) (each j h))
 
   pub states_all : states_on (state_count m) ps rs q.bends.items tick ≡ (motion_at m q tick).states
-  states_all = same_states_on (state_count m) ps q.places.items rs q.rises.items q.bends.items
-      q.bends.items tick
+  unfolding states_on
+  states_all = same_table (state_count m) (λ j. state_on (place_in ps j) (int_at rs j)
+      (int_at q.bends.items j) tick) _
       (λ j h. here_state (place_in ps j) (int_at rs j) (int_at q.bends.items j) tick (since_all j h)
       ∙ ap (λ (p : Place). p.state) (each j h))
 
   pub rises_all : ((j : ℕ) → j < state_count m → int_at rs j ≡ rise_on (place_in q.places.items j)
       (int_at q.rises.items j) (int_at q.bends.items j) tick) →
       rises_on (state_count m) ps rs q.bends.items tick ≡ (motion_at m q tick).rises
-  rises_all own = same_rises_on (state_count m) ps q.places.items rs q.rises.items q.bends.items
-      q.bends.items tick
+  unfolding rises_on
+  rises_all own = same_table (state_count m) (λ j. rise_on (place_in ps j) (int_at rs j)
+      (int_at q.bends.items j) tick) _
       (λ j h. here_line (int_at rs j) (int_at q.bends.items j) (place_in ps j).since tick
       (since_all j h) ∙ own j h)
 
@@ -362,8 +327,9 @@ pub moved_levels : (n tick : ℕ) (q : Motion) (ps : List Place) (affected : Lis
     ((j : ℕ) → is_listed affected j ≡ true → place_in ps j ≡ place_there tick q j) →
     ((j : ℕ) → is_listed affected j ≡ false → place_in ps j ≡ place_in q.places.items j) →
     levels_on n ps q.changes.items tick ≡ levels_on n q.places.items q.changes.items tick
+unfolding levels_on
 moved_levels n tick q ps affected there stayed =
-    same_levels_on n ps q.places.items q.changes.items q.changes.items tick
+    same_table n (λ j. level_on (place_in ps j) (int_at q.changes.items j) tick) _
     (λ j h. elim (cases_Bool (is_listed affected j)) [
       | inl e ↦ here_level (place_in ps j) (int_at q.changes.items j) tick
           (ap (λ (p : Place). p.since) (there j e)) ∙ ap (λ (p : Place). p.level) (there j e)
@@ -373,9 +339,6 @@ moved_levels n tick q ps affected there stayed =
 pub same_motion : (a b : MotionAt) → a.states ≡ b.states → a.levels ≡ b.levels →
     a.changes ≡ b.changes → a.rises ≡ b.rises → a.bends ≡ b.bends → a ≡ b
 same_motion a b states levels changes rises bends = rw (states, levels, changes, rises, bends)
-
-some_same : (a b : ℤ) → Some a ≡ Some b → a ≡ b
-some_same a b e = cc
 
 -- levels within a bound, some of which were new at a tick
 pub bounded_on : (n : ℕ) (old new : List Place) (vs ws : List ℤ) (left : List ℕ) (tick t end end2 :
@@ -393,7 +356,7 @@ bounded_on n old new vs ws left tick t end end2 safe safe2 bound is same later e
       λ j u h low high. elim (cases_Bool (is_listed left j)) [
         | inl leaves ↦ fresh j u leaves low high
         | inr stays ↦
-            let bounds : before.0 ≡ bound = some_same before.0 bound (sym before.1 ∙ is) in
+            let bounds : before.0 ≡ bound = same_bound before.0 bound (sym before.1 ∙ is) in
             subst (λ z. abs_of z ≤ℤ bound) (sym (along j u h stays low))
             (subst (λ b. abs_of (level_on (place_in old j) (int_at vs j) u) ≤ℤ b) bounds
             (before.2 j u h (omega (arith, low, later)) (omega (arith, high, ends))))
@@ -412,7 +375,7 @@ slopes_bounded n vs ws left safe safe2 bound is same before fresh kept = (
   λ j h. elim (cases_Bool (is_listed left j)) [
     | inl leaves ↦ fresh j leaves
     | inr stays ↦
-        let bounds : before.0 ≡ bound = some_same before.0 bound (sym before.1 ∙ is) in
+        let bounds : before.0 ≡ bound = same_bound before.0 bound (sym before.1 ∙ is) in
         subst (λ z. abs_of z ≤ℤ bound) (sym (kept j h stays))
         (subst (λ b. abs_of (int_at vs j) ≤ℤ b) bounds (before.2 j h))
   ],

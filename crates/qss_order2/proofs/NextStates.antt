@@ -3,13 +3,12 @@ use Rattle.qss_order2.proofs.Common
 use Common.{[], ℕ, ◌+◌, ◌-◌, ◌<◌, ◌∙◌, ◌≡◌, ◌≤◌, All, arith, cases_lt, Entry, false, get_or}
 use Common.{get_or-map, get_or_default, inl, inr, IsNonDecreasingBy, IsPartitionPoint}
 use Common.{IsStrictlyIncreasing, length, length-map, List, Machine, map, mode_coefficient, nat_lt}
-use Common.{nat_tests, pos, Product, row_at, SlopeRow, start_coefficient, start_discretes}
+use Common.{nat_tests, none_at, pos, Product, row_at, SlopeRow, start_coefficient, start_discretes}
 use Common.{state_count, subst, true}
 use Rattle.std.proofs.lemmas.List.Sorted.{IsPartitionedBy-ltb}
 use Rattle.std.specs.List.Sorted.{IsPartitionedBy}
 use Rattle.std.specs.Prelude.{slice_index}
 use Rattle.qss_machine.specs.MachineLimits.{AreProducts}
-use Rattle.qss_machine.proofs.Distinct.{none_at}
 use Rattle.qss_machine.proofs.ProductStates.{rising_to, rising_states, own_mode}
 
 less_of : (a b : ℕ) → nat_lt a b ≡ true → a < b

@@ -1,8 +1,8 @@
 -- The states that are affected if some leave.
 use Rattle.qss_order2.proofs.Common
-use Common.{ℕ, ◌+◌, ◌<◌, ◌||◌, ◌∙◌, ◌≡◌, ◌≢◌, ◌⊎◌, All, among_more, ap, AreColumnsBelow, AreQuiet}
+use Common.{[], ℕ, ◌+◌, ◌<◌, ◌||◌, ◌∙◌, ◌≡◌, ◌≢◌, All, among_more, ap, AreColumnsBelow, AreQuiet}
 use Common.{arith, Bool, cases_Bool, column_at, Entry, eqb, false, get_or, get_or-map, index_of}
-use Common.{inl, inr, is_listed, length, length-map, List, Machine, pos, refl, rows_in}
+use Common.{inl, inr, is_listed, length, length-map, List, Machine, not, pos, refl, rows_in}
 use Common.{start_coefficient, state_count, subst, sym, take, true}
 use Rattle.qss_order2.proofs.ColumnSums.{entry_0, unlisted}
 
@@ -22,9 +22,6 @@ touched_more list i j old now new h before step =
     step ∙ ap (λ b. b || eqb (get_or list i 0) j) before ∙ or_same old (is_listed (take i list) j)
     (eqb (get_or list i 0) j) ∙ ap (λ b. old || b) (sym (among_more list i j h))
 
-clash : {A : Type 0} (b : Bool) → b ≡ true → b ≡ false → A
-clash b yes_ no_ = absurd (cc)
-
 -- a row of the column of a state reads it
 pub reads_listed : (m : Machine) (columns : List (List Entry)) (i j : ℕ) →
     AreColumnsBelow m (state_count m) columns → i < state_count m →
@@ -43,6 +40,14 @@ reads_listed m columns i j are h e =
     subst (λ (r : ℕ). start_coefficient m r i ≢ pos 0) row ((are.each i h).reads found.0 entry_0
     inside)
 
+-- a state that is not affected did not leave
+pub not_own : (left : List ℕ) (affected : ℕ → Bool) → ((j : ℕ) → is_listed left j ≡ true →
+    affected j ≡ true) → (j : ℕ) → affected j ≡ false → is_listed left j ≡ false
+not_own left affected own j not = elim (cases_Bool (is_listed left j)) [
+  | inl e ↦ absurd (cc (own j e, not))
+  | inr e ↦ e
+]
+
 -- a state that is not affected is quiet
 pub quiet_states : (m : Machine) (columns : List (List Entry)) (left : List ℕ) (affected : ℕ →
     Bool) → AreColumnsBelow m (state_count m) columns → All (λ j. j < state_count m) left →
@@ -50,28 +55,15 @@ pub quiet_states : (m : Machine) (columns : List (List Entry)) (left : List ℕ)
     ((k j : ℕ) → k < length left → is_listed (rows_in (column_at columns (get_or left k 0)))
     j ≡ true → affected j ≡ true) → AreQuiet m (is_listed left) affected
 quiet_states m columns left affected are below own readers j h not = record {
-  stays = by_own (cases_Bool (is_listed left j));
+  stays = not_own left affected own j not;
   reads_none = λ i k leaves.
       let found = index_of left i leaves in
       let column : List Entry = column_at columns i in
       let unread : is_listed (rows_in column) j ≡ false =
       elim (cases_Bool (is_listed (rows_in column) j)) [
-        | inl reads ↦ clash (affected j) (readers found.0 j found.1
-            (subst (λ x. is_listed (rows_in (column_at columns x)) j ≡ true) (sym found.2) reads))
-            not
+        | inl reads ↦ absurd (cc (readers found.0 j found.1 (subst (λ x. is_listed (rows_in (column_at
+            columns x)) j ≡ true) (sym found.2) reads), not))
         | inr none ↦ none
       ] in
       sym ((are.each i k).same j h) ∙ unlisted column j unread;
 }
-  where
-    by_own : (is_listed left j ≡ true) ⊎ (is_listed left j ≡ false) → is_listed left j ≡ false
-    by_own (inl e) = clash (affected j) (own j e) not
-    by_own (inr e) = e
-
-pub not_own : (left affected : List ℕ) → ((j : ℕ) → is_listed left j ≡ true →
-    is_listed affected j ≡ true) → (j : ℕ) → is_listed affected j ≡ false → is_listed left j ≡ false
-not_own left affected own j not = by_own (cases_Bool (is_listed left j))
-  where
-    by_own : (is_listed left j ≡ true) ⊎ (is_listed left j ≡ false) → is_listed left j ≡ false
-    by_own (inl e) = clash (is_listed affected j) (own j e) not
-    by_own (inr e) = e

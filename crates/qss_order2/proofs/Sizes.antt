@@ -1,22 +1,21 @@
 -- Sizes of a machine's units, quanta, drives, and of its rises at the start.
 use Rattle.qss_order2.proofs.Common
 use Common.{*ℤ_comm, [], ℕ, ℤ, ◌*ℤ◌, ◌*◌, ◌+ℤ◌, ◌+◌, ◌<ℤ◌, ◌<◌, ◌^◌, ◌∙◌, ◌≡◌, ◌≤ℤ◌, ◌≤◌, abs_of}
-use Common.{ap, arith, Bool, coefficient_of, false, fine_levels, fine_states, floor_meets, floor_of}
-use Common.{get_or-map, int_at, int_lt, int_lt-false, int_lt-true, ints, IsPositiveWithin, IsWithin}
-use Common.{length, length-map, length-replicate, level_unit, List, Machine, map, mode_coefficient}
-use Common.{mode_small, mul-add, mul-le, mul-le-mul_left, mul_assoc, negsuc, pos, reach_of, refl}
-use Common.{replicate, rise_at, row_at, SlopeRow, start_coefficient, start_constant_part}
-use Common.{start_discretes, start_states, state_count, StateInfo, subst, suc, sum_below}
-use Common.{sum_below-same, sum_below-zero, sym, true, unit_fits, unit_positive, unsigned_abs-mul}
-use Common.{zero}
+use Common.{ap, arith, cases_Bool, coefficient_of, fine_levels, fine_states, floor_meets, floor_of}
+use Common.{get_or-map, inl, inr, int_at, int_lt, int_lt-false, int_lt-true, ints, IsPositiveWithin}
+use Common.{IsWithin, length, length-map, length-replicate, level_unit, List, Machine, map}
+use Common.{mode_coefficient, mode_small, mul-add, mul-le, mul-le-mul_left, mul_assoc, pos}
+use Common.{reach_of, refl, replicate, rise_at, row_at, size-mul, SlopeRow, start_coefficient}
+use Common.{start_constant_part, start_discretes, start_states, state_count, StateInfo, subst, suc}
+use Common.{sum_below, sum_below-same, sum_below-zero, sym, unit_fits, unit_positive}
+use Common.{unsigned_abs-mul, zero}
 use Rattle.qss_machine.specs.Machines.{quanta}
-use Rattle.qss_machine.proofs.Near.{quanta_positive}
+use Rattle.qss_machine.proofs.Near.{quanta_positive, unit_le}
 use Rattle.std.proofs.Math.IntN.{pos-*ℤ-pos}
 use Rattle.std.specs.Int.RustNames.{unsigned_abs}
 use Rattle.mu_num.proofs.Integers.{mul-above, mul-nonneg}
 use Rattle.mu_num.specs.Levels.{level_below}
 use Rattle.qss_machine.specs.Slopes.{slope_of, weight_of, constant_part}
-use Rattle.qss_machine.proofs.WeightLaws.{slope-within_weight}
 
 no_state : StateInfo
 no_state = record { name = []; x0 = pos 0; quantum = pos 0 }
@@ -48,31 +47,27 @@ reach_small m j h =
     reach_within (2 ^ (m.p + m.k)) (int_at (quanta m) j) (omega (arith, u.within))
     q.from_one q.within
 
-reach_above : (k : ℕ) (q : ℤ) → pos 1 ≤ℤ q → pos k ≤ℤ ((pos 64 *ℤ pos k) *ℤ q)
-reach_above k (pos zero) low = absurd (omega (arith, ints))
-reach_above k (pos (suc b)) low = omega (arith, ints)
-reach_above k (negsuc b) low = absurd (omega (arith, ints))
-
 -- one level is within it
 pub reach_unit : (m : Machine) (j : ℕ) → j < state_count m → level_unit m ≤ℤ reach_of m j
-reach_unit m j h = reach_above (2 ^ (m.p + m.k)) (int_at (quanta m) j)
-    ((quantum_fits m j h).from_one)
+reach_unit m j h =
+    let unit = 2 ^ (m.p + m.k) in
+    let q = int_at (quanta m) j in
+    omega (arith, ints, unit_le unit q (quanta_positive m j h), mul_assoc (pos 64) (pos unit) q)
 
 pub reach_low : (m : Machine) (j : ℕ) → j < state_count m → pos 0 <ℤ reach_of m j
 reach_low m j h = omega (arith, ints, unit_positive m, reach_unit m j h)
 
 -- ---- a row's drive
 
+pub sum_within_sizes : (n : ℕ) (f : ℕ → ℤ) → abs_of (sum_below n f) ≤ℤ sum_below n (λ i. abs_of
+    (f i))
+sum_within_sizes zero f = omega (arith, ints)
+sum_within_sizes (suc n) f = omega (arith, ints, sum_within_sizes n f)
+
 zero_at : (n i : ℕ) → int_at (replicate n (pos 0)) i ≡ pos 0
 zero_at zero i = refl
 zero_at (suc n) zero = refl
 zero_at (suc n) (suc i) = zero_at n i
-
-times_zero : (a : ℤ) → a *ℤ pos 0 ≡ pos 0
-times_zero a = omega (arith, ints)
-
-sum_zero : (n : ℕ) (f : ℕ → ℤ) → ((i : ℕ) → f i ≡ pos 0) → sum_below n f ≡ pos 0
-sum_zero n f none = sum_below-same n f (λ i. pos 0) (λ i h. none i) ∙ sum_below-zero n
 
 pub sum_from_zero : (n : ℕ) (f : ℕ → ℤ) → ((i : ℕ) → pos 0 ≤ℤ f i) → pos 0 ≤ℤ sum_below n f
 sum_from_zero zero f each = omega (arith, ints)
@@ -102,39 +97,23 @@ module _ (m : Machine) (j : ℕ) where
   slope_of_zeros =
       let n = state_count m in
       let zeros = replicate n (pos 0) in
-      let none : sum_below n (λ i. mode_coefficient m.f n (row_at m j) (start_discretes m)
-      i *ℤ int_at zeros i) ≡ pos 0 =
-      sum_zero n _ (λ i. ap (λ z. mode_coefficient m.f n (row_at m j) (start_discretes m) i *ℤ z)
-      (zero_at n i) ∙ times_zero (mode_coefficient m.f n (row_at m j) (start_discretes m) i)) in
-      ap (λ k. slope_with k zeros) (length-replicate n (pos 0))
-      ∙ ap (λ z. z +ℤ start_constant_part m j) none ∙ plus (start_constant_part m j)
-    where
-      plus : (z : ℤ) → pos 0 +ℤ z ≡ z
-      plus z = omega (arith, ints)
-
-  weight_of_zeros : weight_of m.f (row_at m j) (replicate (state_count m) (pos 0))
-      (start_discretes m) ≡ rest (state_count m)
-  weight_of_zeros =
-      let n = state_count m in
-      let zeros = replicate n (pos 0) in
-      let none : sum_below n (λ i. abs_of (mode_coefficient m.f n (row_at m j) (start_discretes m)
-      i) *ℤ abs_of (int_at zeros i)) ≡ pos 0 =
-      sum_zero n _ (λ i. ap (λ z. abs_of (mode_coefficient m.f n (row_at m j) (start_discretes m) i)
-      *ℤ abs_of z) (zero_at n i) ∙ times_zero (abs_of (mode_coefficient m.f n (row_at m j)
-      (start_discretes m) i))) in
-      ap (λ k. weight_with k zeros) (length-replicate n (pos 0)) ∙ ap (λ z. z +ℤ rest n) none
-      ∙ plus (rest n)
-    where
-      plus : (z : ℤ) → pos 0 +ℤ z ≡ z
-      plus z = omega (arith, ints)
+      let a = mode_coefficient m.f n (row_at m j) (start_discretes m) in
+      let none : sum_below n (λ i. a i *ℤ int_at zeros i) ≡ pos 0 = sum_below-same n _ (λ i. pos 0)
+      (λ i h. ap (λ z. a i *ℤ z) (zero_at n i) ∙ omega (arith, ints)) ∙ sum_below-zero n in
+      ap (λ k. slope_with k zeros) (length-replicate n (pos 0)) ∙ omega (arith, ints, none)
 
   drive_within_rest : abs_of (start_constant_part m j) ≤ℤ rest (state_count m)
   drive_within_rest =
-      let below = slope-within_weight m.f (row_at m j) (replicate (state_count m) (pos 0))
-      (start_discretes m) in
-      subst (λ z. abs_of (start_constant_part m j) ≤ℤ z) weight_of_zeros
-      (subst (λ z. abs_of z ≤ℤ weight_of m.f (row_at m j) (replicate (state_count m) (pos 0))
-      (start_discretes m)) slope_of_zeros below)
+      let n = length (start_discretes m) in
+      let c = λ (g : ℕ). coefficient_of (row_at m j).entries (state_count m + g) in
+      let d = int_at (start_discretes m) in
+      omega (
+        arith,
+        ints,
+        sum_within_sizes n (λ g. c g *ℤ d g),
+        sum_below-same n (λ g. abs_of (c g) *ℤ abs_of (d g)) (λ g. abs_of (c g *ℤ d g)) (λ g h.
+            size-mul (c g) (d g)),
+      )
 
   -- the levels that a machine has at the start, in its own units
   abbrev coarse : List ℤ
@@ -182,26 +161,15 @@ fine_level x unit some =
         ∙ mul_assoc (pos 64) u q
 
     not_above : (a b u : ℤ) → pos 0 <ℤ u → (u *ℤ a) <ℤ (u *ℤ b) → a <ℤ b
-    not_above a b u some less = by_test (int_lt a b) refl
-      where
-        by_test : (test : Bool) → int_lt a b ≡ test → a <ℤ b
-        by_test true e = int_lt-true a b e
-        by_test false e = absurd (equal_or_more (int_lt b a) refl)
-          where
-            equal_or_more : (test : Bool) → int_lt b a ≡ test → ⊥
-            equal_or_more true f = omega (
-              arith,
-              ints,
-              less,
-              some,
-              mul-above u b a some (int_lt-true b a f),
-            )
-            equal_or_more false f = let same : a ≡ b = omega (
-              arith,
-              ints,
-              int_lt-false a b e,
-              int_lt-false b a f,
-            ) in omega (arith, ints, less, ap (λ z. u *ℤ z) same)
+    not_above a b u some less = elim (cases_Bool (int_lt a b)) [
+      | inl e ↦ int_lt-true a b e
+      | inr e ↦ elim (cases_Bool (int_lt b a)) [
+        | inl f ↦ absurd (omega (arith, ints, less, some, mul-above u b a some (int_lt-true b a f)))
+        | inr f ↦
+            let same : a ≡ b = omega (arith, ints, int_lt-false a b e, int_lt-false b a f) in
+            absurd (omega (arith, ints, less, ap (λ z. u *ℤ z) same))
+      ]
+    ]
 
 -- a sum whose terms are at most 64 times some numbers, and a rest
 start_sum : (n : ℕ) (f s : ℕ → ℤ) → ((i : ℕ) → i < n →

@@ -3,12 +3,17 @@ use Rattle.qss_order2.proofs.Common
 use Common.{[], ℕ, ℤ, ◌++◌, ◌+◌, ◌<◌, ◌∙◌, ◌∷◌, ◌≡◌, ◌≢◌, ◌≤◌, ◌⊎◌, All, ap, arith, Bool, cases_eq}
 use Common.{false, fill_by_all, get_or, get_or-set_other, get_or-set_same, get_or_default, inl, inr}
 use Common.{int_at, int_at-tabulate, length, length-map-range_with_len, length-set, List, map}
-use Common.{map-append, map-range_with_len_more, None, pos, refl, set, Some, subst, suc, sym}
-use Common.{tabulate, take, true, zero}
+use Common.{map-append, map-range_with_len_more, MatchBool, None, pos, refl, set, Some, subst, suc}
+use Common.{sym, tabulate, take, true, zero}
 use Rattle.std.proofs.Common.{cond}
 use Rattle.std.proofs.lemmas.List.{take_more}
 use Rattle.std.proofs.lemmas.Iterator.Adapters.{position_from-zero}
 use Rattle.std.specs.List.{position, position_from}
+
+-- what holds where a test fails
+pub by_false : (b : Bool) (P Q : Type 0) → b ≡ false → MatchBool b P Q → Q
+by_false true P Q e q = absurd (cc)
+by_false false P Q e q = q
 
 -- tables of the same values
 pub same_table : (n : ℕ) (f g : ℕ → ℤ) → ((j : ℕ) → j < n → f j ≡ g j) → tabulate n f ≡ tabulate n g

@@ -2,8 +2,8 @@
 use Rattle.qss_order2.proofs.Common
 use Common.{[], ℕ, ◌++◌, ◌==◌, ◌∙◌, ◌∷◌, ◌≡◌, ◌≢◌, ap, arith, end_rows, eqb-false, eqb-true, false}
 use Common.{Global, IsRuled2, IsVisit2, last_second_snapshot, length, List, motion_at, None, Over}
-use Common.{overflow_of, refl, Row2, second_snapshot_unless, SecondSnapshot, snapshot_of}
-use Common.{state_count, sym, tick_rows2, true, Vec, vec_len, view_of, zero}
+use Common.{overflow_of, refl, Row2, second_snapshot_unless, SecondSnapshot, snapshot_of, sym}
+use Common.{tick_rows2, true, Vec, vec_len, view_of, zero}
 use Rattle.qss_order2.proofs.order2_events.advance_to_event.Goals.{After-go_to_event-step}
 use Rattle.qss_order2.proofs.Motions.{can_move}
 use Rattle.qss_order2.proofs.Advances.{visit_on, rows_on, silent_visit, overflows_at_start}
@@ -162,11 +162,6 @@ returns-clause-next g c =
 
 pub set_end_rows-requires-clause-moves : goal.set_end_rows-requires-clause-moves
 set_end_rows-requires-clause-moves g c =
-    let m = c.args.f.now.machine in
-    let s = c.loop-tick.s in
     let is_store = c.loop-tick.invariant.is_store in
     let goes = is_store.goes c.loop-tick.invariant.within in
-    let l = is_store.fits.lists in
-    can_move (state_count m) c.loop-tick.tick s.window s.motion.places.items s.motion.changes.items
-    s.motion.rises.items s.motion.bends.items l.changes l.rises l.bends goes.movable
-    c.loop-tick.tick (omega arith) goes.in_window
+    can_move is_store.fits.lists goes.movable c.loop-tick.tick (omega arith) goes.in_window

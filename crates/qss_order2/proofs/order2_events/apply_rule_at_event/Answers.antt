@@ -2,10 +2,10 @@
 use Rattle.qss_order2.proofs.Common
 use Common.{[], ℕ, ℤ, ◌<◌, ◌∙◌, ◌≡◌, ◌≤ℤ◌, abs_of, All, ap, AreQuiet, arith, cases_Bool, Err, false}
 use Common.{inl, inr, int_at, is_listed, IsRuleApplied, IsRuled2, length, levels_on, List, None}
-use Common.{not, Option, Over, overflow_of, past_levels, rise_at, rules, Some, state_count, Store}
-use Common.{subst, sym, true}
+use Common.{not, Over, overflow_of, past_levels, rise_at, rules, state_count, Store, subst, sym}
+use Common.{true}
 use Rattle.qss_order2.proofs.order2_events.apply_rule_at_event.Goals.{After-apply_slope_rule}
-use Rattle.qss_order2.proofs.Arrivals.{by_false}
+use Rattle.qss_order2.proofs.Tables.{by_false}
 use Rattle.qss_order2.proofs.BoundedLines.{same_bound}
 use Rattle.qss_order2.proofs.Settled.{is_past_limit, is_rule_applied, window_reads, rise_bounded}
 use Rattle.qss_order2.proofs.Settled.{flat_after, bounded_flat, exact}
@@ -13,9 +13,6 @@ use Rattle.qss_order2.proofs.Settlings.{of_changes}
 use Rattle.qss_order2.specs.Stores.{levels_of}
 use Rattle.qss_order2.proofs.order2_events.apply_rule_at_event.Goals as goal
 use Rattle.qss_order2.proofs.order2_events.apply_rule_at_event.Given as given
-
-not_none : {A : Type 0} (o : Option ℕ) (var : ℕ) → o ≡ Some var → o ≡ None → A
-not_none o var e f = absurd (cc)
 
 pub returns-in_err-check_event_levels-clause-applied : goal.returns-in_err-check_event_levels-clause-applied
 returns-in_err-check_event_levels-clause-applied g c =
@@ -32,7 +29,7 @@ returns-in_err-check_event_levels-clause-applied g c =
 pub returns-in_err-check_event_levels-clause-unbounded : goal.returns-in_err-check_event_levels-clause-unbounded
 returns-in_err-check_event_levels-clause-unbounded g c none =
     let given : c.from_residual.result ≡ Err c.in_err-check_event_levels.field-0.0 = search rules in
-    not_none _ _ (ap overflow_of given) none
+    absurd (cc (ap overflow_of given, none))
 
 pub apply_slope_rule-requires-clause-within : goal.apply_slope_rule-requires-clause-within
 apply_slope_rule-requires-clause-within g c =

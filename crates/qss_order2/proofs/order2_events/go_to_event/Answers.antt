@@ -1,8 +1,8 @@
 -- Event-free ticks, and one more tick.
 use Rattle.qss_order2.proofs.Common
 use Common.{[], ℕ, ◌+◌, ◌-◌, ◌<◌, ◌∙◌, ◌≡◌, ap, arith, due_at, false, is_listed, IsDue2, IsRuled2}
-use Common.{List, motion_at, Moves, None, not, Option, overflow_of, place_in, place_rows, refl}
-use Common.{SecondSnapshot, snapshot_of, Some, state_count, Store, subst, sym, true, until}
+use Common.{List, motion_at, Moves, None, not, Option, Over, overflow_of, place_in, place_rows}
+use Common.{refl, SecondSnapshot, snapshot_of, state_count, Store, subst, sym, true, until}
 use Rattle.std.specs.Prelude.{flat_map}
 use Rattle.qss_order2.proofs.Arrivals.{IsEvent, states2, levels2, past2, near2, small2, line2}
 use Rattle.qss_order2.proofs.Arrivals.{since2, kept_change}
@@ -17,9 +17,6 @@ use Rattle.qss_order2.proofs.order2_events.go_to_event.Goals.{After-apply_rule_a
 use Rattle.qss_order2.specs.declared.order2_rows.Kind2.TheVariants as kind
 use Rattle.qss_order2.proofs.order2_events.go_to_event.Goals as goal
 use Rattle.qss_order2.proofs.order2_events.go_to_event.Given as given
-
-not_none : {A : Type 0} (o : Option ℕ) (var : ℕ) → o ≡ Some var → o ≡ None → A
-not_none o var e f = absurd (cc)
 
 pub overflow_add-result : goal.overflow_add-result
 overflow_add-result g c =
@@ -146,7 +143,7 @@ returns-clause-is_store g c e =
     record {
       fits = returns-clause-fits g c;
       over = on.within ∙ sym kept_over;
-      at_start = λ var f. not_none _ _ f kept_over;
+      at_start = λ var f. absurd (cc (f, kept_over));
       goes = λ f. record {
         moves = on;
         movable = movable m s3.motion t on s3.window (past2 is e)

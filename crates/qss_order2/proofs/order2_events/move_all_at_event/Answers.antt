@@ -1,17 +1,13 @@
 -- All places are of the tick.
 use Rattle.qss_order2.proofs.Common
-use Common.{ℕ, ℤ, ◌<◌, ◌∙◌, ◌≡◌, ap, arith, Global, int_at, length, levels_on, List, motion_at}
+use Common.{[], ℕ, ℤ, ◌<◌, ◌∙◌, ◌≡◌, ap, arith, Global, int_at, length, levels_on, List, motion_at}
 use Common.{Place, place_in, place_there, rise_on, rises_on, state_count, states_on, Vec}
 use Rattle.qss_order2.proofs.Motions.{can_move, same_motion, levels_all, states_all, rises_all}
 use Rattle.qss_order2.proofs.order2_events.move_all_at_event.Goals as goal
 
 pub advance-requires-clause-moves : goal.advance-requires-clause-moves
 advance-requires-clause-moves c =
-    let q = c.args.q.now in
-    let l = c.requires.lists in
-    let tick = c.args.tick in
-    rw l.places (can_move (state_count c.args.f.now.machine) tick tick q.places.items
-    q.changes.items q.rises.items q.bends.items l.changes l.rises l.bends c.requires.movable tick
+    rw c.requires.lists.places (can_move c.requires.lists c.requires.movable c.args.tick
     (omega arith) (omega arith))
 
 pub advance-requires-clause-list : goal.advance-requires-clause-list

@@ -13,11 +13,7 @@ use Rattle.qss_order2.proofs.order2_events.move_on_at_event.Goals as goal
 
 pub advance-requires-clause-moves : goal.advance-requires-clause-moves
 advance-requires-clause-moves c =
-    let q = c.args.q.now in
-    let l = c.requires.lists in
-    let tick = c.args.tick in
-    rw l.places (can_move (state_count c.args.f.now.machine) tick tick q.places.items
-    q.changes.items q.rises.items q.bends.items l.changes l.rises l.bends c.requires.movable tick
+    rw c.requires.lists.places (can_move c.requires.lists c.requires.movable c.args.tick
     (omega arith) (omega arith))
 
 pub advance-requires-clause-list : goal.advance-requires-clause-list
@@ -103,7 +99,7 @@ returns c =
       leaving = λ j e. rw floored (leaves j e ∙ ap (λ (p : Place). floor_place p (level_unit m))
           (there j (c.requires.own j e)));
       moved = λ j e stays. rw floored (same j stays ∙ there j e);
-      others = λ j not. rw floored (same j (not_own left affected c.requires.own j not)
+      others = λ j not. rw floored (same j (not_own left (is_listed affected) c.requires.own j not)
           ∙ is.places.others j not);
     } in
     record {

@@ -8,7 +8,7 @@ use Rattle.qss_order2.proofs.Arrivals.{IsArrival, since_touched, level1, reads1,
 use Rattle.qss_order2.proofs.Bounds.{bends_flat}
 use Rattle.qss_order2.proofs.ColumnSums.{wrap_small}
 use Rattle.qss_order2.proofs.Gains.{follows_levels}
-use Rattle.qss_order2.proofs.Motions.{bend_v}
+use Rattle.qss_order2.proofs.Motions.{bend_v, still_movable}
 use Rattle.qss_order2.proofs.Settled.{listed_below}
 use Rattle.qss_order2.proofs.order2_events.move_to_event.Goals as goal
 
@@ -114,17 +114,8 @@ returns-clause-can_apply c =
 
 pub move_on_at_event-requires-clause-movable : goal.move_on_at_event-requires-clause-movable
 move_on_at_event-requires-clause-movable c =
-    let goes = c.requires.ready.goes in
-    let way = goes.movable in
-    let within = c.ticks_to_next_event-ticks.ensures.within in
-    record {
-      past = λ j h. omega (arith, way.past j h);
-      near = λ j h. omega (arith, way.near j h, within);
-      small = way.small;
-      small_changes = way.small_changes;
-      small_rises = way.small_rises;
-      small_bends = way.small_bends;
-    }
+    still_movable c.requires.ready.goes.movable _ _ (omega arith)
+    c.ticks_to_next_event-ticks.ensures.within
 
 pub move_on_at_event-requires-clause-left : goal.move_on_at_event-requires-clause-left
 move_on_at_event-requires-clause-left c = subst (λ (l : List ℕ).

@@ -1,9 +1,9 @@
 -- All states are at the tick, and the next window begins.
 use Rattle.qss_order2.proofs.Common
-use Common.{ℕ, ◌+◌, ◌-◌, ◌<◌, ◌∙◌, ◌≡◌, ap, arith, Bool, CanRead, false, is_listed, IsWindow}
-use Common.{length, List, motion_at, Moves, state_count, subst, sym, true}
+use Common.{[], ℕ, ◌+◌, ◌-◌, ◌<◌, ◌∙◌, ◌≡◌, ap, arith, CanRead, is_listed, IsWindow, length, List}
+use Common.{motion_at, Moves, not, state_count, subst, sym, true}
 use Rattle.qss_order2.proofs.Bounds.{change_small}
-use Rattle.qss_order2.proofs.Motions.{small_here, small_rise_here, movable}
+use Rattle.qss_order2.proofs.Motions.{still_movable, small_here, small_rise_here, movable}
 use Rattle.qss_order2.proofs.Settled.{listed_below}
 use Rattle.qss_order2.proofs.order2_events.open_event_window.Goals as goal
 
@@ -35,15 +35,7 @@ move_all_at_event-requires-clause-moves c = (c.requires.is_store.goes c.requires
 pub move_all_at_event-requires-clause-movable : goal.move_all_at_event-requires-clause-movable
 move_all_at_event-requires-clause-movable c =
     let goes = c.requires.is_store.goes c.requires.within in
-    let way = goes.movable in
-    record {
-      past = way.past;
-      near = λ j h. omega (arith, way.near j h, goes.in_window);
-      small = way.small;
-      small_changes = way.small_changes;
-      small_rises = way.small_rises;
-      small_bends = way.small_bends;
-    }
+    still_movable goes.movable c.args.tick c.args.tick (omega arith) goes.in_window
 
 pub is_line_limit_needed-s-requires-clause-list : goal.is_line_limit_needed-s-requires-clause-list
 is_line_limit_needed-s-requires-clause-list c k d h = omega (
@@ -103,9 +95,6 @@ returns-clause-goes c =
           (h, here j h);
     }
 
-none_else : {A : Type 0} (b : Bool) → b ≡ true → b ≡ false → A
-none_else b e f = absurd (cc)
-
 pub returns-clause-keeps : goal.returns-clause-keeps
 returns-clause-keeps c =
     let m = c.args.f.now.machine in
@@ -114,8 +103,11 @@ returns-clause-keeps c =
     record {
       is_window = (let e : reach ≡ (tick + reach) - tick =
           omega arith in subst (IsWindow tick m.last) e c.ticks_to_limit_check-reach.ensures);
-      quiet = λ j h not. none_else (is_listed c.touch_all.new.affected.places j)
-          (c.touch_all.ensures.places j (omega (arith, h, ap length c.as_slice.ensures))) not;
+      quiet = λ j h not. absurd (cc (c.touch_all.ensures.places j (omega (
+        arith,
+        h,
+        ap length c.as_slice.ensures,
+      )), not));
     }
 
 pub is_line_limit_needed-s-requires-clause-reads : goal.is_line_limit_needed-s-requires-clause-reads

@@ -1,10 +1,10 @@
 -- At the start the rule may be applied before the limits are checked.
 use Rattle.qss_order2.proofs.Common
-use Common.{[], ℕ, ℤ, ◌<◌, ◌∙◌, ◌≡◌, ap, AreChanges, arith, bend_at, Bool, CanRead, Err, false}
+use Common.{[], ℕ, ℤ, ◌<◌, ◌∙◌, ◌≡◌, ap, AreChanges, arith, bend_at, Bool, CanRead, Err}
 use Common.{fill_by_all, fine_levels, int_at, is_listed, IsAnswer, IsRuled2, IsWithin, IsWritten}
 use Common.{length, length-map-range_with_len, level_unit, levels_on, List, Machine, None, not}
-use Common.{Option, Over, overflow_of, past_levels, pos, refl, rise_at, rules, Some, state_count}
-use Common.{subst, sym, tabulate, true, with_items, with_items_is}
+use Common.{Over, overflow_of, past_levels, pos, refl, rise_at, rules, Some, state_count, subst}
+use Common.{sym, tabulate, true, with_items, with_items_is}
 use Rattle.qss_order2.proofs.order2_rises.begin_rises.Goals.{After-list_levels}
 use Rattle.qss_order2.proofs.order2_rises.begin_rises.Goals.{After-set_rise_changes}
 use Rattle.qss_order2.proofs.Motions.{many_levels}
@@ -15,9 +15,6 @@ use Rattle.qss_order2.proofs.Starts.{asked_all, held_first}
 use Rattle.qss_order2.proofs.Tables.{all_of}
 use Rattle.qss_order2.proofs.order2_rises.begin_rises.Goals as goal
 use Rattle.qss_order2.proofs.order2_rises.begin_rises.Given as given
-
-not_none : {A : Type 0} (o : Option ℕ) (var : ℕ) → o ≡ Some var → o ≡ None → A
-not_none o var e f = absurd (cc)
 
 -- the rule was applied to the slopes of all states
 start_changes : (nearest : Bool) (m : Machine) (all : List ℕ) (rises old new : List ℤ) →
@@ -70,11 +67,7 @@ set_rise_changes-requires-clause-size_limit g c j e =
     (start_rise_small m j (listed_below (state_count m) c.args.all.now c.requires.all j e))
 
 pub bend-requires-clause-flat : goal.bend-requires-clause-flat
-bend-requires-clause-flat g c j h not = none_else (is_listed c.args.all.now j) (c.requires.each j h)
-    not
-  where
-    none_else : {A : Type 0} (b : Bool) → b ≡ true → b ≡ false → A
-    none_else b e f = absurd (cc)
+bend-requires-clause-flat g c j h not = absurd (cc (c.requires.each j h, not))
 
 -- slopes and level slopes before the limits are checked
 record IsBegun (g : given.Over) (c : After-set_rise_changes g) : Type 0 where
@@ -139,9 +132,9 @@ returns-in_err-check_levels g c =
       places = refl;
       changes = is.changes;
       overflow = some ∙ sym (past_first m (fine_levels m) _ over.var past);
-      held = λ none. not_none _ _ some none;
-      rises = λ none. not_none _ _ some none;
-      bends = λ none. not_none _ _ some none;
+      held = λ none. absurd (cc (some, none));
+      rises = λ none. absurd (cc (some, none));
+      bends = λ none. absurd (cc (some, none));
     }
 
 pub returns : goal.returns

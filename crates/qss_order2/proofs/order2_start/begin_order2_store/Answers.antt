@@ -1,7 +1,7 @@
 -- The start of a run.
 use Rattle.qss_order2.proofs.Common
-use Common.{[], ℕ, ℤ, ◌++◌, ◌<◌, ◌∙◌, ◌≡◌, All, ap, AreChanges, AreRisingBelow, arith, Bool}
-use Common.{discrete_rows2, false, first_exceeding_limit, Global, int_at, is_listed, IsRuled2, List}
+use Common.{[], ℕ, ℤ, ◌++◌, ◌<◌, ◌∙◌, ◌≡◌, All, ap, AreChanges, AreRisingBelow, arith}
+use Common.{discrete_rows2, first_exceeding_limit, Global, int_at, is_listed, IsRuled2, List}
 use Common.{Motion, motion_at, Moves, None, overflow_of, Place, place_rows, range_with_len, refl}
 use Common.{rise_at, Row2, SecondSnapshot, snapshot_of, start_place, state_count, subst, sym}
 use Common.{tabulate, true, Vec}
@@ -105,20 +105,12 @@ returns-clause-is_store g c =
                   (since j h),
             ));
         in_window = omega arith;
-        bounded = λ is_bounded. none_else c.args.s.now.unbounded c.requires.unbounded is_bounded;
-        bounded_slopes = λ is_bounded. none_else c.args.s.now.unbounded c.requires.unbounded
-            is_bounded;
-        here = λ j e. none_listed j (ap (λ (l : List ℕ). is_listed l j) (sym c.requires.affected)
-            ∙ e);
+        bounded = λ is_bounded. absurd (cc (c.requires.unbounded, is_bounded));
+        bounded_slopes = λ is_bounded. absurd (cc (c.requires.unbounded, is_bounded));
+        here = λ j e. absurd (cc (rw c.requires.affected at e));
       };
       dues = λ e before. absurd (omega (arith, before, c.requires.window));
     }
-  where
-    none_else : {A : Type 0} (b : Bool) → b ≡ true → b ≡ false → A
-    none_else b e f = absurd (cc)
-
-    none_listed : {A : Type 0} (j : ℕ) → is_listed [] j ≡ true → A
-    none_listed j e = absurd (cc)
 
 pub returns-clause-rows : goal.returns-clause-rows
 returns-clause-rows g c =

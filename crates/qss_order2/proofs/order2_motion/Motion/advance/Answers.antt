@@ -1,8 +1,8 @@
 -- One more state.
 use Rattle.qss_order2.proofs.Common
-use Common.{ℕ, ◌<◌, ◌∙◌, ◌≡◌, arith, CanMove, FitsSigned, get_or, int_at, IsWritten, length, List}
-use Common.{Motion, no_place, place_at, place_in, pos, rise_on, take, to_z-of_z, w128, written_all}
-use Common.{written_more}
+use Common.{[], ℕ, ◌<◌, ◌∙◌, ◌≡◌, arith, CanMove, false, FitsSigned, get_or, int_at, IsWritten}
+use Common.{length, List, Motion, no_place, place_at, place_in, pos, rise_on, take, to_z-of_z, true}
+use Common.{w128, written_all, written_more}
 use Rattle.qss_order2.proofs.Motions.{still_moves, moved_once, risen_once}
 use Rattle.qss_order2.proofs.order2_motion.Motion.advance.Goals as goal
 
@@ -19,8 +19,8 @@ can_move_on : (tick : ℕ) (old now : Motion) (done : List ℕ) →
     now.bends.items
 can_move_on tick old now done can changes bends places rises =
     rw (places.as_many, changes, bends)
-    (still_moves (length old.places.items) tick old.places.items now.places.items old.changes.items
-    old.rises.items now.rises.items old.bends.items done can places rises)
+    (still_moves tick old.places.items now.places.items old.changes.items old.rises.items
+    now.rises.items old.bends.items done places rises (length old.places.items) can)
 
 pub rise_at-rise-requires-clause-moves : goal.rise_at-rise-requires-clause-moves
 rise_at-rise-requires-clause-moves c =
