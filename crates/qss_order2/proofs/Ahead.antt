@@ -1,14 +1,15 @@
 -- Under the nearest rule a call does the first part of what was ahead: the rows to come, and the overflow with which
 -- the run ends.
 use Rattle.qss_order2.proofs.Common
-use Common.{[], ℕ, ◌++◌, ◌+◌, ◌-◌, ◌<◌, ◌∙◌, ◌∷◌, ◌≡◌, ap, append-nil, arith, Done, end_rows}
-use Common.{EndsAs, Err, Events, first_exceeding_limit, inl, inr, IsAble, IsNext2, IsRuled2}
-use Common.{IsSecondStep, IsStart2, IsStarted, last_second_snapshot, LeadsSilently2, length, List}
-use Common.{Machine, nearest_change, None, Ok, Option, Outcome2, Over, overflow_ahead, overflow_row}
+use Common.{[], ℕ, ◌++◌, ◌+◌, ◌-◌, ◌<◌, ◌∙◌, ◌∷◌, ◌≡◌, ap, arith, Done, end_rows, EndsAs, Err}
+use Common.{Events, first_exceeding_limit, inl, inr, IsAble, IsNext2, IsRuled2, IsSecondStep}
+use Common.{IsStart2, IsStarted, last_second_snapshot, LeadsSilently2, length, List, Machine}
+use Common.{nearest_change, None, Ok, Option, Outcome2, Over, overflow_ahead, overflow_row}
 use Common.{Overflows, Past, refl, Result, Row2, rows2_after, rows2_left, run2_by, run2_rows}
 use Common.{second_order_run, second_start, second_step, SecondRunView, SecondSnapshot, SlopeRuleOf}
 use Common.{snapshots_from, snapshots_unless, snapshots_with, Some, start_rows, suc, sym}
 use Common.{tick_rows2, true, zero}
+use Rattle.std.proofs.Common.{append-nil}
 use Rattle.qss_order2.proofs.Uniqueness.{step2_only, start2_only, changes_by}
 use Rattle.qss_order2.specs.Events.{GoesOn2}
 
@@ -58,8 +59,10 @@ module _ (m : Machine) where
   after_silent zero tick rest at w (next ∷ silent) leads many there = absurd (omega arith)
   after_silent (suc count) tick rest at w (next ∷ silent) leads many there =
       ap (after_by count tick w) (sym (named_step m (tick + 1) w (Ok next) leads.0))
-      ∙ ap (λ (rows : List Row2). (rows ++ (after_in m count (tick + 1) next).0,
-      (after_in m count (tick + 1) next).1)) leads.1
+      ∙ ap (λ (rows : List Row2). (
+        rows ++ (after_in m count (tick + 1) next).0,
+        (after_in m count (tick + 1) next).1,
+      )) leads.1
       ∙ after_silent count (tick + 1) rest at next silent leads.2 (omega arith) (omega arith)
 
 -- what is ahead of a simulator
@@ -119,13 +122,18 @@ ahead_event now new tick same n within =
     let after = after_in now.machine (now.machine.last - new.tick) new.tick new.snapshot in
     let step = rw (is.is_next) at is.is_step in
     ahead_step now n.0 is.goes at (Ok new.snapshot) refl (omega (arith, is.in_time, is.is_next)) step
-    ∙ ap (λ (t : ℕ). (tick_rows2 now.machine t last new.snapshot ++ (after_in now.machine
-    (now.machine.last - t) t new.snapshot).0, (after_in now.machine (now.machine.last - t) t
-    new.snapshot).1)) e
+    ∙ ap (λ (t : ℕ). (
+      tick_rows2 now.machine t last new.snapshot ++ (after_in now.machine
+          (now.machine.last - t) t new.snapshot).0,
+      (after_in now.machine (now.machine.last - t) t
+          new.snapshot).1,
+    )) e
     ∙ ap (λ (rows : List Row2). (rows ++ after.0, after.1)) (ap (λ (t : ℕ). tick_rows2 now.machine t
     last new.snapshot) (sym f) ∙ sym is.own_rows)
-    ∙ ap (λ (k : Machine). (new.rows ++ (after_in k (k.last - new.tick) new.tick new.snapshot).0,
-    (after_in k (k.last - new.tick) new.tick new.snapshot).1)) (sym same)
+    ∙ ap (λ (k : Machine). (
+      new.rows ++ (after_in k (k.last - new.tick) new.tick new.snapshot).0,
+      (after_in k (k.last - new.tick) new.tick new.snapshot).1,
+    )) (sym same)
     ∙ ap (λ (p : List Row2 × Option Past). (new.rows ++ p.0, p.1)) (sym (ahead_by new None within))
 
 -- the rows of a call are the first of those that were to come

@@ -208,8 +208,11 @@ module _ {Rule : ℤ → ℤ → ℤ → Type 0} {m : Machine} {tick ticks : ℕ
         ∙ sym (here_level (place_in q1.places.items j) (int_at q1.changes.items j) (tick + ticks)
         (since_touched before j t))
         ∙ level_there before j h
-    | inr not ↦ rw (same_place j, kept_change j h (not_left j not) ∙ sym (ap (λ (xs : List ℤ).
-        int_at xs j) before.arrived.changes)) (level_there before j h)
+    | inr not ↦ rw (
+      same_place j,
+      kept_change j h (not_left j not) ∙ sym (ap (λ (xs : List ℤ).
+          int_at xs j) before.arrived.changes),
+    ) (level_there before j h)
   ]
 
   pub levels2 : (motion_at m q2 (tick + ticks)).levels ≡ levels_after m (w before) (is_listed left) ticks

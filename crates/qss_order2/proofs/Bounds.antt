@@ -1,35 +1,34 @@
 -- Sizes in a motion from a snapshot that passed its limit check.
 use Rattle.qss_order2.proofs.Common
-use Common.{[], ℕ, ℤ, ◌*ℤ◌, ◌*◌, ◌+◌, ◌-ℤ◌, ◌<ℤ◌, ◌<◌, ◌^◌, ◌∙◌, ◌≡◌, ◌≤ℤ◌, ◌≤◌, All, ap, arith}
-use Common.{bend_at, first_exceeding, first_exceeding_limit, get_or, get_or_default, int_at}
-use Common.{int_at-tabulate, ints, IsWithin, length, List, Machine, MotionAt, Moves, mul-le}
-use Common.{mul-le-mul_right, None, none_past, option_or, option_or-None, pos, reach_of, rise_at}
-use Common.{rise_change_weight, rise_weight, start_coefficient, state_count, subst, sym, tabulate}
-use Common.{unit_fits, unsigned_abs-mul}
+use Common.{[], ℕ, ℤ, ◌*ℤ◌, ◌*◌, ◌+◌, ◌-ℤ◌, ◌<ℤ◌, ◌<◌, ◌^◌, ◌∙◌, ◌≡◌, ◌≤ℤ◌, ◌≤◌, ap, arith, bend_at}
+use Common.{first_exceeding, first_exceeding_limit, get_or, get_or_default, int_at, int_at-tabulate}
+use Common.{ints, IsWithin, length, List, Machine, MotionAt, Moves, mul-le, mul-le-mul_right, None}
+use Common.{none_past, option_or, option_or-None, pos, reach_of, rise_at, rise_change_weight}
+use Common.{rise_weight, start_coefficient, state_count, subst, sym, tabulate, unit_fits}
+use Common.{unsigned_abs-mul}
 use Rattle.std.specs.Int.RustNames.{unsigned_abs}
 use Rattle.qss_order2.proofs.Sizes.{reach_small, sum_within_sizes}
-use Rattle.qss_order2.proofs.Tables.{all_of}
 
 -- a value that was read
 pub at_index : (xs : List ℤ) (j n : ℕ) (z : ℤ) → length xs ≡ n → j < n → z ≡ get_or xs j z →
     z ≡ int_at xs j
 at_index xs j n z many h is = is ∙ get_or_default xs j z (pos 0) (omega (arith, h, many))
 
+-- no value of a table exceeds its limit
+pub table_within : (bits n : ℕ) (f : ℕ → ℤ) → first_exceeding bits (tabulate n f) ≡ None → (j : ℕ) →
+    j < n → IsWithin bits (f j)
+table_within bits n f none j h = subst (IsWithin bits) (int_at-tabulate n f j h) (none_past bits
+    (tabulate n f) none j)
+
 pub rise_by_weight : (m : Machine) (levels : List ℤ) →
     first_exceeding 94 (tabulate (state_count m) (rise_weight m levels)) ≡ None → (j : ℕ) →
     j < state_count m → IsWithin 94 (rise_at m j levels)
-rise_by_weight m levels light j h =
-    let weights = tabulate (state_count m) (rise_weight m levels) in
-    let own : IsWithin 94 (int_at weights j) = none_past 94 weights light j in
-    let heavy : IsWithin 94 (rise_weight m levels j) =
-    subst (IsWithin 94) (int_at-tabulate (state_count m) (rise_weight m levels) j h) own in
-    omega (
-      arith,
-      ints,
-      heavy,
-      sum_within_sizes (state_count m)
-          (λ i. start_coefficient m j i *ℤ int_at levels i),
-    )
+rise_by_weight m levels light j h = omega (
+  arith,
+  ints,
+  table_within 94 (state_count m) (rise_weight m levels) light j h,
+  sum_within_sizes (state_count m) (λ i. start_coefficient m j i *ℤ int_at levels i),
+)
 
 pub bend_by_weight : (m : Machine) (changes : List ℤ) (j : ℕ) →
     IsWithin 94 (rise_change_weight m changes j) → IsWithin 94 (bend_at m j changes)
@@ -56,10 +55,8 @@ module _ (m : Machine) (levels changes : List ℤ) (within : first_exceeding_lim
   rise_within j h = rise_by_weight m levels (option_or-None _ _ parts.1).0 j h
 
   pub bends_flat : (j : ℕ) → j < state_count m → IsWithin 94 (rise_change_weight m changes j)
-  bends_flat j h =
-      let weights = tabulate (state_count m) (rise_change_weight m changes) in
-      subst (IsWithin 94) (int_at-tabulate (state_count m) (rise_change_weight m changes) j h)
-      (none_past 94 weights (option_or-None _ _ parts.1).1 j)
+  bends_flat = table_within 94 (state_count m) (rise_change_weight m changes)
+      (option_or-None _ _ parts.1).1
 
   pub bend_within : (j : ℕ) → j < state_count m → IsWithin 94 (bend_at m j changes)
   bend_within j h = bend_by_weight m changes j (bends_flat j h)
@@ -84,19 +81,12 @@ factor_small k z some small =
     omega (arith, unsigned_abs-mul (pos k) z, once, small)
 
 module _ (m : Machine) (q : MotionAt) (moves : Moves m q) where
-  pub small_levels : All (IsWithin 49) q.levels
-  small_levels = all_of (IsWithin 49) q.levels (state_count m) moves.sized.levels (λ j h.
-      level_within m q.levels q.changes moves.within j)
-
   pub state_small : (j : ℕ) → j < state_count m → IsWithin 94 (int_at q.states j)
   state_small j h =
       let u = unit_fits m in
       near_small (2 ^ (m.p + m.k)) (int_at q.states j) (int_at q.levels j) (reach_of m j)
       (omega (arith, u.within))
       (level_within m q.levels q.changes moves.within j) (moves.near j h) (reach_small m j h)
-
-  pub small_states : All (IsWithin 94) q.states
-  small_states = all_of (IsWithin 94) q.states (state_count m) moves.sized.states state_small
 
   pub rise_is : (j : ℕ) → j < state_count m → int_at q.rises j ≡ rise_at m j q.levels
   rise_is j h = ap (λ xs. int_at xs j) moves.has_rises.rises ∙ int_at-tabulate (state_count m)
@@ -114,17 +104,8 @@ module _ (m : Machine) (q : MotionAt) (moves : Moves m q) where
   bend_small j h = subst (IsWithin 94) (sym (bend_is j h)) (bend_within m q.levels q.changes
       moves.within j h)
 
-  pub small_rises : All (IsWithin 94) q.rises
-  small_rises = all_of (IsWithin 94) q.rises (state_count m) moves.sized.rises rise_small
-
-  pub small_bends : All (IsWithin 94) q.bends
-  small_bends = all_of (IsWithin 94) q.bends (state_count m) moves.sized.bends bend_small
-
   pub change_small : (j : ℕ) → j < state_count m → IsWithin 95 (int_at q.changes j)
   change_small j h =
       let u = unit_fits m in
       factor_small (2 ^ (m.p + m.k)) (int_at q.changes j) (omega (arith, ints, u.from_one))
       (moves.has_rises.held j h)
-
-  pub small_changes : All (IsWithin 95) q.changes
-  small_changes = all_of (IsWithin 95) q.changes (state_count m) moves.sized.changes change_small

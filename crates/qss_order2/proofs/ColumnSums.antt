@@ -5,7 +5,7 @@ use Common.{All, All-append, All-from_recursion, among_more, ap, AreColumnsBelow
 use Common.{cases_eq, cases_lt, coefficient_of, column_at, Entry, eqb, eqb-no, eqb-yes, false}
 use Common.{get_or, get_or-set_other, get_or-set_same, if-false, if-true, if◌then◌else◌, inl, inr}
 use Common.{int_at, int_wrap, ints, is_listed, IsColumn, IsWithin, length, length-append, List}
-use Common.{Machine, mul-sub, or_cases, pos, refl, row_at, rows_in, set, start_coefficient}
+use Common.{Machine, mul-sub, not, or_cases, pos, refl, row_at, rows_in, set, start_coefficient}
 use Common.{start_discretes, state_count, subst, suc, sum_below, sum_below-same, sum_below-zero}
 use Common.{sum_over_more, sym, take, take_all, true, zero, zero-*ℤ}
 use Rattle.std.proofs.lemmas.Bool.{or_parts, eqb-true, eqb-false}
@@ -40,11 +40,6 @@ no_column m state = record {
   same = λ j e. absurd (cc);
   none = λ j e. refl;
 }
-
-clash : {A : Type 0} (xs : List ℕ) (j k : ℕ) → j ≡ k → is_listed xs j ≡ false →
-    is_listed xs k ≡ true → A
-clash xs j k same absent there = let here : is_listed xs j ≡ true =
-    subst (λ i. is_listed xs i ≡ true) (sym same) there in absurd (cc)
 
 module _ (m : Machine) (state : ℕ) (rows : List ℕ) (i : ℕ) (h : i < length rows)
     (fresh : is_listed (take i rows) (get_or rows i 0) ≡ false)
@@ -90,7 +85,7 @@ module _ (m : Machine) (state : ℕ) (rows : List ℕ) (i : ℕ) (h : i < length
         (All-from_recursion (λ (entry : Entry). start_coefficient m entry.var state ≢ pos 0)
         (e ∷ []) ((λ z. some (is ∙ ap (λ r. start_coefficient m r state) (sym at) ∙ z)), tt));
     same = λ j l.
-        by_row j l (λ before. other j (λ here. clash (take i rows) row j here fresh before)
+        by_row j l (λ before. other j (λ here. absurd (cc (here, fresh, before)))
         ∙ are.same j before)
         (λ here. subst (λ r. coefficient_of (old ++ e ∷ []) r ≡ start_coefficient m r state)
         here own);

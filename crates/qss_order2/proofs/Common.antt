@@ -1,14 +1,13 @@
 -- Names from outside the lemmas of this crate that several of its proofs cite, passed on from one place.
 pub use Rattle.std.proofs.Common.{[], ℕ, ℤ, ◌%◌, ◌*ℤ◌, ◌*◌, ◌++◌, ◌+ℤ◌, ◌+◌, ◌-ℤ◌, ◌-◌, ◌<ℤ◌, ◌<◌}
-pub use Rattle.std.proofs.Common.{◌^◌, ◌||◌, ◌∙◌, ◌∷◌, ◌≡◌, ◌≢◌, ◌≤ℤ◌, ◌≤◌, ◌⊎◌, ap, append-nil}
-pub use Rattle.std.proofs.Common.{append_assoc, arith, Bool, eqb, false, get_or, Global, inl, inr}
-pub use Rattle.std.proofs.Common.{length, length-append, List, map, negsuc, pos, refl, rules, set}
-pub use Rattle.std.proofs.Common.{subst, suc, sym, take, true, unsigned_abs, Vec, zero}
+pub use Rattle.std.proofs.Common.{◌^◌, ◌||◌, ◌∙◌, ◌∷◌, ◌≡◌, ◌≢◌, ◌≤ℤ◌, ◌≤◌, ◌⊎◌, ap, append_assoc}
+pub use Rattle.std.proofs.Common.{arith, Bool, eqb, false, get_or, Global, inl, inr, length}
+pub use Rattle.std.proofs.Common.{length-append, List, map, negsuc, pos, refl, rules, set, subst}
+pub use Rattle.std.proofs.Common.{suc, sym, take, true, unsigned_abs, Vec, zero}
 pub use Rattle.std.proofs.Math.IntN.{*ℤ_comm, zero-*ℤ}
 pub use Rattle.std.proofs.Math.Nat.{mul-le-mul_left, mul-le-mul_right}
 pub use Rattle.std.proofs.lemmas.Bool.{cases_Bool, cases_eq, cases_lt, or_cases, or_left, or_right}
 pub use Rattle.std.proofs.lemmas.Bool.Decides.{nat_tests}
-pub use Rattle.std.proofs.lemmas.Grind.{flat_map-append}
 pub use Rattle.std.proofs.lemmas.Int.{ints, to_z-of_z, unsigned_abs-mul}
 pub use Rattle.std.proofs.lemmas.List.{get_or-map, get_or-set_other, get_or-set_same}
 pub use Rattle.std.proofs.lemmas.List.{get_or_default, length-map, length-replicate, length-set}
@@ -34,8 +33,8 @@ pub use Rattle.mu_num.proofs.Quotients.{floor_meets}
 pub use Rattle.mu_num.proofs.SizeTests.{within-passes}
 pub use Rattle.mu_num.proofs.Sums.{sum_below-same, sum_below-zero, sum_over_more}
 pub use Rattle.mu_num.proofs.Tables.{int_at-tabulate}
-pub use Rattle.mu_num.proofs.Tests.{eqb-false, eqb-no, eqb-true, eqb-yes, if-false, if-true}
-pub use Rattle.mu_num.proofs.Tests.{if_cases, int_lt-false, int_lt-true, int_lt-yes}
+pub use Rattle.mu_num.proofs.Tests.{eqb-false, eqb-no, eqb-yes, if-false, if-true, if_cases}
+pub use Rattle.mu_num.proofs.Tests.{int_lt-false, int_lt-true, int_lt-yes}
 pub use Rattle.mu_num.proofs.Writes.{among_at, among_more, index_of, written_all, written_more}
 pub use Rattle.mu_num.specs.Curves.{curve_at}
 pub use Rattle.mu_num.specs.IndexedSums.{abs_of, first_exceeding, int_at, sum_below, sum_over}
@@ -70,9 +69,9 @@ pub use Rattle.qss_order2.specs.Events.{IsNext2, IsStarted, IsVisit2, LeadsSilen
 pub use Rattle.qss_order2.specs.Events.{rows2_left, SecondRunView}
 pub use Rattle.qss_order2.specs.Fixed.{AreColumnsBelow, AreModes, AreModesBelow, column_at}
 pub use Rattle.qss_order2.specs.Fixed.{IsColumn, rows_in}
-pub use Rattle.qss_order2.specs.Places.{CanMove, CanRead, floor_place, IsLineWithin, IsSmallPlace}
-pub use Rattle.qss_order2.specs.Places.{level_on, level_shift, no_place, place_at, place_in}
-pub use Rattle.qss_order2.specs.Places.{rise_on, state_on}
+pub use Rattle.qss_order2.specs.Places.{CanRead, floor_place, IsLineWithin, IsSmallPlace, level_on}
+pub use Rattle.qss_order2.specs.Places.{level_shift, no_place, place_at, place_in, rise_on}
+pub use Rattle.qss_order2.specs.Places.{state_on}
 unfoldable pub use Rattle.qss_order2.specs.Places.{levels_on, rises_on, states_on}
 pub use Rattle.qss_order2.specs.RemainingSecondRows.{EndsAs, IsAble, overflow_ahead, row2_lines}
 pub use Rattle.qss_order2.specs.SecondRowLines.{HasVariable2, line2_of}
@@ -95,10 +94,10 @@ pub use Rattle.qss_order2.specs.SecondSteps.{second_snapshot_unless, second_star
 pub use Rattle.qss_order2.specs.SecondSteps.{SecondSnapshot, SlopeRuleOf}
 pub use Rattle.qss_order2.specs.SlopeRules.{IsAnswer, IsRuled2}
 pub use Rattle.qss_order2.specs.Stores.{AreMovableUntil, AreQuiet, due_at, HasDues, HasLists}
-pub use Rattle.qss_order2.specs.Stores.{HasNewLevels, is_due, IsDue2, IsMovedOn, IsNear2}
-pub use Rattle.qss_order2.specs.Stores.{IsNextEvent, IsQuiet, IsRuleApplied, IsSized, IsStoreAt}
-pub use Rattle.qss_order2.specs.Stores.{IsWindow, levels_after, motion_at, MotionAt, Moves}
-pub use Rattle.qss_order2.specs.Stores.{place_rows, place_there, rows_of_left, snapshot_of}
+pub use Rattle.qss_order2.specs.Stores.{HasNewLevels, is_due, IsAdvanced, IsDue2, IsMovedOn}
+pub use Rattle.qss_order2.specs.Stores.{IsNear2, IsNextEvent, IsQuiet, IsRuleApplied, IsSized}
+pub use Rattle.qss_order2.specs.Stores.{IsStoreAt, IsWindow, levels_after, motion_at, MotionAt}
+pub use Rattle.qss_order2.specs.Stores.{Moves, place_rows, place_there, rows_of_left, snapshot_of}
 pub use Rattle.qss_order2.specs.Stores.{start_place, until}
 pub use Rattle.qss_order2.specs.declared.fixed_machine.FixedMachine.{FixedMachine}
 pub use Rattle.qss_order2.specs.declared.order2_motion.Motion.{Motion}

@@ -87,16 +87,6 @@ end_known m tick w =
 
 -- ---- overflows
 
--- an overflow, if there is one, is of a state
-abbrev IsOfState : Machine → Option Past → Type 0
-IsOfState m overflow = (past : Past) → overflow ≡ Some past → past.var < count m
-
-some_is : (a b : ℕ) → Some a ≡ Some b → a ≡ b
-some_is a b e = cc
-
-past_is : (a b : Past) → Some a ≡ Some b → a ≡ b
-past_is a b e = cc
-
 limit_known : (m : Machine) (levels changes : List ℤ) → length levels ≡ state_count m → (var : ℕ) →
     first_exceeding_limit m levels changes ≡ Some var → var < count m
 limit_known m levels changes many =
@@ -146,19 +136,9 @@ step_known m tick w =
 
 -- ---- runs
 
--- rows and overflow after a snapshot are of the machine
-record IsKnownAfter (m : Machine) (tick : ℕ) (w : SecondSnapshot)
-    (after : List SecondSnapshot × Option Past) : Type 0 where
-  pub rows : All (HasVariable2 m) (rows2_after m tick w after.0 after.1)
-  pub over : IsOfState m after.1
-
-past_known : (m : Machine) (tick : ℕ) (w : SecondSnapshot) (past : Past) → past.var < count m →
-    IsKnownAfter m tick w ([], Some past)
-past_known m tick w past h = record {
-  rows = one m (overflow_row past) h;
-  over =
-      λ other e. subst (λ (p : Past). p.var < count m) (past_is past other e) h;
-}
+-- rows after a snapshot are of the machine
+abbrev IsKnownAfter : Machine → ℕ → SecondSnapshot → List SecondSnapshot × Option Past → Type 0
+IsKnownAfter m tick w after = All (HasVariable2 m) (rows2_after m tick w after.0 after.1)
 
 with_known : (m : Machine) (more tick : ℕ) (w : SecondSnapshot) → ((next : SecondSnapshot) →
     IsKnownAfter m (tick + 1) next (snapshots_from nearest_change m more (tick + 1) next)) →
@@ -166,16 +146,14 @@ with_known : (m : Machine) (more tick : ℕ) (w : SecondSnapshot) → ((next : S
     IsKnownAfter m tick w (snapshots_with result (tick + 1) (λ next. snapshots_from nearest_change m
     more (tick + 1) next))
 with_known m more tick w rest (Err var) inside =
-    past_known m tick w (record { tick = tick + 1; var = var }) inside
-with_known m more tick w rest (Ok next) is = record {
-  rows = All-append (HasVariable2 m) (tick_rows2 m (tick + 1) w next) _ (tick_known m (tick + 1)
-      w next) (rest next).rows;
-  over = (rest next).over;
-}
+    one m (overflow_row (record { tick = tick + 1; var = var })) inside
+with_known m more tick w rest (Ok next) is =
+    All-append (HasVariable2 m) (tick_rows2 m (tick + 1) w next) _ (tick_known m (tick + 1) w next)
+    (rest next)
 
 from_known : (m : Machine) (more tick : ℕ) (w : SecondSnapshot) →
     IsKnownAfter m tick w (snapshots_from nearest_change m more tick w)
-from_known m zero tick w = record { rows = end_known m tick w; over = λ past e. absurd (cc) }
+from_known m zero tick w = end_known m tick w
 from_known m (suc more) tick w = with_known m more tick w (λ next. from_known m more (tick + 1)
     next) (second_step nearest_change m (tick + 1) w) (step_known m (tick + 1) w)
 
@@ -183,7 +161,7 @@ limit_unless : (m : Machine) (w : SecondSnapshot) (after : List SecondSnapshot �
     IsKnownAfter m 0 w after → (o : Option ℕ) → ((var : ℕ) → o ≡ Some var → var < count m) →
     IsKnownAfter m 0 w (snapshots_unless 0 o after)
 limit_unless m w after is None over = is
-limit_unless m w after is (Some var) over = past_known m 0 w (record { tick = 0; var = var })
+limit_unless m w after is (Some var) over = one m (overflow_row (record { tick = 0; var = var }))
     (over var refl)
 
 start_levels : (m : Machine) → length (second_start nearest_change m).levels ≡ state_count m
@@ -191,22 +169,9 @@ start_levels m =
     length-map (fine_states m) (λ (x : ℤ). floor_of x (level_unit m)) ∙ length-map (start_states m)
     (λ (x : ℤ). pos second_scale *ℤ x) ∙ length-map m.states (λ s. s.x0)
 
-known_after : (m : Machine) → IsKnownAfter m 0 (second_order_run m).start
-    ((second_order_run m).snapshots, (second_order_run m).overflow)
-known_after m =
-    let w = second_start nearest_change m in
-    let is = limit_unless m w (snapshots_from nearest_change m m.last 0 w) (from_known m m.last 0 w)
-    (first_exceeding_limit m w.levels w.changes) (limit_known m w.levels w.changes (start_levels m))
-    in
-    record { rows = is.rows; over = is.over }
-
 pub run_known : (m : Machine) → All (HasVariable2 m) (run2_rows m (second_order_run m))
 run_known m =
-    All-append (HasVariable2 m) (start_rows m (second_order_run m).start)
-    (rows2_after m 0 (second_order_run m).start (second_order_run m).snapshots
-    (second_order_run m).overflow)
-    (start_known m (second_order_run m).start) (known_after m).rows
-
-pub over_known : (m : Machine) (past : Past) → (second_order_run m).overflow ≡ Some past →
-    past.var < count m
-over_known m = (known_after m).over
+    let w = second_start nearest_change m in
+    All-append (HasVariable2 m) (start_rows m w) _ (start_known m w) (limit_unless m w
+    (snapshots_from nearest_change m m.last 0 w) (from_known m m.last 0 w) (first_exceeding_limit m
+    w.levels w.changes) (limit_known m w.levels w.changes (start_levels m)))

@@ -1,14 +1,15 @@
 -- Places, and the motion of all states that they give at a tick.
 use Rattle.qss_order2.proofs.Common
 use Common.{[], ℕ, ℤ, ◌*ℤ◌, ◌+ℤ◌, ◌+◌, ◌-◌, ◌<◌, ◌∙◌, ◌≡◌, ◌≤ℤ◌, ◌≤◌, abs_of, add-mul, ap}
-use Common.{AreMovableUntil, arith, bend_at, CanMove, cases_Bool, curve_at, curve_zero, false}
-use Common.{HasLists, inl, inr, int_at, int_at-tabulate, ints, is_listed, IsSized, IsSmallPlace}
-use Common.{IsWithin, IsWritten, length, length-map-range_with_len, level_on, levels_on, List}
-use Common.{Machine, Motion, motion_at, MotionAt, Moves, no_place, not, Option, Place, place_at}
-use Common.{place_in, place_there, pos, refl, rise_at, rise_on, rises_on, second_snapshot_after}
-use Common.{snapshot_of, Some, state_count, state_on, states_on, subst, sym, tabulate, true}
-use Common.{zero-*ℤ}
-use Rattle.qss_order2.specs.Stores.{AreLevelsBoundedUntil, AreLevelSlopesBounded}
+use Common.{AreMovableUntil, arith, bend_at, cases_Bool, curve_at, curve_zero, false, HasLists, inl}
+use Common.{inr, int_at, int_at-tabulate, ints, is_listed, IsAdvanced, IsSized, IsSmallPlace}
+use Common.{IsWithin, length, length-map-range_with_len, level_on, levels_on, List, Machine, Motion}
+use Common.{motion_at, MotionAt, Moves, not, Option, Place, place_at, place_in, place_there, pos}
+use Common.{refl, rise_at, rise_on, rises_on, second_snapshot_after, snapshot_of, Some, state_count}
+use Common.{state_on, states_on, subst, sym, tabulate, true, zero-*ℤ}
+use Rattle.qss_order2.specs.Places.{CanMove}
+use Rattle.qss_order2.specs.Stores.{CanAdvance, rise_there, AreLevelsBoundedUntil}
+use Rattle.qss_order2.specs.Stores.{AreLevelSlopesBounded}
 use Rattle.qss_order2.proofs.Bounds.{state_small, level_within, rise_small, rise_is, bend_small}
 use Rattle.qss_order2.proofs.Bounds.{bend_is, change_small}
 use Rattle.qss_order2.proofs.BoundedLines.{same_bound}
@@ -142,8 +143,12 @@ module _ (m : Machine) (q : Motion) (tick : ℕ) (moves : Moves m (motion_at m q
       state_on (place j) (int_at q.rises.items j) (int_at q.bends.items j) (tick + k) ≡ int_at
       (second_snapshot_after m (snapshot_of v) k).states j
   states_later k j h past =
-      rw (state_later (place j) (int_at q.rises.items j) (int_at q.bends.items j) tick k past,
-      ← state_v j h, rise_v j h, bend_v j h) (sym (int_at-tabulate n (λ j. curve_at
+      rw (
+        state_later (place j) (int_at q.rises.items j) (int_at q.bends.items j) tick k past,
+        ← state_v j h,
+        rise_v j h,
+        bend_v j h,
+      ) (sym (int_at-tabulate n (λ j. curve_at
       (int_at v.states j) (rise_at m j v.levels) (bend_at m j v.changes) k) j h))
 
   pub levels_later : (k j : ℕ) → j < n → (place j).since ≤ tick →
@@ -158,8 +163,11 @@ module _ (m : Machine) (q : Motion) (tick : ℕ) (moves : Moves m (motion_at m q
       int_at q.rises.items j +ℤ pos ((tick + k) - (place j).since) *ℤ int_at q.bends.items j ≡
       rise_at m j v.levels +ℤ pos k *ℤ bend_at m j v.changes
   rises_later k j h past =
-      rw (line_later (int_at q.rises.items j) (int_at q.bends.items j) (place j).since tick k past,
-      rise_v j h, bend_v j h) refl
+      rw (
+        line_later (int_at q.rises.items j) (int_at q.bends.items j) (place j).since tick k past,
+        rise_v j h,
+        bend_v j h,
+      ) refl
 
   -- a state whose place is of the tick
   module _ (j : ℕ) (h : j < n) (here : (place j).since ≡ tick) where
@@ -228,61 +236,64 @@ still_movable way next end later within = record {
 }
 
 -- some states have moved to a tick, with their slopes
-module _ (tick : ℕ) (old now : List Place) (cs rs ss bs : List ℤ) (done : List ℕ)
-    (placed : IsWritten no_place (λ j p. p ≡ place_at (place_in old j) (int_at cs j) (int_at rs j)
-    (int_at bs j) tick) done old now)
-    (risen : IsWritten (pos 0) (λ j z. z ≡ rise_on (place_in old j) (int_at rs j) (int_at bs j)
-    tick) done rs ss) where
-  at_tick : (j : ℕ) → is_listed done j ≡ true → (place_in now j).since ≡ tick
-  at_tick j e = ap (λ (p : Place). p.since) (placed.each j e)
+module _ {tick : ℕ} {done : List ℕ} {old now : Motion} (is : IsAdvanced tick done old now) where
+  at_tick : (j : ℕ) → is_listed done j ≡ true → (place_in now.places.items j).since ≡ tick
+  at_tick j e = ap (λ (p : Place). p.since) (is.places.each j e)
 
-  as_before : (j : ℕ) → is_listed done j ≡ false → (place_in now j).since ≡ (place_in old j).since
-  as_before j e = ap (λ (p : Place). p.since) (placed.others j e)
+  as_before : (j : ℕ) → is_listed done j ≡ false → (place_in now.places.items j).since ≡
+      (place_in old.places.items j).since
+  as_before j e = ap (λ (p : Place). p.since) (is.places.others j e)
 
   -- a place that is moved again is the first place, moved
-  pub moved_once : (j : ℕ) → place_at (place_in now j) (int_at cs j) (int_at ss j) (int_at bs j)
-      tick ≡ place_at (place_in old j) (int_at cs j) (int_at rs j) (int_at bs j) tick
+  pub moved_once : (j : ℕ) → place_there tick now j ≡ place_there tick old j
   moved_once j = elim (cases_Bool (is_listed done j)) [
-    | inl e ↦
-        here_place (place_in now j) (int_at cs j) (int_at ss j) (int_at bs j) tick (at_tick j e)
-        ∙ placed.each j e
-    | inr e ↦ rw (placed.others j e, risen.others j e) refl
+    | inl e ↦ here_place (place_in now.places.items j) (int_at now.changes.items j)
+        (int_at now.rises.items j) (int_at now.bends.items j) tick (at_tick j e)
+        ∙ is.places.each j e
+    | inr e ↦ rw (is.places.others j e, is.rises.others j e, is.changes, is.bends) refl
   ]
 
   -- and so is its slope
-  pub risen_once : (j : ℕ) → rise_on (place_in now j) (int_at ss j) (int_at bs j) tick ≡ rise_on
-      (place_in old j) (int_at rs j) (int_at bs j) tick
+  pub risen_once : (j : ℕ) → rise_there tick now j ≡ rise_there tick old j
   risen_once j = elim (cases_Bool (is_listed done j)) [
-    | inl e ↦ here_line (int_at ss j) (int_at bs j) (place_in now j).since tick (at_tick j e)
-        ∙ risen.each j e
-    | inr e ↦ rw (placed.others j e, risen.others j e) refl
+    | inl e ↦ here_line (int_at now.rises.items j) (int_at now.bends.items j)
+        (place_in now.places.items j).since tick (at_tick j e) ∙ is.rises.each j e
+    | inr e ↦ rw (is.places.others j e, is.rises.others j e, is.bends) refl
   ]
 
   -- the others can still be moved
-  pub still_moves : (n : ℕ) → CanMove n tick old cs rs bs → CanMove n tick now cs ss bs
-  still_moves n can = record {
-    as_many_changes = can.as_many_changes;
-    as_many_rises = risen.as_many ∙ can.as_many_rises;
-    as_many_bends = can.as_many_bends;
-    past = λ j h. elim (cases_Bool (is_listed done j)) [
-      | inl e ↦ omega (arith, at_tick j e)
-      | inr e ↦ omega (arith, as_before j e, can.past j h)
-    ];
-    near = λ j h. elim (cases_Bool (is_listed done j)) [
-      | inl e ↦ omega (arith, at_tick j e)
-      | inr e ↦ omega (arith, as_before j e, can.near j h)
-    ];
-    small = λ j h low. elim (cases_Bool (is_listed done j)) [
-      | inl e ↦ absurd (omega (arith, at_tick j e, low))
-      | inr e ↦ rw (placed.others j e) (can.small j h (omega (arith, as_before j e, low)))
-    ];
-    small_changes = can.small_changes;
-    small_rises = λ j h low. elim (cases_Bool (is_listed done j)) [
-      | inl e ↦ absurd (omega (arith, at_tick j e, low))
-      | inr e ↦ rw (risen.others j e) (can.small_rises j h (omega (arith, as_before j e, low)))
-    ];
-    small_bends = can.small_bends;
-  }
+  pub still_moves : CanAdvance tick old → CanAdvance tick now
+  still_moves can =
+      let n = length old.places.items in
+      let moves : CanMove n tick now.places.items old.changes.items now.rises.items old.bends.items =
+      record {
+        as_many_changes = can.as_many_changes;
+        as_many_rises = is.rises.as_many ∙ can.as_many_rises;
+        as_many_bends = can.as_many_bends;
+        past = λ j h. elim (cases_Bool (is_listed done j)) [
+          | inl e ↦ omega (arith, at_tick j e)
+          | inr e ↦ omega (arith, as_before j e, can.past j h)
+        ];
+        near = λ j h. elim (cases_Bool (is_listed done j)) [
+          | inl e ↦ omega (arith, at_tick j e)
+          | inr e ↦ omega (arith, as_before j e, can.near j h)
+        ];
+        small = λ j h low. elim (cases_Bool (is_listed done j)) [
+          | inl e ↦ absurd (omega (arith, at_tick j e, low))
+          | inr e ↦ rw (is.places.others j e) (can.small j h (omega (arith, as_before j e, low)))
+        ];
+        small_changes = can.small_changes;
+        small_rises = λ j h low. elim (cases_Bool (is_listed done j)) [
+          | inl e ↦ absurd (omega (arith, at_tick j e, low))
+          | inr e ↦ rw (is.rises.others j e) (can.small_rises j h (omega (
+            arith,
+            as_before j e,
+            low,
+          )))
+        ];
+        small_bends = can.small_bends;
+      } in
+      rw (is.places.as_many, is.changes, is.bends) moves
 
 pub sized_at : (m : Machine) (q : Motion) (tick : ℕ) → HasLists m q → IsSized m (motion_at m q tick)
 sized_at m q tick lists = record {

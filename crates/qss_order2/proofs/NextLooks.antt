@@ -1,19 +1,16 @@
 -- The least due tick.
 use Rattle.qss_order2.proofs.Common
-use Common.{ℕ, ◌+◌, ◌-◌, ◌<◌, ◌==◌, ◌∙◌, ◌≡◌, ◌≤◌, ap, arith, Bool, cases_lt, due_at, eqb-false}
-use Common.{eqb-no, eqb-true, eqb-yes, false, HasDues, inl, inr, is_due, IsDue2, length, List}
-use Common.{Machine, None, Option, refl, SecondSnapshot, Some, state_count, subst, sym, true, until}
+use Common.{[], ℕ, ◌+◌, ◌-◌, ◌<◌, ◌==◌, ◌∙◌, ◌≡◌, ◌≤◌, ap, arith, Bool, cases_eq, cases_lt, due_at}
+use Common.{eqb-no, eqb-yes, false, HasDues, inl, inr, is_due, IsDue2, length, List, Machine, None}
+use Common.{Option, refl, SecondSnapshot, Some, state_count, subst, sym, true, until}
 use Rattle.std.proofs.lemmas.List.{get_or_past}
 
 -- two ticks are equal if and only if they are equal after t is subtracted from both
 same_test : (a b t : ℕ) → t < a → t < b → (a == b) ≡ (a - t == b - t)
-same_test a b t h k = by_test (a == b) refl
-  where
-    by_test : (test : Bool) → (a == b) ≡ test → (a == b) ≡ (a - t == b - t)
-    by_test true e = let same = eqb-true a b e in e
-        ∙ sym (eqb-yes (a - t) (b - t) (omega (arith, same)))
-    by_test false e = let other = eqb-false a b e in e
-        ∙ sym (eqb-no (a - t) (b - t) (λ same. other (omega (arith, same, h, k))))
+same_test a b t h k = elim (cases_eq a b) [
+  | inl e ↦ eqb-yes a b e ∙ sym (eqb-yes (a - t) (b - t) (omega (arith, e)))
+  | inr ne ↦ eqb-no a b ne ∙ sym (eqb-no (a - t) (b - t) (λ e. ne (omega (arith, e, h, k))))
+]
 
 -- a due tick that is at least a tick is so from an earlier one on
 pub until_least : (tick next d : ℕ) (due : Option ℕ) → until tick due ≡ Some d →
@@ -61,12 +58,7 @@ pub listed_is_due : (next : ℕ) (due : Option ℕ) (listed : Bool) → (listed 
 listed_is_due next due true own all = sym (ap (λ (o : Option ℕ). is_due o next) (own refl)
     ∙ eqb-yes next next refl)
 listed_is_due next None false own all = refl
-listed_is_due next (Some d) false own all = by_test (d == next) refl
-  where
-    by_test : (test : Bool) → (d == next) ≡ test → false ≡ (d == next)
-    by_test true e = let is : Some d ≡ Some next = ap (λ (n : ℕ). Some n) (eqb-true d next e)
-        in absurd (wrong (all is))
-      where
-        wrong : false ≡ true → ⊥
-        wrong f = cc
-    by_test false e = sym e
+listed_is_due next (Some d) false own all = elim (cases_eq d next) [
+  | inl e ↦ absurd (cc (all (ap (λ (n : ℕ). Some n) e)))
+  | inr ne ↦ sym (eqb-no d next ne)
+]

@@ -61,8 +61,11 @@ quiet_states m columns left affected are below own readers j h not = record {
       let column : List Entry = column_at columns i in
       let unread : is_listed (rows_in column) j ≡ false =
       elim (cases_Bool (is_listed (rows_in column) j)) [
-        | inl reads ↦ absurd (cc (readers found.0 j found.1 (subst (λ x. is_listed (rows_in (column_at
-            columns x)) j ≡ true) (sym found.2) reads), not))
+        | inl reads ↦ absurd (cc (
+          readers found.0 j found.1 (subst (λ x. is_listed (rows_in (column_at
+              columns x)) j ≡ true) (sym found.2) reads),
+          not,
+        ))
         | inr none ↦ none
       ] in
       sym ((are.each i k).same j h) ∙ unlisted column j unread;

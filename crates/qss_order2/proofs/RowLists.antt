@@ -1,10 +1,10 @@
 -- Rows, one state after another.
 use Rattle.qss_order2.proofs.Common
-use Common.{[], ℕ, ℤ, ◌++◌, ◌+◌, ◌<◌, ◌∙◌, ◌∷◌, ◌≡◌, ap, append-nil, append_assoc, AreRisingBelow}
-use Common.{arith, Bool, flat_map, flat_map-append, get_or, if-false, if-true, if◌then◌else◌}
-use Common.{index_of, int_at, is_listed, Kind2, length, level_row, List, map}
-use Common.{map-range_with_len_more, Place, place_in, place_rows, range_with_len, refl, Row2}
-use Common.{rows_of_left, SecondSnapshot, slope_row, sym, tabulate, true}
+use Common.{[], ℕ, ℤ, ◌++◌, ◌+◌, ◌<◌, ◌∙◌, ◌∷◌, ◌≡◌, ap, append_assoc, AreRisingBelow, arith, Bool}
+use Common.{flat_map, get_or, if-false, if-true, if◌then◌else◌, index_of, int_at, is_listed, Kind2}
+use Common.{length, level_row, List, map, map-range_with_len_more, Place, place_in, place_rows}
+use Common.{range_with_len, refl, Row2, rows_of_left, SecondSnapshot, slope_row, sym, tabulate}
+use Common.{true}
 use Rattle.mu_num.proofs.RisingNumbers.{rows_among}
 use Rattle.mu_num.proofs.Writes.{among_head, among_rest}
 
@@ -20,15 +20,6 @@ range_more n = sym (map-same (range_with_len 0 (n + 1))) ∙ map-range_with_len_
 abbrev pub left_rows : Kind2 → ℕ → SecondSnapshot → (ℕ → Bool) → ℕ → List Row2
 left_rows kind tick w left j = if left j then level_row kind tick w j ∷ slope_row tick w j ∷ [] else
     []
-
-pub left_more : (kind : Kind2) (tick : ℕ) (w : SecondSnapshot) (left : ℕ → Bool) (j : ℕ) →
-    rows_of_left kind tick w left (j + 1) ≡ rows_of_left kind tick w left j ++ left_rows kind tick w
-    left j
-left_more kind tick w left j =
-    ap (flat_map (left_rows kind tick w left)) (range_more j)
-    ∙ flat_map-append (left_rows kind tick w left) (range_with_len 0 j) (j ∷ [])
-    ∙ ap (λ rows. rows_of_left kind tick w left j ++ rows)
-    (append-nil (left_rows kind tick w left j))
 
 -- one more row
 pub row_more : (f : ℕ → Row2) (old now next : List Row2) (j : ℕ) (row : Row2) →

@@ -1,10 +1,10 @@
 -- Levels within a safe bound exceed no limit.
 use Rattle.qss_order2.proofs.Common
-use Common.{ℕ, ℤ, ◌*ℤ◌, ◌<◌, ◌≡◌, ◌≤ℤ◌, ◌≤◌, abs_of, arith, exceeds, int_at, int_at-tabulate, ints}
-use Common.{IsWithin, length, List, Machine, mul-le-mul_left, None, none_past, Option, option_or}
+use Common.{[], ℕ, ℤ, ◌*ℤ◌, ◌<◌, ◌≡◌, ◌≤ℤ◌, ◌≤◌, abs_of, arith, exceeds, int_at, ints, IsWithin}
+use Common.{length, List, Machine, mul-le-mul_left, None, none_past, Option, option_or}
 use Common.{option_or-None, past_levels, pos, refl, replicate, rise_weight, Some, start_coefficient}
-use Common.{state_count, subst, suc, sym, tabulate, unsigned_abs, unsigned_abs-mul, within-passes}
-use Common.{zero}
+use Common.{state_count, subst, suc, sym, unsigned_abs, unsigned_abs-mul, within-passes, zero}
+use Rattle.qss_order2.proofs.Bounds.{table_within}
 use Rattle.qss_order2.proofs.Sizes.{sum_from_zero}
 use Rattle.qss_order2.proofs.SizeSums.{size_from_zero}
 use Rattle.qss_order2.proofs.Tables.{none_is, none_of_table}
@@ -46,10 +46,7 @@ module _ (m : Machine) (b : ℕ) (none : past_levels m (replicate (state_count m
   weight_le : (j : ℕ) → j < state_count m → IsWithin 94 (rise_weight m levels j)
   weight_le j h =
       let n = state_count m in
-      let weights = tabulate n (rise_weight m all) in
-      let own : IsWithin 94 (rise_weight m all j) =
-      subst (IsWithin 94) (int_at-tabulate n (rise_weight m all) j h) (none_past 94 weights
-      (option_or-None _ _ none).1 j) in
+      let own = table_within 94 n (rise_weight m all) (option_or-None _ _ none).1 j h in
       let le = sum_below-le n (λ i. abs_of (start_coefficient m j i *ℤ int_at levels i))
       (λ i. abs_of (start_coefficient m j i *ℤ int_at all i)) (term_le j) in
       let low = sum_from_zero n (λ i. abs_of (start_coefficient m j i *ℤ int_at levels i))

@@ -1,16 +1,12 @@
 -- The text of second-order rows, and where it stops.
 use Rattle.qss_order2.proofs.Common
-use Common.{ℕ, ◌++◌, ◌∙◌, ◌≡◌, ap, flat_map-append, line2_of, List, Machine, Option, Row2}
-use Common.{row2_lines, subst, sym, text_in, true}
+use Common.{ℕ, ◌++◌, ◌∙◌, ◌≡◌, ap, line2_of, List, Machine, Option, Row2, row2_lines, subst, sym}
+use Common.{text_in, true}
 use Rattle.std.specs.Io.KnownBytes.{Appends}
 use Rattle.qss_order2.specs.SecondRowLines.{lines2_of}
 use Rattle.qss_order2.specs.SecondRunTexts.{StopsBefore2}
 use Rattle.qss_rows.specs.Simulations.{StopsAtLine}
 use Rattle.qss_rows.proofs.RowLines.{split, text_all}
-
-pub lines2-append : (m : Machine) (xs ys : List Row2) → lines2_of m (xs ++ ys) ≡ lines2_of m xs ++
-    lines2_of m ys
-lines2-append m xs ys = flat_map-append (line2_of m) xs ys
 
 pub row2_text : (m : Machine) (rows : List Row2) → text_in (row2_lines m rows) ≡ lines2_of m rows
 row2_text m rows = text_all (line2_of m) rows

@@ -1,23 +1,21 @@
 -- What follows from new levels, of the states of a list.
 use Rattle.qss_order2.proofs.Common
-use Common.{ℕ, ℤ, ◌*ℤ◌, ◌+◌, ◌<◌, ◌^◌, ◌∙◌, ◌≡◌, ◌≤ℤ◌, ◌≤◌, abs_of, All, ap, AreChanges, AreQuiet}
-use Common.{arith, bend_at, Bool, CanRead, cases_lt, exceeds, false, index_of, inl, inr, int_at}
-use Common.{int_at-tabulate, int_wrap, ints, is_listed, IsAnswer, IsRuleApplied, IsRuled2}
-use Common.{IsSafeBound, IsWithin, IsWritten, length, level_unit, levels_on, List, Machine}
-use Common.{MatchBool, Motion, None, none_past, Option, option_or-None, past_levels, Place}
-use Common.{place_in, pos, refl, rise_at, rise_change_weight, rise_weight, Some, start_coefficient}
-use Common.{state_count, subst, sym, tabulate, true, unit_fits, within-passes}
+use Common.{[], ℕ, ℤ, ◌*ℤ◌, ◌+◌, ◌<◌, ◌^◌, ◌∙◌, ◌≡◌, ◌≤ℤ◌, ◌≤◌, abs_of, All, ap, AreChanges}
+use Common.{AreQuiet, arith, bend_at, Bool, CanRead, cases_lt, exceeds, false, index_of, inl, inr}
+use Common.{int_at, int_wrap, ints, is_listed, IsAnswer, IsRuleApplied, IsRuled2, IsSafeBound}
+use Common.{IsWithin, IsWritten, length, level_unit, levels_on, List, Machine, MatchBool, Motion}
+use Common.{None, none_past, not, Option, option_or-None, past_levels, Place, place_in, pos, refl}
+use Common.{rise_at, rise_change_weight, rise_weight, Some, start_coefficient, state_count, subst}
+use Common.{sym, true, unit_fits, within-passes}
 use Rattle.qss_order2.specs.Stores.{HasChanged}
 use Rattle.std.specs.Int.{w128}
-use Rattle.std.specs.Prelude.{is_some}
-use Rattle.qss_order2.proofs.Bounds.{rise_by_weight, bend_by_weight, factor_small}
+use Rattle.qss_order2.proofs.Bounds.{table_within, rise_by_weight, bend_by_weight, factor_small}
 use Rattle.qss_order2.proofs.Motions.{at_levels, here_level}
 use Rattle.qss_order2.proofs.ColumnSums.{wrap_small}
 use Rattle.qss_order2.proofs.Sizes.{sum_from_zero}
 use Rattle.qss_order2.proofs.SizeSums.{size_from_zero}
 use Rattle.qss_order2.proofs.Quiet.{same_bend_weight}
-use Rattle.qss_order2.proofs.Settlings.{are_changes, near_ones, near_are, past_first, past_then}
-use Rattle.qss_order2.proofs.Settlings.{of_changes}
+use Rattle.qss_order2.proofs.Settlings.{near_ones, near_are, past_first, past_then, of_changes}
 
 pub listed_below : (n : ℕ) (list : List ℕ) → All (λ j. j < n) list → (j : ℕ) →
     is_listed list j ≡ true → j < n
@@ -41,16 +39,13 @@ pub listed_changes : (nearest : Bool) (m : Machine) (left : List ℕ) (levels ri
     ((j : ℕ) → j < state_count m → is_listed left j ≡ true → int_at rises j ≡ rise_at m j levels) →
     IsWritten (pos 0) (λ j z. IsAnswer nearest (int_at rises j) (level_unit m) z) left old new →
     AreChanges (IsRuled2 nearest) m (is_listed left) levels old new
-listed_changes nearest m left levels rises old new many own written =
-    are_changes nearest m (is_listed left) levels old (tabulate (state_count m)
-    (λ j. rise_at m j levels)) new refl (written.as_many ∙ many)
-    (λ j h.
-    by_listed (is_listed left j) (IsAnswer nearest
-    (int_at (tabulate (state_count m) (λ j. rise_at m j levels)) j) (level_unit m) (int_at new j))
-    (int_at new j ≡ int_at old j)
-    (λ e. subst (λ r. IsAnswer nearest r (level_unit m) (int_at new j)) (own j h e
-    ∙ sym (int_at-tabulate (state_count m) (λ j. rise_at m j levels) j h)) (written.each j e))
-    (λ e. written.others j e))
+listed_changes nearest m left levels rises old new many own written = record {
+  one_each = written.as_many ∙ many;
+  each = λ j h. by_listed (is_listed left j) (IsAnswer nearest (rise_at m j levels) (level_unit m)
+      (int_at new j)) (int_at new j ≡ int_at old j)
+      (λ e. subst (λ r. IsAnswer nearest r (level_unit m) (int_at new j)) (own j h e)
+      (written.each j e)) (λ e. written.others j e);
+}
 
 -- rows that read none of them are as flat as they were
 pub flat_after : (m : Machine) (left affected : List ℕ) (old new : List ℤ) →
@@ -69,10 +64,8 @@ pub bounded_flat : (m : Machine) (bound : ℤ) → IsSafeBound m bound → (chan
     (j : ℕ) → j < state_count m → exceeds 94 (rise_change_weight m changes j) ≡ false
 bounded_flat m bound bounded changes many small j h =
     let n = state_count m in
-    let weights = tabulate n (rise_weight m changes) in
-    let own : IsWithin 94 (rise_weight m changes j) =
-    subst (IsWithin 94) (int_at-tabulate n (rise_weight m changes) j h) (none_past 94 weights
-    (option_or-None _ _ (bounded changes many small)).1 j) in
+    let own = table_within 94 n (rise_weight m changes) (option_or-None _ _ (bounded changes many
+    small)).1 j h in
     let low = sum_from_zero n (λ i. abs_of (start_coefficient m j i *ℤ int_at changes i))
     (λ i. size_from_zero (start_coefficient m j i *ℤ int_at changes i)) in
     within-passes 94 (rise_change_weight m changes j) (omega (arith, ints, own, low))
@@ -99,21 +92,11 @@ is_rule_applied nearest m left affected levels q1 q2 over changed none is risen 
   risen = λ e j h t. ap (λ rs. int_at rs.items j) changed.rises ∙ exact (int_at q1.rises.items j)
       (rise_at m j levels) (risen j h t) (rise_bounded m levels none j h);
   bends = λ e j h.
-      let weights = tabulate (state_count m) (rise_change_weight m q2.changes.items) in
-      let heavy : IsWithin 94 (rise_change_weight m q2.changes.items j) =
-      subst (IsWithin 94) (int_at-tabulate (state_count m) (rise_change_weight m q2.changes.items)
-      j h) (none_past 94 weights (sym is ∙ e) j) in
+      let heavy = table_within 94 (state_count m) (rise_change_weight m q2.changes.items) (sym is ∙ e)
+      j h in
       exact (int_at q2.bends.items j) (bend_at m j q2.changes.items) (changed.bends j h)
       (bend_by_weight m q2.changes.items j heavy);
 }
-
-pub some_of : (o : Option ℕ) → is_some o ≡ true → (var : ℕ) × (o ≡ Some var)
-some_of None e = absurd (cc)
-some_of (Some var) e = (var, refl)
-
-pub none_some : (o : Option ℕ) → is_some o ≡ false → o ≡ None
-none_some None e = refl
-none_some (Some var) e = absurd (cc)
 
 -- where a level is past a limit, nothing follows
 pub is_past_limit : (nearest : Bool) (m : Machine) (left affected : List ℕ) (levels : List ℤ)

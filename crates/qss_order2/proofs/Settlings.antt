@@ -1,11 +1,10 @@
 -- What follows from new levels.
 use Rattle.qss_order2.proofs.Common
 use Common.{[], ℕ, ℤ, ◌*ℤ◌, ◌<◌, ◌∙◌, ◌≡◌, ap, AreChanges, arith, Bool, false, first_exceeding}
-use Common.{first_exceeding_limit, FreeChange, if◌then◌else◌, int_at, int_at-tabulate, ints}
-use Common.{IsAnswer, IsRuled2, IsWithin, length, level_unit, List, Machine, MatchBool}
-use Common.{nearest_change, None, Option, option_or, past_levels, refl, rise_at, rise_change_weight}
-use Common.{rise_weight, SlopeRuleOf, Some, state_count, subst, sym, tabulate, true, unit_fits}
-use Common.{unit_positive}
+use Common.{first_exceeding_limit, FreeChange, if◌then◌else◌, int_at, ints, IsRuled2, IsWithin}
+use Common.{level_unit, List, Machine, MatchBool, nearest_change, None, Option, option_or}
+use Common.{past_levels, refl, rise_at, rise_change_weight, rise_weight, SlopeRuleOf, Some}
+use Common.{state_count, subst, sym, tabulate, true, unit_fits, unit_positive}
 use Rattle.mu_num.proofs.Quotients.{nearest_meets}
 use Rattle.qss_order2.specs.SecondRunLaws.{NearestIsFree}
 use Rattle.qss_order2.proofs.Uniqueness.{changes_by, changes_are}
@@ -39,26 +38,6 @@ pub nearest_is_free : NearestIsFree
 nearest_is_free unit rise h = let f = nearest_meets rise unit h in omega (arith, ints, f.near)
 
 module _ (nearest : Bool) (m : Machine) (asked : ℕ → Bool) (levels old : List ℤ) where
-  answered : (b : Bool) (rise is z y : ℤ) → rise ≡ is →
-      MatchBool b (IsAnswer nearest rise (level_unit m) z) (z ≡ y) →
-      MatchBool b (IsRuled2 nearest (level_unit m) is z) (z ≡ y)
-  answered true rise is z y e given = subst (λ r. IsAnswer nearest r (level_unit m) z) e given
-  answered false rise is z y e given = given
-
-  -- answers to the rises at the levels
-  pub are_changes : (rises new : List ℤ) → rises ≡ tabulate (state_count m)
-      (λ j. rise_at m j levels) → length new ≡ state_count m →
-      ((j : ℕ) → j < state_count m → MatchBool (asked j) (IsAnswer nearest (int_at rises j)
-      (level_unit m) (int_at new j)) (int_at new j ≡ int_at old j)) → AreChanges (IsRuled2 nearest)
-      m asked levels old new
-  are_changes rises new of_rises many each = record {
-    one_each = many;
-    each = λ j h. answered (asked j) (int_at rises j) (rise_at m j levels) (int_at new j)
-        (int_at old j)
-        (ap (λ (xs : List ℤ). int_at xs j) of_rises ∙ int_at-tabulate (state_count m)
-        (λ j. rise_at m j levels) j h) (each j h);
-  }
-
   -- there are some
   abbrev pub near_ones : List ℤ
   near_ones = tabulate (state_count m) (λ j. if asked j then nearest_change (level_unit m)

@@ -1,10 +1,10 @@
 -- Due ticks of states that an event step does not affect stay.
 use Rattle.qss_order2.proofs.Common
-use Common.{ℕ, ℤ, ◌%◌, ◌*ℤ◌, ◌+ℤ◌, ◌+◌, ◌-ℤ◌, ◌-◌, ◌<◌, ◌∙◌, ◌≡◌, ◌≤ℤ◌, ◌≤◌, ◌⊎◌, add-mul, ap}
+use Common.{[], ℕ, ℤ, ◌%◌, ◌*ℤ◌, ◌+ℤ◌, ◌+◌, ◌-ℤ◌, ◌-◌, ◌<◌, ◌∙◌, ◌≡◌, ◌≤ℤ◌, ◌≤◌, ◌⊎◌, add-mul, ap}
 use Common.{AreQuiet, arith, bend_at, Bool, curve_at, curve_more, curve_zero, due_at, eqb-false}
 use Common.{false, floor_of, gap_after, HasDues, if-false, if◌then◌else◌, int_at, int_at-tabulate}
 use Common.{ints, is_due, IsDue2, IsNextEvent, IsQuiet, IsWindow, level_unit, levels_after}
-use Common.{limit_check_period, List, Machine, None, Option, pos, reach_of, refl, rise_at}
+use Common.{limit_check_period, List, Machine, None, not, Option, pos, reach_of, refl, rise_at}
 use Common.{second_snapshot_after, SecondSnapshot, Some, state_count, subst, suc, sym, unsigned_abs}
 use Common.{until, zero}
 use Rattle.mu_num.specs.Curves.{FirstUpTo}
@@ -119,21 +119,17 @@ module _ (m : Machine) (tick window ticks : ℕ) (w next : SecondSnapshot) (dues
         let of_g : bend_at m j next.changes ≡ g =
         same_bend m left j quiet next.changes w.changes changes in
         let start : int_at next.states j -ℤ unit *ℤ int_at next.levels j ≡ curve_at (x -ℤ unit *ℤ l)
-        (f -ℤ unit *ℤ v) g ticks =
-        ap (λ z. z -ℤ unit *ℤ int_at next.levels j) of_x
-        ∙ ap (λ z. curve_at x f g ticks -ℤ unit *ℤ z) of_l ∙ gap_is x f g l v unit ticks in
+        (f -ℤ unit *ℤ v) g ticks = rw (of_x, of_l) (gap_is x f g l v unit ticks) in
         let step : rise_at m j next.levels -ℤ unit *ℤ int_at next.changes j ≡ (f -ℤ unit *ℤ v)
         +ℤ pos ticks *ℤ g =
         ap (λ z. rise_at m j next.levels -ℤ unit *ℤ z) of_v ∙ ap (λ z. z -ℤ unit *ℤ v) of_f
         ∙ swapped f (pos ticks *ℤ g) (unit *ℤ v) in
-        ap (λ z. curve_at z (rise_at m j next.levels -ℤ unit *ℤ int_at next.changes j)
-        (bend_at m j next.changes) k) start
-        ∙ ap (λ z. curve_at (curve_at (x -ℤ unit *ℤ l) (f -ℤ unit *ℤ v) g ticks) z
-        (bend_at m j next.changes) k) step
-        ∙ ap (λ z. curve_at (curve_at (x -ℤ unit *ℤ l) (f -ℤ unit *ℤ v) g ticks)
-        ((f -ℤ unit *ℤ v) +ℤ pos ticks *ℤ g) z k) of_g
-        ∙ curve_on (x -ℤ unit *ℤ l) (f -ℤ unit *ℤ v) g ticks k
+        same_curve start step of_g k ∙ curve_on (x -ℤ unit *ℤ l) (f -ℤ unit *ℤ v) g ticks k
       where
+        same_curve : {c b a d e f : ℤ} → c ≡ d → b ≡ e → a ≡ f → (k : ℕ) →
+            curve_at c b a k ≡ curve_at d e f k
+        same_curve of_c of_b of_a k = rw (of_c, of_b, of_a) refl
+
         swapped : (a b c : ℤ) → (a +ℤ b) -ℤ c ≡ (a -ℤ c) +ℤ b
         swapped a b c = omega (arith, ints)
 

@@ -1,7 +1,7 @@
 -- Lists by the number of each value.
 use Rattle.qss_order2.proofs.Common
-use Common.{[], ℕ, ℤ, ◌++◌, ◌+◌, ◌<◌, ◌∙◌, ◌∷◌, ◌≡◌, ◌≢◌, ◌≤◌, ◌⊎◌, All, ap, arith, Bool, cases_eq}
-use Common.{false, fill_by_all, get_or, get_or-set_other, get_or-set_same, get_or_default, inl, inr}
+use Common.{[], ℕ, ℤ, ◌++◌, ◌+◌, ◌<◌, ◌∙◌, ◌∷◌, ◌≡◌, ◌≤◌, All, ap, arith, Bool, cases_eq, false}
+use Common.{fill_by_all, get_or, get_or-set_other, get_or-set_same, get_or_default, inl, inr}
 use Common.{int_at, int_at-tabulate, length, length-map-range_with_len, length-set, List, map}
 use Common.{map-append, map-range_with_len_more, MatchBool, None, pos, refl, set, Some, subst, suc}
 use Common.{sym, tabulate, take, true, zero}
@@ -55,28 +55,19 @@ pub record IsFilled {X : Type 0} (d : X) (Has : ℕ → X → Type 0) (old now :
     pub each : (k : ℕ) → k < j → Has k (get_or now k d)
     pub others : (k : ℕ) → j ≤ k → get_or now k d ≡ get_or old k d
 
-pub filled_none : {X : Type 0} (d : X) (Has : ℕ → X → Type 0) (xs : List X) → IsFilled d Has xs xs 0
-filled_none d Has xs = record {
-  as_many = refl;
-  each = λ k h. absurd (omega arith);
-  others =
-      λ k h. refl;
-}
-
 pub filled_more : {X : Type 0} (d : X) (Has : ℕ → X → Type 0) (old now : List X) (j : ℕ) (v : X) →
     j < length old → IsFilled d Has old now j → Has j v → IsFilled d Has old (set now j v) (j + 1)
 filled_more {X} d Has old now j v h before here = record {
   as_many = length-set now j v ∙ before.as_many;
-  each = λ k low. by_place k low (cases_eq k j);
+  each = λ k low. elim (cases_eq k j) [
+    | inl e ↦ subst (λ i. Has i (get_or (set now j v) i d)) (sym e)
+        (subst (Has j) (sym (get_or-set_same now j v d (omega (arith, h, before.as_many)))) here)
+    | inr ne ↦ subst (Has k) (sym (get_or-set_other now j k v d ne))
+        (before.each k (omega (arith, low, ne)))
+  ];
   others = λ k high. get_or-set_other now j k v d (λ e. omega (arith, high, e))
       ∙ before.others k (omega arith);
 }
-  where
-    by_place : (k : ℕ) → k < j + 1 → (k ≡ j) ⊎ (k ≢ j) → Has k (get_or (set now j v) k d)
-    by_place k low (inl e) = subst (λ i. Has i (get_or (set now j v) i d)) (sym e)
-        (subst (Has j) (sym (get_or-set_same now j v d (omega (arith, h, before.as_many)))) here)
-    by_place k low (inr ne) = subst (Has k) (sym (get_or-set_other now j k v d ne))
-        (before.each k (omega arith))
 
 pub filled_table : (f : ℕ → ℤ) (old now : List ℤ) (j : ℕ) → IsFilled (pos 0) (λ k z. z ≡ f k)
     old now j → length old ≤ j → now ≡ tabulate (length old) f

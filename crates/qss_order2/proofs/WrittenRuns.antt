@@ -1,8 +1,8 @@
 -- A call of a second-order simulator, and a run from its start.
 use Rattle.qss_order2.proofs.Common
-use Common.{[], ℕ, ◌++◌, ◌+◌, ◌-◌, ◌<◌, ◌∙◌, ◌≡◌, All, ap, arith, Bool, discrete_count, Done}
-use Common.{EndsAs, Events, first_exceeding_limit, HasVariable2, inl, inr, IsAble, IsNext2}
-use Common.{IsRuled2, IsStarted, line2_of, List, Machine, nearest_change, Option, Outcome2, Over}
+use Common.{[], ℕ, ◌++◌, ◌+◌, ◌-◌, ◌<◌, ◌∙◌, ◌≡◌, All, ap, Bool, discrete_count, Done, EndsAs}
+use Common.{Events, first_exceeding_limit, HasVariable2, inl, inr, IsAble, IsNext2, IsRuled2}
+use Common.{IsStarted, line2_of, List, Machine, nearest_change, Option, Outcome2, Over}
 use Common.{overflow_ahead, refl, row2_lines, rows2_after, rows2_left, run2_rows, second_order_run}
 use Common.{SecondRunView, snapshots_from, snapshots_unless, Some, state_count, subst, sym, text_in}
 use Common.{true}
@@ -34,15 +34,6 @@ module _ (now new : SecondRunView) (same : new.machine ≡ now.machine)
       (subst (All (HasVariable2 now.machine)) ahead (all_back (HasVariable2 now.machine) now.rows
       (rows2_left nearest_change now) known))
 
-  -- the lines to come are those of the event, and all after it
-  pub lines_on : row2_lines now.machine (rows2_left nearest_change now) ≡ row2_lines new.machine
-      new.rows ++ row2_lines new.machine (rows2_left nearest_change new)
-  lines_on =
-      ap (row2_lines now.machine) ahead
-      ∙ ap (λ (m : Machine). row2_lines m (remaining_second_rows new)) (sym same)
-      ∙ lines_by-append (λ row. true) (line2_of new.machine) new.rows
-      (rows2_left nearest_change new)
-
 -- what a call of a simulator under the nearest rule does
 pub call_of : (nearest : Bool) (now new : SecondRunView) (what outcome : Outcome2) →
     nearest ≡ true → what ≡ outcome → IsNext2 (IsRuled2 nearest) now new what →
@@ -60,15 +51,6 @@ none_left s end e =
     s.snapshot.changes) (snapshots_from nearest_change s.machine (s.machine.last - s.tick)
     s.tick s.snapshot) in
     unless_ended2 o (rows2_after s.machine s.tick s.snapshot after.0 after.1)) e
-
--- the next event is at a later tick, and the run continues from this event
-pub event_later : (now new : SecondRunView) (tick : ℕ) → new.machine ≡ now.machine →
-    IsNext2 (IsRuled2 true) now new (Events tick) → new.machine.last - new.tick < now.machine.last -
-    now.tick
-event_later now new tick same n =
-    let is = n.1 in
-    let last : new.machine.last ≡ now.machine.last = ap (λ (m : Machine). m.last) same in
-    omega (arith, last, is.here, is.is_next, is.in_time)
 
 -- the run of a simulator ends so
 abbrev EndsAt : SecondRunView → RunEnd → Type 0

@@ -9,15 +9,14 @@ use Rattle.qss_order2.specs.declared.order2_start.Store.{Store}
 use Rattle.qss_order2.specs.SecondSteps.{SecondSnapshot, second_snapshot_unless}
 use Rattle.qss_order2.specs.SecondRuns.{last_second_snapshot, tick_rows2}
 use Rattle.qss_order2.specs.Events.{SecondRunView, LeadsSilently2, IsVisit2}
-use Rattle.qss_order2.specs.Stores.{snapshot_of, motion_at}
+use Rattle.qss_order2.specs.Stores.{snapshot_at}
 
 -- the view of a store at a tick
 abbrev pub view_of : Machine → ℕ → Store → Option Outcome2 → SecondRunView
 view_of m tick s end = record {
   machine = m;
   tick = tick;
-  snapshot =
-      snapshot_of (motion_at m s.motion tick);
+  snapshot = snapshot_at m s.motion tick;
   rows = s.rows.items;
   end = end;
 }
@@ -45,8 +44,7 @@ pub record AreSilent2 (Rule : ℤ → ℤ → ℤ → Type 0) (m : Machine) (fro
 abbrev pub IsEventStep : (ℤ → ℤ → ℤ → Type 0) → Machine → ℕ → Store → EventStep → Store → Type 0
 IsEventStep Rule m tick old step new =
     (silent : List SecondSnapshot)
-    × IsVisit2 Rule m tick (snapshot_of (motion_at m old.motion tick)) silent step.tick
-    (second_snapshot_unless (overflow_of step.ran) (snapshot_of (motion_at m new.motion step.tick)))
+    × IsVisit2 Rule m tick (snapshot_at m old.motion tick) silent step.tick (second_snapshot_unless
+    (overflow_of step.ran) (snapshot_at m new.motion step.tick))
     × (overflow_of step.ran ≡ None → new.rows.items ≡ tick_rows2 m step.tick (last_second_snapshot
-    (snapshot_of (motion_at m old.motion tick)) silent)
-    (snapshot_of (motion_at m new.motion step.tick)))
+    (snapshot_at m old.motion tick) silent) (snapshot_at m new.motion step.tick))

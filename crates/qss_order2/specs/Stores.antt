@@ -7,11 +7,11 @@ use Rattle.std.specs.List.{range_with_len}
 use Rattle.std.specs.Int.{int_wrap, w128}
 use Rattle.mu_num.specs.Curves.{FirstUpTo}
 use Rattle.mu_num.specs.Rounding.{floor_of}
-use Rattle.mu_num.specs.Sizes.{IsWithin, exceeds}
+use Rattle.mu_num.specs.Sizes.{IsWithin}
 use Rattle.qss_machine.specs.declared.compiled_machine.Machine.{Machine}
 use Rattle.mu_num.specs.ListedPlaces.{is_listed, AreRisingBelow}
 use Rattle.mu_num.specs.IndexedSums.{int_at, tabulate, abs_of}
-use Rattle.mu_num.specs.Limits.{look_span, bits_of_second_state, IsSecondState}
+use Rattle.mu_num.specs.Limits.{look_span, IsSecondState}
 use Rattle.qss_machine.specs.Machines.{state_count, discrete_count, level_unit}
 use Rattle.qss_machine.specs.Legitimate.{start_coefficient}
 use Rattle.qss_hand.specs.Works.{overflow_of}
@@ -27,12 +27,12 @@ use Rattle.qss_order2.specs.Places.{AreLevelsWithin, no_place}
 use Rattle.qss_order2.specs.Places.{place_in, place_at, floor_place, level_on, rise_on, states_on}
 use Rattle.qss_order2.specs.Places.{levels_on, rises_on, IsSmallPlace, IsLineBounded, CanMove, CanRead}
 use Rattle.qss_order2.specs.SecondRuns.{level_row, slope_row}
-use Rattle.qss_order2.specs.SecondSteps.{SecondSnapshot, rise_at, rise_change_weight, reach_of}
+use Rattle.qss_order2.specs.SecondSteps.{SecondSnapshot, rise_at, reach_of}
 use Rattle.qss_order2.specs.SecondSteps.{first_exceeding_limit, AreChanges, fine_states}
 use Rattle.qss_order2.specs.SecondSteps.{fine_levels, limit_check_period, is_limit_check}
 use Rattle.qss_order2.specs.SecondSteps.{leaves_quantum, is_requantization, next_states}
 use Rattle.qss_order2.specs.SecondSteps.{next_levels}
-use Rattle.qss_order2.specs.SecondRunLimits.{IsSafeIfKnown}
+use Rattle.qss_order2.specs.SecondRunLimits.{AreHeld, IsFlat, IsSafeIfKnown}
 use Rattle.qss_order2.specs.SecondRunLaws.{bend_at, second_snapshot_after, gap_after, AreEventFree2}
 
 -- the motion of all states at a tick, as lists: states, levels, level slopes, slopes of the states,
@@ -81,18 +81,12 @@ abbrev pub CanMoveTo : Machine → ℕ → Motion → Type 0
 CanMoveTo m tick q = CanMove (state_count m) tick q.places.items q.changes.items q.rises.items
     q.bends.items
 
--- the level slopes of the states of a list, and their levels up to the end of a window, are at most
--- a bound in size
-abbrev pub AreLinesBounded : ℤ → List ℕ → Motion → ℕ → Type 0
-AreLinesBounded bound list q window =
-    (j : ℕ) → is_listed list j ≡ true → IsLineBounded bound (place_in q.places.items j)
-    (int_at q.changes.items j) window
-
 -- a bound is known, the level slopes of the states of a list are within it, and so are their levels
 -- up to the end of a window
 abbrev pub AreLinesSafe : Option ℤ → List ℕ → Motion → ℕ → Type 0
 AreLinesSafe safe_bound list q window =
-    (bound : ℤ) × (safe_bound ≡ Some bound) × AreLinesBounded bound list q window
+    (bound : ℤ) × (safe_bound ≡ Some bound) × ((j : ℕ) → is_listed list j ≡ true →
+    IsLineBounded bound (place_in q.places.items j) (int_at q.changes.items j) window)
 
 -- a bound is known, and the levels of the states of a list are within it at their own ticks
 abbrev pub AreLevelsSafe : Option ℤ → List ℕ → Motion → Type 0
@@ -125,19 +119,9 @@ pub record IsSized (m : Machine) (v : MotionAt) : Type 0 where
 -- slopes and second differences are those of the levels and of the level slopes, and the level
 -- slopes are bounded
 pub record HasRises (m : Machine) (v : MotionAt) : Type 0 where
-  pub rises : v.rises ≡ tabulate (state_count m) (λ j. rise_at m j v.levels)
-  pub bends : v.bends ≡ tabulate (state_count m) (λ j. bend_at m j v.changes)
-  pub held : (j : ℕ) → j < state_count m → IsWithin 95 (level_unit m *ℤ int_at v.changes j)
-
--- level slopes that the rule allows at these levels, and the least state that exceeds a limit; if
--- there is none, the motion has these level slopes
-pub record HasRuledSlopes (Rule : ℤ → ℤ → ℤ → Type 0) (m : Machine) (asked : ℕ →
-    Bool) (old new : MotionAt) (over : Option ℕ) : Type 0 where
-  pub changes : List ℤ
-  pub are_changes : AreChanges Rule m asked old.levels old.changes changes
-  pub is_over : over ≡ first_exceeding_limit m old.levels changes
-  pub taken : over ≡ None → new.changes ≡ changes
-  pub has_rises : over ≡ None → HasRises m new
+  pub rises : v.rises ≡ rises_of m v.levels
+  pub bends : v.bends ≡ bends_of m v.changes
+  pub held : AreHeld m v.changes
 
 -- each state is less than its quantum from its level
 abbrev pub IsNear2 : Machine → SecondSnapshot → Type 0
@@ -298,8 +282,7 @@ IsMovableUntil m tick window q =
 -- a store within its limits at a tick: the places of the affected states are of the tick
 pub record IsWithinLimits (m : Machine) (tick : ℕ) (s : Store) : Type 0 where
   pub moves : Moves m (motion_at m s.motion tick)
-  pub movable : AreMovableUntil (state_count m) tick s.window s.motion.places.items
-      s.motion.changes.items s.motion.rises.items s.motion.bends.items
+  pub movable : IsMovableUntil m tick s.window s.motion
   pub in_window : tick ≤ s.window
   pub bounded : s.unbounded ≡ false → AreLevelsBoundedUntil (state_count m) s.motion.places.items
       s.motion.changes.items tick s.window s.safe_bound
@@ -311,7 +294,7 @@ pub record IsWithinLimits (m : Machine) (tick : ℕ) (s : Store) : Type 0 where
 -- the due ticks of all states, up to the end of the window, are scheduled
 pub record HasSchedule (m : Machine) (tick : ℕ) (s : Store) : Type 0 where
   pub goes : IsWithinLimits m tick s
-  pub dues : HasDues m tick s.window (snapshot_of (motion_at m s.motion tick)) s.dues
+  pub dues : HasDues m tick s.window (snapshot_at m s.motion tick) s.dues
 
 -- the place of a state at a later tick
 abbrev pub place_there : ℕ → Motion → ℕ → Place
@@ -335,16 +318,13 @@ pub record IsAdvanced (tick : ℕ) (list : List ℕ) (old new : Motion) : Type 0
 -- the slopes of all states at a tick are those of its levels
 abbrev pub FollowsLevels : Machine → ℕ → Motion → Type 0
 FollowsLevels m tick q =
-    (j : ℕ) → j < state_count m →
-    rise_on (place_in q.places.items j) (int_at q.rises.items j) (int_at q.bends.items j) tick
-    ≡ rise_at m j (levels_on (state_count m) q.places.items q.changes.items tick)
+    (j : ℕ) → j < state_count m → rise_there tick q j ≡ rise_at m j (levels_of m q tick)
 
 -- the slopes of the affected states are those of the levels at a tick, modulo 2^128
 abbrev pub HasRisen : Machine → ℕ → List ℕ → Motion → Type 0
 HasRisen m tick affected q =
     (j : ℕ) → j < state_count m → is_listed affected j ≡ true →
-    int_at q.rises.items j ≡ int_wrap w128 (rise_at m j (levels_on (state_count m) q.places.items
-    q.changes.items tick))
+    int_at q.rises.items j ≡ int_wrap w128 (rise_at m j (levels_of m q tick))
 
 -- the affected states are at a tick, those that left have new levels, and the slopes follow; the
 -- other states are unchanged
@@ -383,13 +363,9 @@ pub record CanApplyRule (m : Machine) (tick : ℕ) (s : Store) : Type 0 where
   pub bounded_slopes : s.unbounded ≡ false → AreLevelSlopesBounded (state_count m)
       s.motion.changes.items s.safe_bound
   pub risen : HasRisen m tick s.affected.places s.motion
-  pub bends : (j : ℕ) → j < state_count m → int_at s.motion.bends.items j ≡ int_wrap w128
-      (bend_at m j s.motion.changes.items)
-  pub flat : (j : ℕ) → j < state_count m → exceeds bits_of_second_state (rise_change_weight m
-      s.motion.changes.items
-      j) ≡ false
-  pub held : (j : ℕ) → j < state_count m → IsWithin 95
-      (level_unit m *ℤ int_at s.motion.changes.items j)
+  pub bends : HasBends m s.motion
+  pub flat : (j : ℕ) → j < state_count m → IsFlat m s.motion.changes.items j
+  pub held : AreHeld m s.motion.changes.items
   pub numbers : AreRisingBelow (state_count m) s.left.items
   pub here : (j : ℕ) → is_listed s.affected.places j ≡ true →
       (j < state_count m) × ((place_in s.motion.places.items j).since ≡ tick)
@@ -402,9 +378,8 @@ pub record HasChanged (Rule : ℤ → ℤ → ℤ → Type 0) (m : Machine) (lef
   pub are_changes : AreChanges Rule m (is_listed left) levels old.changes.items new.changes.items
   pub places : new.places ≡ old.places
   pub rises : new.rises ≡ old.rises
-  pub held : (j : ℕ) → j < state_count m → IsWithin 95 (level_unit m *ℤ int_at new.changes.items j)
-  pub bends : (j : ℕ) → j < state_count m → int_at new.bends.items j ≡ int_wrap w128
-      (bend_at m j new.changes.items)
+  pub held : AreHeld m new.changes.items
+  pub bends : HasBends m new
 
 -- level slopes that the rule allows, and the least state that exceeds a limit; if there is none, the
 -- motion has these slopes, the affected states have the slopes of the new levels, and all rows have
@@ -416,8 +391,7 @@ pub record IsRuleApplied (Rule : ℤ → ℤ → ℤ → Type 0) (m : Machine) (
   pub is_over : over ≡ first_exceeding_limit m levels changes
   pub places : new.places ≡ old.places
   pub taken : over ≡ None → new.changes.items ≡ changes
-  pub held : over ≡ None → (j : ℕ) → j < state_count m →
-      IsWithin 95 (level_unit m *ℤ int_at changes j)
+  pub held : over ≡ None → AreHeld m changes
   pub rises : new.rises ≡ old.rises
   pub risen : over ≡ None → (j : ℕ) → j < state_count m → is_listed affected j ≡ true →
       int_at new.rises.items j ≡ rise_at m j levels
@@ -432,7 +406,7 @@ pub record IsStoreAt (m : Machine) (tick : ℕ) (s : Store) : Type 0 where
   pub at_start : (var : ℕ) → overflow_of s.over ≡ Some var → tick ≡ 0
   pub goes : overflow_of s.over ≡ None → IsWithinLimits m tick s
   pub dues : overflow_of s.over ≡ None → tick < s.window →
-      KeepsDues m tick s.window (snapshot_of (motion_at m s.motion tick))
+      KeepsDues m tick s.window (snapshot_at m s.motion tick)
       (is_listed s.affected.places) s.dues
 
 -- the place of a state at the start

@@ -28,8 +28,11 @@ point c = IsPartitionPoint-from_clause (λ (product : Product). nat_lt product.s
 pub returns-then-place-products-clause-later : goal.returns-then-place-products-clause-later
 returns-then-place-products-clause-later c =
     let k = (goal.at.returns-then-place-products-clause-later c).After-partition_point-place in
-    omega (arith, reached number c.args.products.now c.args.from c.partition_point-place.result
-    (rise k) (point k) none c.if-place-products.true)
+    omega (
+      arith,
+      reached number c.args.products.now c.args.from c.partition_point-place.result
+          (rise k) (point k) none c.if-place-products.true,
+    )
 
 pub returns-then-place-products-clause-none : goal.returns-then-place-products-clause-none
 returns-then-place-products-clause-none c =

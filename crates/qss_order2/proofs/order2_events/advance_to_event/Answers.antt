@@ -1,9 +1,10 @@
 -- Event steps without rows are silent; the first with rows is the next event.
 use Rattle.qss_order2.proofs.Common
-use Common.{[], ℕ, ◌++◌, ◌==◌, ◌∙◌, ◌∷◌, ◌≡◌, ◌≢◌, ap, arith, end_rows, eqb-false, eqb-true, false}
-use Common.{Global, IsRuled2, IsVisit2, last_second_snapshot, length, List, motion_at, None, Over}
+use Common.{[], ℕ, ◌++◌, ◌==◌, ◌∙◌, ◌∷◌, ◌≡◌, ◌≢◌, ap, arith, end_rows, eqb-false, false, Global}
+use Common.{IsRuled2, IsVisit2, last_second_snapshot, length, List, motion_at, None, Over}
 use Common.{overflow_of, refl, Row2, second_snapshot_unless, SecondSnapshot, snapshot_of, sym}
 use Common.{tick_rows2, true, Vec, vec_len, view_of, zero}
+use Rattle.mu_num.proofs.Tests.{eqb-true}
 use Rattle.qss_order2.proofs.order2_events.advance_to_event.Goals.{After-go_to_event-step}
 use Rattle.qss_order2.proofs.Motions.{can_move}
 use Rattle.qss_order2.proofs.Advances.{visit_on, rows_on, silent_visit, overflows_at_start}

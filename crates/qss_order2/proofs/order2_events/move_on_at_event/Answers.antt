@@ -80,8 +80,11 @@ returns c =
           quiet_shift m j ps qs (is_listed left) (c.requires.quiet j h not) (λ k low stays.
           ap (λ (p : Place). p.level) (same k stays)) in
           let nothing : z +ℤ level_shift m j ps qs ≡ z = omega (arith, ints, none) in
-          rw (shifted, taken.rises j z h (is.rises.others j not ∙ sym (wrap_small z small)),
-          nothing) (wrap_small z small);
+          rw (
+            shifted,
+            taken.rises j z h (is.rises.others j not ∙ sym (wrap_small z small)),
+            nothing,
+          ) (wrap_small z small);
       risen = λ j h e.
           let z : ℤ = rise_on (place_in q.places.items j) (int_at q.rises.items j)
           (int_at q.bends.items j) tick in

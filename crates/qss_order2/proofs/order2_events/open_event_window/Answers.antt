@@ -103,11 +103,14 @@ returns-clause-keeps c =
     record {
       is_window = (let e : reach ≡ (tick + reach) - tick =
           omega arith in subst (IsWindow tick m.last) e c.ticks_to_limit_check-reach.ensures);
-      quiet = λ j h not. absurd (cc (c.touch_all.ensures.places j (omega (
-        arith,
-        h,
-        ap length c.as_slice.ensures,
-      )), not));
+      quiet = λ j h not. absurd (cc (
+        c.touch_all.ensures.places j (omega (
+          arith,
+          h,
+          ap length c.as_slice.ensures,
+        )),
+        not,
+      ));
     }
 
 pub is_line_limit_needed-s-requires-clause-reads : goal.is_line_limit_needed-s-requires-clause-reads

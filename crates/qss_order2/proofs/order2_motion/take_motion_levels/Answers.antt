@@ -1,10 +1,10 @@
 -- One more level, and the shifts that it causes.
 use Rattle.qss_order2.proofs.Common
-use Common.{ℕ, ℤ, ◌*ℤ◌, ◌+ℤ◌, ◌-ℤ◌, ◌<◌, ◌∙◌, ◌≡◌, All, ap, arith, cases_Bool, coefficient_of}
-use Common.{column_at, Entry, FitsSigned, floor_place, get_or, get_or-set_other, get_or-set_same}
-use Common.{inl, inr, int_at, int_wrap, ints, is_listed, length, level_unit, List, no_place, Place}
-use Common.{place_in, refl, rules, set, start_coefficient, state_count, subst, sym, take, to_z-of_z}
-use Common.{w128, written_all, written_more}
+use Common.{[], ℕ, ℤ, ◌*ℤ◌, ◌+ℤ◌, ◌-ℤ◌, ◌<◌, ◌∙◌, ◌≡◌, All, ap, arith, cases_Bool, coefficient_of}
+use Common.{column_at, Entry, false, FitsSigned, floor_place, get_or, get_or-set_other}
+use Common.{get_or-set_same, inl, inr, int_at, int_wrap, ints, is_listed, length, level_unit, List}
+use Common.{no_place, Place, place_in, refl, rules, set, start_coefficient, state_count, subst, sym}
+use Common.{take, to_z-of_z, true, w128, written_all, written_more}
 use Rattle.qss_order2.proofs.ColumnSums.{gain_none, column_gain}
 use Rattle.qss_order2.proofs.FixedFacts.{column_is}
 use Rattle.qss_order2.proofs.order2_motion.take_motion_levels.Goals as goal
@@ -66,8 +66,7 @@ loop-state-preserved c =
     let here : (place_in (set now j p) j).level ≡ p.level =
     ap (λ (q : Place). q.level) (get_or-set_same now j p no_place inside) in
     record {
-      places = written_more no_place (λ k q. q ≡ floor_place (place_in a.places.now k) unit)
-          a.list.now a.places.now now i p before inside inv.places (c.floor_motion_place-new.ensures
+      places = written_more _ _ _ _ _ _ _ before inside inv.places (c.floor_motion_place-new.ensures
           ∙ once);
       many_rises = c.add_fixed_column_multiple.auto.sums ∙ inv.many_rises;
       rises = λ k z low start.
@@ -86,11 +85,8 @@ loop-state-preserved c =
     }
 
 pub returns-clause-places : goal.returns-clause-places
-returns-clause-places c =
-    let a = c.args in
-    written_all no_place (λ k p. p ≡ floor_place (place_in a.places.now k)
-    (level_unit a.f.now.machine)) a.list.now a.places.now c.loop-state.places
-    c.loop-state.state-index c.loop-state-test.false c.loop-state.invariant.places
+returns-clause-places c = written_all _ _ _ _ _ _ c.loop-state-test.false
+    c.loop-state.invariant.places
 
 pub returns-clause-rises : goal.returns-clause-rises
 returns-clause-rises c = c.loop-state.invariant.rises

@@ -62,8 +62,12 @@ set_rise_changes-requires-clause-size_limit g c j e =
     let rises : c.deref.result.now ≡ c.set_rises.new.rises = c.deref.ensures.value
     ∙ with_items_is c.args.q.now.rises c.set_rises.new.rises (c.set_rises.auto.rises
     ∙ c.deref_mut.ensures.len) in
-    rw (rises, c.set_rises.ensures.each j e, at_start g
-    (goal.at.set_rise_changes-requires-clause-size_limit g c).After-list_levels)
+    rw (
+      rises,
+      c.set_rises.ensures.each j e,
+      at_start g
+          (goal.at.set_rise_changes-requires-clause-size_limit g c).After-list_levels,
+    )
     (start_rise_small m j (listed_below (state_count m) c.args.all.now c.requires.all j e))
 
 pub bend-requires-clause-flat : goal.bend-requires-clause-flat

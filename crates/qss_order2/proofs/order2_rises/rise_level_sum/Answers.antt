@@ -1,24 +1,21 @@
 -- The sum grows by one term a turn.
 use Rattle.qss_order2.proofs.Common
-use Common.{◌*ℤ◌, ◌^◌, ◌∙◌, arith, Entry, int_at, pos, sum_done, sum_step, sym, to_z, w128}
-use Common.{weighted_sum-is}
+use Common.{[], ◌^◌, ◌∙◌, arith, false, pos, sum_done, sum_step, sym, true, weighted_sum-is}
 use Rattle.qss_order2.proofs.order2_rises.rise_level_sum.Goals as goal
 
 pub loop-entry-preserved : goal.loop-entry-preserved
 loop-entry-preserved c =
-    let turn = sum_step (λ (entry : Entry). entry.coef *ℤ int_at c.args.levels.now
-    entry.var) c.args.entries.now
-    c.loop-entry.entry-index (record { var = 0; coef = pos 0 }) (to_z w128 c.loop-entry.sum-bits)
-    c.entry_rise_term-sum.result (2 ^ 94)
-    c.loop-entry.invariant.so_far c.loop-entry.invariant.bound c.entry_rise_term-sum.ensures.value
-    c.entry_rise_term-sum.ensures.bound
-    c.loop-entry-test.true (omega (arith, c.requires.count_limit)) in
+    let turn = sum_step _ c.args.entries.now c.loop-entry.entry-index (record {
+      var = 0;
+      coef = pos 0;
+    }) _ c.entry_rise_term-sum.result (2 ^ 94) c.loop-entry.invariant.so_far c.loop-entry.invariant.bound
+    c.entry_rise_term-sum.ensures.value c.entry_rise_term-sum.ensures.bound c.loop-entry-test.true (omega (
+      arith,
+      c.requires.count_limit,
+    )) in
     record { so_far = turn.0; bound = turn.1 }
 
 pub returns-clause-value : goal.returns-clause-value
 returns-clause-value c =
-    sum_done (λ (entry : Entry). entry.coef *ℤ int_at c.args.levels.now entry.var)
-    c.args.entries.now
-    c.loop-entry.entry-index (to_z w128 c.loop-entry.sum-bits)
-    c.loop-entry.invariant.so_far c.loop-entry-test.false
+    sum_done _ _ _ _ c.loop-entry.invariant.so_far c.loop-entry-test.false
     ∙ sym (weighted_sum-is c.args.entries.now c.args.levels.now c.requires.known)

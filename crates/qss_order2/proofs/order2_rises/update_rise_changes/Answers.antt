@@ -48,16 +48,20 @@ slope : (g : given.Over) (c : After-index g) → (j : ℕ) → j ≡ get_or c.ar
     c.loop-state.state-index 0 → c.loop-state.state-index < length c.args.list.now →
     (c.index.result.now ≡ int_at c.args.q.now.rises.items j) × IsWithin 95 c.index.result.now
 slope g c j here before =
-    let is : c.index.result.now ≡ int_at c.args.q.now.rises.items j = rw (here,
-    ← c.loop-state.invariant.rises) (at_index c.loop-state.q.rises.items _
+    let is : c.index.result.now ≡ int_at c.args.q.now.rises.items j = rw (
+      here,
+      ← c.loop-state.invariant.rises,
+    ) (at_index c.loop-state.q.rises.items _
     (length c.loop-state.q.rises.items) c.index.result.now refl
     (rw c.loop-state.invariant.rises (omega (
       arith,
       c.requires.list c.loop-state.state-index 0 before,
       c.requires.lists.rises,
-    ))) c.index.ensures) in
-    (is, rw (is, here) (c.requires.size_limit _ (among_at c.args.list.now c.loop-state.state-index
-    before)))
+    ))) c.index.ensures) in (
+      is,
+      rw (is, here) (c.requires.size_limit _ (among_at c.args.list.now c.loop-state.state-index
+          before)),
+    )
 
 pub change-new-requires : goal.change-new-requires
 change-new-requires g c = asked c.args.f.now c.index.result.now (slope g (goal.at.change-new-requires
@@ -125,11 +129,7 @@ loop-state-preserved g c =
     record {
       places = inv.places;
       rises = inv.rises;
-      changes = written_more (pos 0) (λ k z. IsAnswer nearest (int_at q.rises.items k) (level_unit
-          m)
-          z) a.list.now q.changes.items now i v before inside inv.changes
-          (subst (λ z. IsAnswer nearest (int_at q.rises.items j) (level_unit m) z) (sym same)
-          there);
+      changes = written_more _ _ _ _ _ _ _ before inside inv.changes (rw same there);
       many_bends = ap length bent ∙ length_is;
       bends = λ k z low start.
           ap (λ (l : List ℤ). int_at l k) bent
@@ -167,9 +167,6 @@ returns g c =
       };
       places = inv.places;
       rises = inv.rises;
-      changes = written_all (pos 0) (λ k z. IsAnswer a.rule.now.nearest
-          (int_at a.q.now.rises.items k) (level_unit a.f.now.machine) z) a.list.now
-          a.q.now.changes.items s.changes.items c.loop-state.state-index c.loop-state-test.false
-          inv.changes;
+      changes = written_all _ _ _ _ _ _ c.loop-state-test.false inv.changes;
       bends = inv.bends;
     }
