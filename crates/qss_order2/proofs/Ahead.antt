@@ -1,4 +1,5 @@
--- Under the nearest rule a call does the first part of what was ahead: the rows to come, and the overflow with which
+-- Under the nearest rule a call does the first part of what was ahead: the rows to come, and the
+-- overflow with which
 -- the run ends.
 use Rattle.qss_order2.proofs.Common
 use Common.{[], ℕ, ◌++◌, ◌+◌, ◌-◌, ◌<◌, ◌∙◌, ◌∷◌, ◌≡◌, ap, arith, Done, end_rows, EndsAs, Err}
@@ -26,7 +27,8 @@ named_start : (m : Machine) (w : SecondSnapshot) → IsStart2 (IsRuled2 true) m 
 named_start m w s = start2_only nearest_change m w (record {
   states = s.states;
   levels = s.levels;
-  changes = changes_by (IsRuled2 true) (SlopeRuleOf nearest_change) (λ rise z answer. answer.named refl) s.changes;
+  changes = changes_by (IsRuled2 true) (SlopeRuleOf nearest_change) (λ rise z answer. answer.named
+      refl) s.changes;
 })
 
 -- the rows and the overflow after a snapshot that these snapshots follow
@@ -76,7 +78,8 @@ ahead_by : (s : SecondRunView) (o : Option ℕ) → first_exceeding_limit s.mach
     o (snapshots_from nearest_change s.machine (s.machine.last - s.tick) s.tick s.snapshot))
 ahead_by s o e = rw e
 
-module _ (s : SecondRunView) (silent : List SecondSnapshot) (goes : GoesOn2 (IsRuled2 true) s silent)
+module _ (s : SecondRunView) (silent : List SecondSnapshot) (goes : GoesOn2 (IsRuled2 true) s
+    silent)
   where
     abbrev last : SecondSnapshot
     last = last_second_snapshot s.snapshot silent
@@ -121,7 +124,8 @@ ahead_event now new tick same n within =
     let last = last_second_snapshot now.snapshot n.0 in
     let after = after_in now.machine (now.machine.last - new.tick) new.tick new.snapshot in
     let step = rw (is.is_next) at is.is_step in
-    ahead_step now n.0 is.goes at (Ok new.snapshot) refl (omega (arith, is.in_time, is.is_next)) step
+    ahead_step now n.0 is.goes at (Ok new.snapshot) refl (omega (arith, is.in_time, is.is_next))
+    step
     ∙ ap (λ (t : ℕ). (
       tick_rows2 now.machine t last new.snapshot ++ (after_in now.machine
           (now.machine.last - t) t new.snapshot).0,

@@ -1,7 +1,7 @@
 -- A motion at the next event.
 use Rattle.qss_order2.proofs.Common
-use Common.{[], ℕ, ℤ, ◌*ℤ◌, ◌+ℤ◌, ◌+◌, ◌-◌, ◌<◌, ◌∙◌, ◌≡◌, ◌≤◌, ap, AreMovableUntil, AreQuiet}
-use Common.{arith, bend_at, CanRead, cases_Bool, false, floor_of, HasLists, HasNewLevels, if-false}
+use Common.{ℕ, ℤ, ◌*ℤ◌, ◌+ℤ◌, ◌+◌, ◌-◌, ◌<◌, ◌∙◌, ◌≡◌, ◌≤◌, ap, AreMovableUntil, AreQuiet, arith}
+use Common.{bend_at, CanRead, cases_Bool, false, floor_of, HasLists, HasNewLevels, if-false}
 use Common.{if-true, if◌then◌else◌, inl, inr, int_at, int_at-tabulate, is_listed, IsRuleApplied}
 use Common.{IsSized, IsSmallPlace, IsWithin, length-map-range_with_len, level_on, level_unit}
 use Common.{levels_after, levels_on, List, Machine, Motion, motion_at, Moves, None, not, Option}
@@ -161,8 +161,10 @@ module _ {Rule : ℤ → ℤ → ℤ → Type 0} {m : Machine} {tick ticks : ℕ
   pub kept_change : (j : ℕ) → j < state_count m → is_listed left j ≡ false →
       int_at q2.changes.items j ≡ int_at q0.changes.items j
   kept_change j h stays =
-      ap (λ (xs : List ℤ). int_at xs j) (event.applied.taken e) ∙ by_false (is_listed left j) _ _ stays
-      (event.applied.are_changes.each j h) ∙ ap (λ (xs : List ℤ). int_at xs j) before.arrived.changes
+      ap (λ (xs : List ℤ). int_at xs j) (event.applied.taken e) ∙ by_false (is_listed left j) _ _
+      stays
+      (event.applied.are_changes.each j h) ∙ ap (λ (xs : List ℤ). int_at xs j)
+      before.arrived.changes
 
   same_rise : (j : ℕ) → int_at q2.rises.items j ≡ int_at q1.rises.items j
   same_rise j = ap (λ rs. int_at rs.items j) event.applied.rises
@@ -190,17 +192,20 @@ module _ {Rule : ℤ → ℤ → ℤ → Type 0} {m : Machine} {tick ticks : ℕ
       (int_at q2.bends.items j) (tick + ticks) ≡ int_at (there before).states j
   state2 j h = elim (cases_Bool (is_listed affected j)) [
     | inl t ↦
-        here_state (place j) (int_at q2.rises.items j) (int_at q2.bends.items j) (tick + ticks) (since2 j t)
+        here_state (place j) (int_at q2.rises.items j) (int_at q2.bends.items j) (tick + ticks)
+        (since2 j t)
         ∙ ap (λ (p : Place). p.state) (same_place j) ∙ state_touched before j h t
     | inr not ↦ rw (kept_place j not, kept_rise j h not, kept_bend j h not) (states_later m q0 tick
         before.moves ticks j h (before.past j h))
   ]
 
   pub states2 : (motion_at m q2 (tick + ticks)).states ≡ (there before).states
-  states2 = states_are (state_count m) q2.places.items q2.rises.items q2.bends.items (tick + ticks) _
+  states2 = states_are (state_count m) q2.places.items q2.rises.items q2.bends.items (tick + ticks)
+      _
       (λ j h. state2 j h ∙ int_at-tabulate (state_count m) _ j h)
 
-  level2 : (j : ℕ) → j < state_count m → level_on (place j) (int_at q2.changes.items j) (tick + ticks) ≡ (left_level before) j
+  level2 : (j : ℕ) → j < state_count m → level_on (place j) (int_at q2.changes.items j) (tick +
+      ticks) ≡ (left_level before) j
   level2 j h = elim (cases_Bool (is_listed affected j)) [
     | inl t ↦
         here_level (place j) (int_at q2.changes.items j) (tick + ticks) (since2 j t)
@@ -215,16 +220,21 @@ module _ {Rule : ℤ → ℤ → ℤ → Type 0} {m : Machine} {tick ticks : ℕ
     ) (level_there before j h)
   ]
 
-  pub levels2 : (motion_at m q2 (tick + ticks)).levels ≡ levels_after m (w before) (is_listed left) ticks
-  levels2 = levels_are (state_count m) q2.places.items q2.changes.items (tick + ticks) (left_level before) level2
+  pub levels2 : (motion_at m q2 (tick + ticks)).levels ≡ levels_after m (w before) (is_listed left)
+      ticks
+  levels2 = levels_are (state_count m) q2.places.items q2.changes.items (tick + ticks) (left_level
+      before) level2
 
-  to_levels : (j : ℕ) → rise_at m j (levels_on (state_count m) q1.places.items q1.changes.items (tick + ticks)) ≡ rise_at m j (motion_at m q2 (tick + ticks)).levels
+  to_levels : (j : ℕ) → rise_at m j (levels_on (state_count m) q1.places.items q1.changes.items
+      (tick + ticks)) ≡ rise_at m j (motion_at m q2 (tick + ticks)).levels
   to_levels j = ap (rise_at m j) (levels_there before ∙ sym levels2)
 
-  rise2 : (j : ℕ) → j < state_count m → int_at q2.rises.items j +ℤ pos ((tick + ticks) - (place j).since)
+  rise2 : (j : ℕ) → j < state_count m → int_at q2.rises.items j +ℤ pos ((tick + ticks) - (place
+      j).since)
       *ℤ int_at q2.bends.items j ≡ rise_at m j (motion_at m q2 (tick + ticks)).levels
   rise2 j h = elim (cases_Bool (is_listed affected j)) [
-    | inl t ↦ here_line (int_at q2.rises.items j) (int_at q2.bends.items j) (place j).since (tick + ticks)
+    | inl t ↦ here_line (int_at q2.rises.items j) (int_at q2.bends.items j) (place j).since (tick +
+        ticks)
         (since2 j t) ∙ event.applied.risen e j h t ∙ to_levels j
     | inr not ↦ rw (kept_place j not, kept_rise j h not, kept_bend j h not) (rises_later m q0 tick
         before.moves ticks j h (before.past j h)
@@ -237,15 +247,18 @@ module _ {Rule : ℤ → ℤ → ℤ → Type 0} {m : Machine} {tick ticks : ℕ
     rises = rises_are (state_count m) q2.places.items q2.rises.items q2.bends.items (tick + ticks)
         (λ j. rise_at m j (motion_at m q2 (tick + ticks)).levels) rise2;
     bends = same_list q2.bends.items (tabulate (state_count m) (λ j. bend_at m j q2.changes.items))
-        (state_count m) event.lists.bends (length-map-range_with_len (λ j. bend_at m j q2.changes.items) 0 (state_count m))
-        (λ j h. bend2 j h ∙ sym (int_at-tabulate (state_count m) (λ j. bend_at m j q2.changes.items) j h));
+        (state_count m) event.lists.bends (length-map-range_with_len (λ j. bend_at m j
+        q2.changes.items) 0 (state_count m))
+        (λ j h. bend2 j h ∙ sym (int_at-tabulate (state_count m) (λ j. bend_at m j q2.changes.items)
+        j h));
     held = λ j h. subst (λ (xs : List ℤ). IsWithin 95 (level_unit m *ℤ int_at xs j))
         (sym (event.applied.taken e)) (event.applied.held e j h);
   }
 
   pub sized2 : IsSized m (motion_at m q2 (tick + ticks))
   sized2 = record {
-    states = many_states (state_count m) q2.places.items q2.rises.items q2.bends.items (tick + ticks);
+    states = many_states (state_count m) q2.places.items q2.rises.items q2.bends.items (tick +
+        ticks);
     levels = many_levels (state_count m) q2.places.items q2.changes.items (tick + ticks);
     changes = event.lists.changes;
     rises = many_rises (state_count m) q2.places.items q2.rises.items q2.bends.items (tick + ticks);
@@ -260,7 +273,8 @@ module _ {Rule : ℤ → ℤ → ℤ → Type 0} {m : Machine} {tick ticks : ℕ
   ]
 
   pub near2 : (window : ℕ) → (tick + ticks) ≤ window → window ≤ tick + 65536 →
-      ((j : ℕ) → j < state_count m → window ≤ (place_in q0.places.items j).since + 65536) → (j : ℕ) → j < state_count m →
+      ((j : ℕ) → j < state_count m → window ≤ (place_in q0.places.items j).since + 65536) → (j : ℕ)
+      → j < state_count m →
       window ≤ (place j).since + 65536
   near2 window within few near j h = elim (cases_Bool (is_listed affected j)) [
     | inl t ↦ omega (arith, since2 j t, few)
@@ -295,10 +309,12 @@ module _ {Rule : ℤ → ℤ → ℤ → Type 0} {m : Machine} {tick ticks : ℕ
             (kept_place j not)
       ]
     where
-      going_on : (p : Place) (v : ℤ) → p.since ≤ tick → (p.level +ℤ pos ((tick + ticks) - p.since) *ℤ v)
+      going_on : (p : Place) (v : ℤ) → p.since ≤ tick → (p.level +ℤ pos ((tick + ticks) - p.since)
+          *ℤ v)
           +ℤ pos (t - (tick + ticks)) *ℤ v ≡ p.level +ℤ pos (t - p.since) *ℤ v
       going_on p v before = let e : (tick + ticks) + (t - (tick + ticks)) ≡ t =
-          omega (arith, later) in sym (line_later p.level v p.since (tick + ticks) (t - (tick + ticks)) (omega (
+          omega (arith, later) in sym (line_later p.level v p.since (tick + ticks) (t - (tick +
+          ticks)) (omega (
             arith,
             before,
           ))) ∙ ap (λ (s : ℕ). level_on p v s) e

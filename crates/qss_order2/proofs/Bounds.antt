@@ -1,6 +1,6 @@
 -- Sizes in a motion from a snapshot that passed its limit check.
 use Rattle.qss_order2.proofs.Common
-use Common.{[], ℕ, ℤ, ◌*ℤ◌, ◌*◌, ◌+◌, ◌-ℤ◌, ◌<ℤ◌, ◌<◌, ◌^◌, ◌∙◌, ◌≡◌, ◌≤ℤ◌, ◌≤◌, ap, arith, bend_at}
+use Common.{ℕ, ℤ, ◌*ℤ◌, ◌*◌, ◌+◌, ◌-ℤ◌, ◌<ℤ◌, ◌<◌, ◌^◌, ◌∙◌, ◌≡◌, ◌≤ℤ◌, ◌≤◌, ap, arith, bend_at}
 use Common.{first_exceeding, first_exceeding_limit, get_or, get_or_default, int_at, int_at-tabulate}
 use Common.{ints, IsWithin, length, List, Machine, MotionAt, Moves, mul-le, mul-le-mul_right, None}
 use Common.{none_past, option_or, option_or-None, pos, reach_of, rise_at, rise_change_weight}

@@ -1,10 +1,10 @@
 -- An event step after the rule was applied.
 use Rattle.qss_order2.proofs.Common
-use Common.{[], ℕ, ℤ, ◌+◌, ◌∙◌, ◌≡◌, ap, AreChanges, arith, first_exceeding_limit, HasEach}
-use Common.{is_listed, IsMovedOn, IsNear2, IsNextEvent, IsVisit2, last_second_snapshot}
-use Common.{levels_after, List, Machine, Motion, motion_at, Moves, None, Ok, Option, refl}
-use Common.{rows_of_left, second_snapshot_after, second_snapshot_unless, SecondSnapshot}
-use Common.{snapshot_of, Some, state_count, subst, suc, sym, tick_rows2}
+use Common.{ℕ, ℤ, ◌+◌, ◌∙◌, ◌≡◌, ap, AreChanges, arith, first_exceeding_limit, HasEach, is_listed}
+use Common.{IsMovedOn, IsNear2, IsNextEvent, IsVisit2, last_second_snapshot, levels_after, List}
+use Common.{Machine, Motion, motion_at, Moves, None, Ok, Option, refl, rows_of_left}
+use Common.{second_snapshot_after, second_snapshot_unless, SecondSnapshot, snapshot_of, Some}
+use Common.{state_count, subst, suc, sym, tick_rows2}
 use Rattle.qss_order2.proofs.Arrivals.{IsEvent, levels_there, states2, levels2, has_rises2, sized2}
 use Rattle.qss_order2.proofs.Looks.{moved_on}
 use Rattle.qss_order2.proofs.Silent.{event_free_snapshots}

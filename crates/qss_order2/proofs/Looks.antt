@@ -1,7 +1,7 @@
 -- From a snapshot to the next event step.
 use Rattle.qss_order2.proofs.Common
-use Common.{[], ℕ, ℤ, ◌%◌, ◌*ℤ◌, ◌+ℤ◌, ◌+◌, ◌<◌, ◌==◌, ◌||◌, ◌∙◌, ◌≡◌, ◌≤◌, ap, arith, Bool}
-use Common.{cases_eq, cases_lt, eqb-no, eqb-yes, false, floor_of, if◌then◌else◌, inl, inr, int_at}
+use Common.{ℕ, ℤ, ◌%◌, ◌*ℤ◌, ◌+ℤ◌, ◌+◌, ◌<◌, ◌==◌, ◌||◌, ◌∙◌, ◌≡◌, ◌≤◌, ap, arith, Bool, cases_eq}
+use Common.{cases_lt, eqb-no, eqb-yes, false, floor_of, if◌then◌else◌, inl, inr, int_at}
 use Common.{int_at-tabulate, is_due, is_limit_check, is_requantization, IsDue2, IsMovedOn}
 use Common.{IsNextEvent, leaves_quantum, level_unit, levels_after, limit_check_period, List}
 use Common.{list_any, Machine, moved_level, moved_state, next_levels, next_states, None, Option}
@@ -85,7 +85,8 @@ module _ (m : Machine) (tick : ℕ) (w : SecondSnapshot) (due : ℕ → Option �
             let found = next.reached low in
             let leaves = due_leaves m w next.reach k found.0 found.1 (subst (IsDue2 m w next.reach
             found.0) found.2 (next.each found.0 found.1)) in
-            or_right (check || end) leaving (any_of (leaves_quantum m (second_snapshot_after m w k)) 0
+            or_right (check || end) leaving (any_of (leaves_quantum m (second_snapshot_after m w k))
+            0
             (state_count m) found.0 (omega arith) (omega (arith, found.1)) leaves)
         | inr high ↦
             let here : tick + next.reach ≡ tick + k + 1 = omega (arith, high, next.within) in

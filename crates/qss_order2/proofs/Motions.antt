@@ -1,6 +1,6 @@
 -- Places, and the motion of all states that they give at a tick.
 use Rattle.qss_order2.proofs.Common
-use Common.{[], ℕ, ℤ, ◌*ℤ◌, ◌+ℤ◌, ◌+◌, ◌-◌, ◌<◌, ◌∙◌, ◌≡◌, ◌≤ℤ◌, ◌≤◌, abs_of, add-mul, ap}
+use Common.{ℕ, ℤ, ◌*ℤ◌, ◌+ℤ◌, ◌+◌, ◌-◌, ◌<◌, ◌∙◌, ◌≡◌, ◌≤ℤ◌, ◌≤◌, abs_of, add-mul, ap}
 use Common.{AreMovableUntil, arith, bend_at, cases_Bool, curve_at, curve_zero, false, HasLists, inl}
 use Common.{inr, int_at, int_at-tabulate, ints, is_listed, IsAdvanced, IsSized, IsSmallPlace}
 use Common.{IsWithin, length, length-map-range_with_len, level_on, levels_on, List, Machine, Motion}
@@ -265,7 +265,8 @@ module _ {tick : ℕ} {done : List ℕ} {old now : Motion} (is : IsAdvanced tick
   pub still_moves : CanAdvance tick old → CanAdvance tick now
   still_moves can =
       let n = length old.places.items in
-      let moves : CanMove n tick now.places.items old.changes.items now.rises.items old.bends.items =
+      let moves : CanMove n tick now.places.items old.changes.items now.rises.items old.bends.items
+      =
       record {
         as_many_changes = can.as_many_changes;
         as_many_rises = is.rises.as_many ∙ can.as_many_rises;

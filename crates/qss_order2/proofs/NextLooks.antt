@@ -1,6 +1,6 @@
 -- The least due tick.
 use Rattle.qss_order2.proofs.Common
-use Common.{[], ℕ, ◌+◌, ◌-◌, ◌<◌, ◌==◌, ◌∙◌, ◌≡◌, ◌≤◌, ap, arith, Bool, cases_eq, cases_lt, due_at}
+use Common.{ℕ, ◌+◌, ◌-◌, ◌<◌, ◌==◌, ◌∙◌, ◌≡◌, ◌≤◌, ap, arith, Bool, cases_eq, cases_lt, due_at}
 use Common.{eqb-no, eqb-yes, false, HasDues, inl, inr, is_due, IsDue2, length, List, Machine, None}
 use Common.{Option, refl, SecondSnapshot, Some, state_count, subst, sym, true, until}
 use Rattle.std.proofs.lemmas.List.{get_or_past}

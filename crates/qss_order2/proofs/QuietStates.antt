@@ -1,8 +1,8 @@
 -- The states that are affected if some leave.
 use Rattle.qss_order2.proofs.Common
-use Common.{[], ℕ, ◌+◌, ◌<◌, ◌||◌, ◌∙◌, ◌≡◌, ◌≢◌, All, among_more, ap, AreColumnsBelow, AreQuiet}
-use Common.{arith, Bool, cases_Bool, column_at, Entry, eqb, false, get_or, get_or-map, index_of}
-use Common.{inl, inr, is_listed, length, length-map, List, Machine, not, pos, refl, rows_in}
+use Common.{ℕ, ◌+◌, ◌<◌, ◌||◌, ◌∙◌, ◌≡◌, ◌≢◌, All, among_more, ap, AreColumnsBelow, AreQuiet, arith}
+use Common.{Bool, cases_Bool, column_at, Entry, eqb, false, get_or, get_or-map, index_of, inl, inr}
+use Common.{is_listed, length, length-map, List, Machine, not, pos, refl, rows_in}
 use Common.{start_coefficient, state_count, subst, sym, take, true}
 use Rattle.qss_order2.proofs.ColumnSums.{entry_0, unlisted}
 

@@ -1,9 +1,9 @@
 -- Levels within a safe bound exceed no limit.
 use Rattle.qss_order2.proofs.Common
-use Common.{[], ℕ, ℤ, ◌*ℤ◌, ◌<◌, ◌≡◌, ◌≤ℤ◌, ◌≤◌, abs_of, arith, exceeds, int_at, ints, IsWithin}
-use Common.{length, List, Machine, mul-le-mul_left, None, none_past, Option, option_or}
-use Common.{option_or-None, past_levels, pos, refl, replicate, rise_weight, Some, start_coefficient}
-use Common.{state_count, subst, suc, sym, unsigned_abs, unsigned_abs-mul, within-passes, zero}
+use Common.{ℕ, ℤ, ◌*ℤ◌, ◌<◌, ◌≡◌, ◌≤ℤ◌, ◌≤◌, abs_of, arith, exceeds, int_at, ints, IsWithin, length}
+use Common.{List, Machine, mul-le-mul_left, None, none_past, Option, option_or, option_or-None}
+use Common.{past_levels, pos, refl, replicate, rise_weight, Some, start_coefficient, state_count}
+use Common.{subst, suc, sym, unsigned_abs, unsigned_abs-mul, within-passes, zero}
 use Rattle.qss_order2.proofs.Bounds.{table_within}
 use Rattle.qss_order2.proofs.Sizes.{sum_from_zero}
 use Rattle.qss_order2.proofs.SizeSums.{size_from_zero}

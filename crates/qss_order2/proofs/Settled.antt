@@ -1,10 +1,10 @@
 -- What follows from new levels, of the states of a list.
 use Rattle.qss_order2.proofs.Common
-use Common.{[], ℕ, ℤ, ◌*ℤ◌, ◌+◌, ◌<◌, ◌^◌, ◌∙◌, ◌≡◌, ◌≤ℤ◌, ◌≤◌, abs_of, All, ap, AreChanges}
-use Common.{AreQuiet, arith, bend_at, Bool, CanRead, cases_lt, exceeds, false, index_of, inl, inr}
-use Common.{int_at, int_wrap, ints, is_listed, IsAnswer, IsRuleApplied, IsRuled2, IsSafeBound}
-use Common.{IsWithin, IsWritten, length, level_unit, levels_on, List, Machine, MatchBool, Motion}
-use Common.{None, none_past, not, Option, option_or-None, past_levels, Place, place_in, pos, refl}
+use Common.{ℕ, ℤ, ◌*ℤ◌, ◌+◌, ◌<◌, ◌^◌, ◌∙◌, ◌≡◌, ◌≤ℤ◌, ◌≤◌, abs_of, All, ap, AreChanges, AreQuiet}
+use Common.{arith, bend_at, Bool, CanRead, cases_lt, exceeds, false, index_of, inl, inr, int_at}
+use Common.{int_wrap, ints, is_listed, IsAnswer, IsRuleApplied, IsRuled2, IsSafeBound, IsWithin}
+use Common.{IsWritten, length, level_unit, levels_on, List, Machine, MatchBool, Motion, None}
+use Common.{none_past, not, Option, option_or-None, past_levels, Place, place_in, pos, refl}
 use Common.{rise_at, rise_change_weight, rise_weight, Some, start_coefficient, state_count, subst}
 use Common.{sym, true, unit_fits, within-passes}
 use Rattle.qss_order2.specs.Stores.{HasChanged}
@@ -92,7 +92,8 @@ is_rule_applied nearest m left affected levels q1 q2 over changed none is risen 
   risen = λ e j h t. ap (λ rs. int_at rs.items j) changed.rises ∙ exact (int_at q1.rises.items j)
       (rise_at m j levels) (risen j h t) (rise_bounded m levels none j h);
   bends = λ e j h.
-      let heavy = table_within 94 (state_count m) (rise_change_weight m q2.changes.items) (sym is ∙ e)
+      let heavy = table_within 94 (state_count m) (rise_change_weight m q2.changes.items) (sym is ∙
+      e)
       j h in
       exact (int_at q2.bends.items j) (bend_at m j q2.changes.items) (changed.bends j h)
       (bend_by_weight m q2.changes.items j heavy);

@@ -1,6 +1,6 @@
 -- What follows from new levels.
 use Rattle.qss_order2.proofs.Common
-use Common.{[], ℕ, ℤ, ◌*ℤ◌, ◌<◌, ◌∙◌, ◌≡◌, ap, AreChanges, arith, Bool, false, first_exceeding}
+use Common.{ℕ, ℤ, ◌*ℤ◌, ◌<◌, ◌∙◌, ◌≡◌, ap, AreChanges, arith, Bool, false, first_exceeding}
 use Common.{first_exceeding_limit, FreeChange, if◌then◌else◌, int_at, ints, IsRuled2, IsWithin}
 use Common.{level_unit, List, Machine, MatchBool, nearest_change, None, Option, option_or}
 use Common.{past_levels, refl, rise_at, rise_change_weight, rise_weight, SlopeRuleOf, Some}

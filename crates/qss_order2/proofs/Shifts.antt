@@ -1,10 +1,10 @@
 -- Due ticks of states that an event step does not affect stay.
 use Rattle.qss_order2.proofs.Common
-use Common.{[], ℕ, ℤ, ◌%◌, ◌*ℤ◌, ◌+ℤ◌, ◌+◌, ◌-ℤ◌, ◌-◌, ◌<◌, ◌∙◌, ◌≡◌, ◌≤ℤ◌, ◌≤◌, ◌⊎◌, add-mul, ap}
+use Common.{ℕ, ℤ, ◌%◌, ◌*ℤ◌, ◌+ℤ◌, ◌+◌, ◌-ℤ◌, ◌-◌, ◌<◌, ◌∙◌, ◌≡◌, ◌≤ℤ◌, ◌≤◌, ◌⊎◌, add-mul, ap}
 use Common.{AreQuiet, arith, bend_at, Bool, curve_at, curve_more, curve_zero, due_at, eqb-false}
 use Common.{false, floor_of, gap_after, HasDues, if-false, if◌then◌else◌, int_at, int_at-tabulate}
 use Common.{ints, is_due, IsDue2, IsNextEvent, IsQuiet, IsWindow, level_unit, levels_after}
-use Common.{limit_check_period, List, Machine, None, not, Option, pos, reach_of, refl, rise_at}
+use Common.{limit_check_period, List, Machine, None, Option, pos, reach_of, refl, rise_at}
 use Common.{second_snapshot_after, SecondSnapshot, Some, state_count, subst, suc, sym, unsigned_abs}
 use Common.{until, zero}
 use Rattle.mu_num.specs.Curves.{FirstUpTo}

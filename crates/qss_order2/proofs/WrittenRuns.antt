@@ -1,11 +1,10 @@
 -- A call of a second-order simulator, and a run from its start.
 use Rattle.qss_order2.proofs.Common
-use Common.{[], ℕ, ◌++◌, ◌+◌, ◌-◌, ◌<◌, ◌∙◌, ◌≡◌, All, ap, Bool, discrete_count, Done, EndsAs}
-use Common.{Events, first_exceeding_limit, HasVariable2, inl, inr, IsAble, IsNext2, IsRuled2}
-use Common.{IsStarted, line2_of, List, Machine, nearest_change, Option, Outcome2, Over}
-use Common.{overflow_ahead, refl, row2_lines, rows2_after, rows2_left, run2_rows, second_order_run}
-use Common.{SecondRunView, snapshots_from, snapshots_unless, Some, state_count, subst, sym, text_in}
-use Common.{true}
+use Common.{[], ℕ, ◌++◌, ◌+◌, ◌-◌, ◌<◌, ◌∙◌, ◌≡◌, All, ap, Bool, discrete_count, EndsAs, Events}
+use Common.{first_exceeding_limit, HasVariable2, inl, inr, IsAble, IsNext2, IsRuled2, IsStarted}
+use Common.{line2_of, List, Machine, nearest_change, Option, Outcome2, Over, overflow_ahead, refl}
+use Common.{row2_lines, rows2_after, rows2_left, run2_rows, second_order_run, SecondRunView}
+use Common.{snapshots_from, snapshots_unless, Some, state_count, subst, sym, text_in, true}
 use Rattle.std.proofs.lemmas.List.Elements.{All-head}
 use Rattle.qss_order2.specs.Events.{unless_ended2}
 use Rattle.qss_rows.specs.declared.simulation_rows.RunResult.{RunResult}

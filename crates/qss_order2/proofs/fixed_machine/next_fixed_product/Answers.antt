@@ -1,6 +1,6 @@
 -- Halving ends at the first product of a state from this one on.
 use Rattle.qss_order2.proofs.Common
-use Common.{[], ℕ, ◌≡◌, arith, false, get_or, IsNonDecreasingBy, IsPartitionPoint}
+use Common.{ℕ, ◌≡◌, arith, false, get_or, IsNonDecreasingBy, IsPartitionPoint}
 use Common.{IsPartitionPoint-from_clause, nat_lt, pos, Product, rules, true}
 use Rattle.qss_order2.proofs.fixed_machine.next_fixed_product.Goals.{After-partition_point-place}
 use Rattle.qss_order2.proofs.NextStates.{rising_products, lesser_first, reached, none_between}

@@ -1,9 +1,9 @@
 -- Event steps without rows are silent; the first with rows is the next event.
 use Rattle.qss_order2.proofs.Common
 use Common.{[], ℕ, ◌++◌, ◌==◌, ◌∙◌, ◌∷◌, ◌≡◌, ◌≢◌, ap, arith, end_rows, eqb-false, false, Global}
-use Common.{IsRuled2, IsVisit2, last_second_snapshot, length, List, motion_at, None, Over}
-use Common.{overflow_of, refl, Row2, second_snapshot_unless, SecondSnapshot, snapshot_of, sym}
-use Common.{tick_rows2, true, Vec, vec_len, view_of, zero}
+use Common.{IsRuled2, IsVisit2, last_second_snapshot, length, List, motion_at, None, overflow_of}
+use Common.{refl, Row2, second_snapshot_unless, SecondSnapshot, snapshot_of, sym, tick_rows2, true}
+use Common.{Vec, vec_len, view_of}
 use Rattle.mu_num.proofs.Tests.{eqb-true}
 use Rattle.qss_order2.proofs.order2_events.advance_to_event.Goals.{After-go_to_event-step}
 use Rattle.qss_order2.proofs.Motions.{can_move}

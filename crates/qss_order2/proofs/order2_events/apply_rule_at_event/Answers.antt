@@ -1,9 +1,8 @@
 -- The limits are checked in their order.
 use Rattle.qss_order2.proofs.Common
-use Common.{[], ℕ, ℤ, ◌<◌, ◌∙◌, ◌≡◌, ◌≤ℤ◌, abs_of, All, ap, AreQuiet, arith, cases_Bool, Err, false}
+use Common.{ℕ, ℤ, ◌<◌, ◌∙◌, ◌≡◌, ◌≤ℤ◌, abs_of, All, ap, AreQuiet, arith, cases_Bool, Err, false}
 use Common.{inl, inr, int_at, is_listed, IsRuleApplied, IsRuled2, length, levels_on, List, None}
-use Common.{not, Over, overflow_of, past_levels, rise_at, rules, state_count, Store, subst, sym}
-use Common.{true}
+use Common.{not, overflow_of, past_levels, rise_at, rules, state_count, Store, subst, sym, true}
 use Rattle.qss_order2.proofs.order2_events.apply_rule_at_event.Goals.{After-apply_slope_rule}
 use Rattle.qss_order2.proofs.Tables.{by_false}
 use Rattle.qss_order2.proofs.BoundedLines.{same_bound}

@@ -1,8 +1,8 @@
 -- Event-free ticks, and one more tick.
 use Rattle.qss_order2.proofs.Common
-use Common.{[], ℕ, ◌+◌, ◌-◌, ◌<◌, ◌∙◌, ◌≡◌, ap, arith, due_at, false, is_listed, IsDue2, IsRuled2}
-use Common.{List, motion_at, Moves, None, not, Option, Over, overflow_of, place_in, place_rows}
-use Common.{refl, SecondSnapshot, snapshot_of, state_count, Store, subst, sym, true, until}
+use Common.{ℕ, ◌+◌, ◌-◌, ◌<◌, ◌∙◌, ◌≡◌, ap, arith, due_at, false, is_listed, IsDue2, IsRuled2, List}
+use Common.{motion_at, Moves, None, Option, overflow_of, place_in, place_rows, refl, SecondSnapshot}
+use Common.{snapshot_of, state_count, Store, subst, sym, true, until}
 use Rattle.std.specs.Prelude.{flat_map}
 use Rattle.qss_order2.proofs.Arrivals.{IsEvent, states2, levels2, past2, near2, small2, line2}
 use Rattle.qss_order2.proofs.Arrivals.{since2, kept_change}
@@ -40,7 +40,8 @@ returns-clause-tick_limit g c = let next = c.move_to_event-ticks.ensures.next in
 )
 
 -- the motions of the event step
-event : (g : given.Over) (c : After-apply_rule_at_event-ran g) → IsEvent (IsRuled2 c.args.rule.now.nearest)
+event : (g : given.Over) (c : After-apply_rule_at_event-ran g) → IsEvent (IsRuled2
+    c.args.rule.now.nearest)
     c.args.f.now.machine c.args.tick c.move_to_event-ticks.result
     c.move_to_event-ticks.new.s.left.items c.move_to_event-ticks.new.s.affected.places
     c.prepare_event.new.s.motion c.move_to_event-ticks.new.s.motion

@@ -1,6 +1,6 @@
 -- All places are of the tick.
 use Rattle.qss_order2.proofs.Common
-use Common.{[], ℕ, ℤ, ◌<◌, ◌∙◌, ◌≡◌, ap, arith, Global, int_at, length, levels_on, List, motion_at}
+use Common.{ℕ, ℤ, ◌<◌, ◌∙◌, ◌≡◌, ap, arith, Global, int_at, length, levels_on, List, motion_at}
 use Common.{Place, place_in, place_there, rise_on, rises_on, state_count, states_on, Vec}
 use Rattle.qss_order2.proofs.Motions.{can_move, same_motion, levels_all, states_all, rises_all}
 use Rattle.qss_order2.proofs.order2_events.move_all_at_event.Goals as goal

@@ -1,9 +1,9 @@
 -- The affected states move, and those that left have new levels.
 use Rattle.qss_order2.proofs.Common
-use Common.{[], ℕ, ℤ, ◌+ℤ◌, ◌<◌, ◌∙◌, ◌≡◌, ap, arith, cases_Bool, false, floor_place, Global}
+use Common.{ℕ, ℤ, ◌+ℤ◌, ◌<◌, ◌∙◌, ◌≡◌, ap, arith, cases_Bool, false, floor_place, Global}
 use Common.{HasNewLevels, inl, inr, int_at, int_wrap, ints, is_listed, IsWithin, length}
-use Common.{level_shift, level_unit, levels_on, List, not, Place, place_in, place_there, pos}
-use Common.{rise_at, rise_on, state_count, sym, true, Vec, with_items, with_items_is}
+use Common.{level_shift, level_unit, levels_on, List, Place, place_in, place_there, pos, rise_at}
+use Common.{rise_on, state_count, sym, true, Vec, with_items, with_items_is}
 use Rattle.std.specs.Int.{w128}
 use Rattle.qss_order2.proofs.ColumnSums.{wrap_small}
 use Rattle.qss_order2.proofs.Gains.{rise_on_small, risen_by, quiet_shift}
@@ -107,7 +107,8 @@ returns c =
     } in
     record {
       lists = record {
-        places = ap length floored ∙ c.take_motion_levels.auto.places ∙ ap length c.deref_mut.ensures.value
+        places = ap length floored ∙ c.take_motion_levels.auto.places ∙ ap length
+            c.deref_mut.ensures.value
             ∙ is.places.as_many ∙ l.places;
         changes = ap length changes ∙ l.changes;
         rises = ap length shifted ∙ c.take_motion_levels.auto.rises

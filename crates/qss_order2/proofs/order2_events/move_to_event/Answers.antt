@@ -1,7 +1,7 @@
 -- The states that leave are those that are due.
 use Rattle.qss_order2.proofs.Common
-use Common.{[], ℕ, ℤ, ◌*ℤ◌, ◌+◌, ◌<◌, ◌∙◌, ◌≡◌, ◌≤ℤ◌, abs_of, All, ap, arith, bend_at, exceeds}
-use Common.{false, int_at, int_wrap, is_listed, IsWithin, level_unit, List, motion_at, refl}
+use Common.{ℕ, ℤ, ◌*ℤ◌, ◌+◌, ◌<◌, ◌∙◌, ◌≡◌, ◌≤ℤ◌, abs_of, All, ap, arith, bend_at, exceeds, false}
+use Common.{int_at, int_wrap, is_listed, IsWithin, level_unit, List, motion_at, refl}
 use Common.{rise_change_weight, snapshot_of, state_count, subst, sym, true, within-passes}
 use Rattle.std.specs.Int.{w128}
 use Rattle.qss_order2.proofs.Arrivals.{IsArrival, since_touched, level1, reads1, near1}

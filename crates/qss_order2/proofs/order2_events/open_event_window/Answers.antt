@@ -1,7 +1,7 @@
 -- All states are at the tick, and the next window begins.
 use Rattle.qss_order2.proofs.Common
-use Common.{[], ℕ, ◌+◌, ◌-◌, ◌<◌, ◌∙◌, ◌≡◌, ap, arith, CanRead, is_listed, IsWindow, length, List}
-use Common.{motion_at, Moves, not, state_count, subst, sym, true}
+use Common.{ℕ, ◌+◌, ◌-◌, ◌<◌, ◌∙◌, ◌≡◌, ap, arith, CanRead, is_listed, IsWindow, length, List}
+use Common.{motion_at, Moves, state_count, subst, sym, true}
 use Rattle.qss_order2.proofs.Bounds.{change_small}
 use Rattle.qss_order2.proofs.Motions.{still_movable, small_here, small_rise_here, movable}
 use Rattle.qss_order2.proofs.Settled.{listed_below}

@@ -1,6 +1,6 @@
 -- The gap between a state and its level moves along a parabola.
 use Rattle.qss_order2.proofs.Common
-use Common.{[], ℕ, ℤ, ◌*ℤ◌, ◌-ℤ◌, ◌<ℤ◌, ◌<◌, ◌^◌, ◌∙◌, ◌≡◌, ◌≤ℤ◌, ap, arith, bend_at, FitsSigned}
+use Common.{ℕ, ℤ, ◌*ℤ◌, ◌-ℤ◌, ◌<ℤ◌, ◌<◌, ◌^◌, ◌∙◌, ◌≡◌, ◌≤ℤ◌, ap, arith, bend_at, FitsSigned}
 use Common.{FixedMachine, get_or, get_or_default, HasLists, int_at, int_at-tabulate, ints, IsWithin}
 use Common.{length, length-map-range_with_len, level_unit, List, Machine, Motion, motion_at}
 use Common.{MotionAt, Moves, no_place, Place, place_in, pos, reach_of, rise_at, state_count}

@@ -1,6 +1,6 @@
 -- One more due tick.
 use Rattle.qss_order2.proofs.Common
-use Common.{[], ◌<◌, among_at, arith, false, get_or, length, set, true, written_all, written_more}
+use Common.{◌<◌, among_at, arith, get_or, length, written_all, written_more}
 use Rattle.qss_order2.proofs.order2_leaving.set_leaving_dues.Goals as goal
 
 pub leaving_due_tick-requires-clause-here : goal.leaving_due_tick-requires-clause-here

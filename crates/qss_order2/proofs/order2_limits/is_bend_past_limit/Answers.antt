@@ -1,5 +1,5 @@
 -- The sizes along a row add up as in the definitions.
-use Rattle.qss_order2.proofs.Common.{[], ◌∙◌, ap, exceeds}
+use Rattle.qss_order2.proofs.Common.{◌∙◌, ap, exceeds}
 use Rattle.qss_order2.proofs.FixedFacts.{row_is}
 use Rattle.qss_order2.proofs.FixedSums.{bend_weight_is}
 use Rattle.qss_order2.proofs.order2_limits.is_bend_past_limit.Goals as goal

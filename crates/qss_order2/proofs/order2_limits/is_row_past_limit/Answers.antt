@@ -1,5 +1,5 @@
 -- A row's absolute row sum is that of the definitions.
-use Rattle.qss_order2.proofs.Common.{[], ◌∙◌, ap, exceeds, FitsSigned, to_z-of_z, w128}
+use Rattle.qss_order2.proofs.Common.{◌∙◌, ap, exceeds, FitsSigned, to_z-of_z, w128}
 use Rattle.qss_order2.proofs.FixedFacts.{in_drives, drive_is, drive_wide, drive_slope, row_is}
 use Rattle.qss_order2.proofs.FixedSums.{weight_is}
 use Rattle.qss_order2.proofs.order2_limits.is_row_past_limit.Goals as goal

@@ -1,10 +1,10 @@
 -- One more level, and the shifts that it causes.
 use Rattle.qss_order2.proofs.Common
-use Common.{[], ℕ, ℤ, ◌*ℤ◌, ◌+ℤ◌, ◌-ℤ◌, ◌<◌, ◌∙◌, ◌≡◌, All, ap, arith, cases_Bool, coefficient_of}
-use Common.{column_at, Entry, false, FitsSigned, floor_place, get_or, get_or-set_other}
-use Common.{get_or-set_same, inl, inr, int_at, int_wrap, ints, is_listed, length, level_unit, List}
-use Common.{no_place, Place, place_in, refl, rules, set, start_coefficient, state_count, subst, sym}
-use Common.{take, to_z-of_z, true, w128, written_all, written_more}
+use Common.{ℕ, ℤ, ◌*ℤ◌, ◌+ℤ◌, ◌-ℤ◌, ◌<◌, ◌∙◌, ◌≡◌, All, ap, arith, cases_Bool, coefficient_of}
+use Common.{column_at, Entry, FitsSigned, floor_place, get_or, get_or-set_other, get_or-set_same}
+use Common.{inl, inr, int_at, int_wrap, ints, is_listed, length, level_unit, List, no_place, Place}
+use Common.{place_in, refl, rules, set, start_coefficient, state_count, subst, sym, take, to_z-of_z}
+use Common.{w128, written_all, written_more}
 use Rattle.qss_order2.proofs.ColumnSums.{gain_none, column_gain}
 use Rattle.qss_order2.proofs.FixedFacts.{column_is}
 use Rattle.qss_order2.proofs.order2_motion.take_motion_levels.Goals as goal

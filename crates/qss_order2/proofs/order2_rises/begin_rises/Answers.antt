@@ -3,8 +3,8 @@ use Rattle.qss_order2.proofs.Common
 use Common.{[], ℕ, ℤ, ◌<◌, ◌∙◌, ◌≡◌, ap, AreChanges, arith, bend_at, Bool, CanRead, Err}
 use Common.{fill_by_all, fine_levels, int_at, is_listed, IsAnswer, IsRuled2, IsWithin, IsWritten}
 use Common.{length, length-map-range_with_len, level_unit, levels_on, List, Machine, None, not}
-use Common.{Over, overflow_of, past_levels, pos, refl, rise_at, rules, Some, state_count, subst}
-use Common.{sym, tabulate, true, with_items, with_items_is}
+use Common.{overflow_of, past_levels, pos, refl, rise_at, rules, Some, state_count, subst, sym}
+use Common.{tabulate, true, with_items, with_items_is}
 use Rattle.qss_order2.proofs.order2_rises.begin_rises.Goals.{After-list_levels}
 use Rattle.qss_order2.proofs.order2_rises.begin_rises.Goals.{After-set_rise_changes}
 use Rattle.qss_order2.proofs.Motions.{many_levels}

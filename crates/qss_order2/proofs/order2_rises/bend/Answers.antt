@@ -1,6 +1,6 @@
 -- No row is past its limit.
 use Rattle.qss_order2.proofs.Common
-use Common.{[], ◌∙◌, ap, overflow_of, rise_change_weight, state_count, sym, within-passes}
+use Common.{◌∙◌, ap, overflow_of, rise_change_weight, state_count, sym, within-passes}
 use Rattle.qss_order2.proofs.Bounds.{table_within}
 use Rattle.qss_order2.proofs.Settled.{listed_below}
 use Rattle.qss_order2.proofs.order2_rises.bend.Goals as goal

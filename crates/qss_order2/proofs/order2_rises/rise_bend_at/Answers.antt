@@ -1,5 +1,5 @@
 -- A row's sum is that of the definitions.
-use Rattle.qss_order2.proofs.Common.{[], ◌∙◌, ap, exceeds, FitsSigned, to_z-of_z, w128}
+use Rattle.qss_order2.proofs.Common.{◌∙◌, ap, exceeds, FitsSigned, to_z-of_z, w128}
 use Rattle.qss_order2.proofs.FixedFacts.{row_is}
 use Rattle.qss_order2.proofs.FixedSums.{bend_is, bend_weight_is}
 use Rattle.qss_order2.proofs.order2_rises.rise_bend_at.Goals as goal

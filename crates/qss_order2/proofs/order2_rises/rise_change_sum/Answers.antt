@@ -1,7 +1,7 @@
 -- Each term is at most the sum of sizes.
 use Rattle.qss_order2.proofs.Common
-use Common.{[], ◌*ℤ◌, ◌^◌, ◌∙◌, abs_of, arith, Entry, false, int_at, ints, IsWithin, pos, sum_done}
-use Common.{sum_over, sum_step, sym, true, weighted_sum-is}
+use Common.{◌*ℤ◌, ◌^◌, ◌∙◌, abs_of, arith, Entry, int_at, ints, IsWithin, pos, sum_done, sum_over}
+use Common.{sum_step, sym, weighted_sum-is}
 use Rattle.mu_num.proofs.SizeTests.{passes-within}
 use Rattle.qss_order2.proofs.SizeSums.{term_below, size_from_zero}
 use Rattle.qss_order2.proofs.order2_rises.rise_change_sum.Goals as goal
@@ -22,8 +22,10 @@ loop-entry-preserved c =
     let turn = sum_step _ c.args.entries.now c.loop-entry.entry-index (record {
       var = 0;
       coef = pos 0;
-    }) _ c.rise_change_term-sum.result (2 ^ 94) c.loop-entry.invariant.so_far c.loop-entry.invariant.bound
-    c.rise_change_term-sum.ensures.value c.rise_change_term-sum.ensures.bound c.loop-entry-test.true (omega (
+    }) _ c.rise_change_term-sum.result (2 ^ 94) c.loop-entry.invariant.so_far
+    c.loop-entry.invariant.bound
+    c.rise_change_term-sum.ensures.value c.rise_change_term-sum.ensures.bound c.loop-entry-test.true
+    (omega (
       arith,
       c.requires.count_limit,
     )) in

@@ -1,6 +1,5 @@
 -- The sum grows by one term a turn.
-use Rattle.qss_order2.proofs.Common
-use Common.{[], ◌^◌, ◌∙◌, arith, false, pos, sum_done, sum_step, sym, true, weighted_sum-is}
+use Rattle.qss_order2.proofs.Common.{◌^◌, ◌∙◌, arith, pos, sum_done, sum_step, sym, weighted_sum-is}
 use Rattle.qss_order2.proofs.order2_rises.rise_level_sum.Goals as goal
 
 pub loop-entry-preserved : goal.loop-entry-preserved
@@ -8,8 +7,10 @@ loop-entry-preserved c =
     let turn = sum_step _ c.args.entries.now c.loop-entry.entry-index (record {
       var = 0;
       coef = pos 0;
-    }) _ c.entry_rise_term-sum.result (2 ^ 94) c.loop-entry.invariant.so_far c.loop-entry.invariant.bound
-    c.entry_rise_term-sum.ensures.value c.entry_rise_term-sum.ensures.bound c.loop-entry-test.true (omega (
+    }) _ c.entry_rise_term-sum.result (2 ^ 94) c.loop-entry.invariant.so_far
+    c.loop-entry.invariant.bound
+    c.entry_rise_term-sum.ensures.value c.entry_rise_term-sum.ensures.bound c.loop-entry-test.true
+    (omega (
       arith,
       c.requires.count_limit,
     )) in

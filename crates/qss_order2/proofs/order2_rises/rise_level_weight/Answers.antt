@@ -1,7 +1,6 @@
 -- The sum grows by one size per iteration.
 use Rattle.qss_order2.proofs.Common
-use Common.{[], ℤ, ◌*ℤ◌, ◌^◌, abs_of, arith, Entry, false, int_at, List, pos, sum_done, sum_step}
-use Common.{true}
+use Common.{ℤ, ◌*ℤ◌, ◌^◌, abs_of, arith, Entry, int_at, List, pos, sum_done, sum_step}
 use Rattle.qss_order2.proofs.order2_rises.rise_level_weight.Goals as goal
 
 abbrev size : List ℤ → Entry → ℤ
@@ -9,11 +8,11 @@ size levels entry = abs_of (entry.coef *ℤ int_at levels entry.var)
 
 pub loop-entry-preserved : goal.loop-entry-preserved
 loop-entry-preserved c =
-    let turn = sum_step (size c.args.levels.now) c.args.entries.now c.loop-entry.entry-index (record {
-      var = 0;
-      coef = pos 0;
-    }) _ c.rise_level_size-sum.result (2 ^ 94) c.loop-entry.invariant.so_far c.loop-entry.invariant.bound
-    c.rise_level_size-sum.ensures.value c.rise_level_size-sum.ensures.bound c.loop-entry-test.true (omega (
+    let none : Entry = record { var = 0; coef = pos 0 } in
+    let turn = sum_step (size c.args.levels.now) c.args.entries.now c.loop-entry.entry-index none _
+    c.rise_level_size-sum.result (2 ^ 94) c.loop-entry.invariant.so_far
+    c.loop-entry.invariant.bound c.rise_level_size-sum.ensures.value
+    c.rise_level_size-sum.ensures.bound c.loop-entry-test.true (omega (
       arith,
       c.requires.count_limit,
     )) in

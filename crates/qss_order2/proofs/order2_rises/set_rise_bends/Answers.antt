@@ -1,7 +1,7 @@
 -- One more bend.
 use Rattle.qss_order2.proofs.Common
-use Common.{[], ◌<◌, ◌∙◌, among_at, arith, false, FitsSigned, get_or, length, to_z-of_z, true, w128}
-use Common.{written_all, written_more}
+use Common.{◌<◌, ◌∙◌, among_at, arith, FitsSigned, get_or, length, to_z-of_z, w128, written_all}
+use Common.{written_more}
 use Rattle.qss_order2.proofs.order2_rises.set_rise_bends.Goals as goal
 
 pub rise_bend_at-requires-clause-within : goal.rise_bend_at-requires-clause-within
@@ -18,7 +18,8 @@ loop-state-preserved c =
     let inside : get_or a.list.now i 0 < length c.loop-state.bends =
     omega (arith, c.requires.list i 0 h, inv.as_many, c.requires.bends) in
     let fits : FitsSigned w128 c.rise_bend_at.result = record { sfits = c.rise_bend_at.type_inv } in
-    written_more _ _ _ _ _ _ _ h inside inv (to_z-of_z w128 c.rise_bend_at.result fits ∙ c.rise_bend_at.ensures)
+    written_more _ _ _ _ _ _ _ h inside inv (to_z-of_z w128 c.rise_bend_at.result fits ∙
+    c.rise_bend_at.ensures)
 
 pub returns : goal.returns
 returns c = written_all _ _ _ _ _ _ c.loop-state-test.false c.loop-state.invariant

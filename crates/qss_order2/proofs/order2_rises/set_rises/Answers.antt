@@ -1,7 +1,6 @@
 -- One more rise.
 use Rattle.qss_order2.proofs.Common
-use Common.{[], ◌<◌, ◌∙◌, arith, false, FitsSigned, get_or, length, rise_at, to_z-of_z, true, w128}
-use Common.{written_all, written_more}
+use Common.{◌<◌, ◌∙◌, arith, FitsSigned, get_or, length, to_z-of_z, w128, written_all, written_more}
 use Rattle.qss_order2.proofs.order2_rises.set_rises.Goals as goal
 
 pub loop-state-preserved : goal.loop-state-preserved
@@ -13,7 +12,8 @@ loop-state-preserved c =
     let inside : get_or a.list.now i 0 < length c.loop-state.rises =
     omega (arith, c.requires.list i 0 h, inv.as_many, c.requires.rises) in
     let fits : FitsSigned w128 c.rise_at.result = record { sfits = c.rise_at.type_inv } in
-    written_more _ _ _ _ _ _ _ h inside inv (to_z-of_z w128 c.rise_at.result fits ∙ c.rise_at.ensures)
+    written_more _ _ _ _ _ _ _ h inside inv (to_z-of_z w128 c.rise_at.result fits ∙
+    c.rise_at.ensures)
 
 pub returns : goal.returns
 returns c = written_all _ _ _ _ _ _ c.loop-state-test.false c.loop-state.invariant

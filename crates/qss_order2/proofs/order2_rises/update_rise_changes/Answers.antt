@@ -1,10 +1,10 @@
 -- One more level slope, and the shifts that it causes.
 use Rattle.qss_order2.proofs.Common
-use Common.{[], ℕ, ℤ, ◌*ℤ◌, ◌+ℤ◌, ◌-ℤ◌, ◌<◌, ◌∙◌, ◌≡◌, All, among_at, ap, arith, coefficient_of}
-use Common.{column_at, Entry, false, FitsSigned, get_or, get_or-set_other, get_or-set_same, Global}
-use Common.{int_at, int_wrap, ints, IsAnswer, IsWithin, length, level_unit, List, of_z, Over, Place}
-use Common.{pos, refl, rules, set, start_coefficient, state_count, subst, sym, to_z, to_z-of_z}
-use Common.{true, Vec, w128, with_items, with_items_is, written_all, written_more}
+use Common.{ℕ, ℤ, ◌*ℤ◌, ◌+ℤ◌, ◌-ℤ◌, ◌<◌, ◌∙◌, ◌≡◌, All, among_at, ap, arith, coefficient_of}
+use Common.{column_at, Entry, FitsSigned, get_or, get_or-set_other, get_or-set_same, Global, int_at}
+use Common.{int_wrap, ints, IsAnswer, IsWithin, length, level_unit, List, of_z, Place, pos, refl}
+use Common.{rules, set, start_coefficient, state_count, subst, sym, to_z, to_z-of_z, Vec, w128}
+use Common.{with_items, with_items_is, written_all, written_more}
 use Rattle.qss_order2.proofs.order2_rises.update_rise_changes.Goals.{After-index}
 use Rattle.qss_order2.proofs.Bounds.{at_index}
 use Rattle.qss_order2.proofs.ColumnSums.{gain_none, column_gain}
@@ -64,7 +64,8 @@ slope g c j here before =
     )
 
 pub change-new-requires : goal.change-new-requires
-change-new-requires g c = asked c.args.f.now c.index.result.now (slope g (goal.at.change-new-requires
+change-new-requires g c = asked c.args.f.now c.index.result.now (slope g
+    (goal.at.change-new-requires
     g c).After-index _ refl c.loop-state-test.true).1
 
 pub add_fixed_column_multiple-requires : goal.add_fixed_column_multiple-requires

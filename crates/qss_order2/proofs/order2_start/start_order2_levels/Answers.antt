@@ -1,7 +1,7 @@
 -- One more level.
 use Rattle.qss_order2.proofs.Common
-use Common.{[], ℤ, ◌<ℤ◌, ◌∙◌, ◌≡◌, ap, arith, false, FitsSigned, floor_of, int_at, ints, level_unit}
-use Common.{map, pos, take_all, to_z-of_z, true, w128}
+use Common.{ℤ, ◌<ℤ◌, ◌∙◌, ◌≡◌, ap, arith, FitsSigned, floor_of, int_at, ints, level_unit, map, pos}
+use Common.{take_all, to_z-of_z, w128}
 use Rattle.qss_order2.proofs.FixedFacts.{unit_small, unit_wide}
 use Rattle.qss_order2.proofs.Tables.{map_more}
 use Rattle.qss_order2.proofs.order2_start.start_order2_levels.Goals as goal

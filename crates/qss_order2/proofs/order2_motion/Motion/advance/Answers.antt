@@ -1,7 +1,7 @@
 -- One more state.
 use Rattle.qss_order2.proofs.Common
-use Common.{[], ℕ, ◌<◌, ◌∙◌, arith, false, FitsSigned, get_or, length, place_at, to_z-of_z, true}
-use Common.{w128, written_all, written_more}
+use Common.{ℕ, ◌<◌, ◌∙◌, arith, FitsSigned, get_or, length, to_z-of_z, w128, written_all}
+use Common.{written_more}
 use Rattle.qss_order2.proofs.Motions.{still_moves, moved_once, risen_once}
 use Rattle.qss_order2.proofs.order2_motion.Motion.advance.Goals as goal
 

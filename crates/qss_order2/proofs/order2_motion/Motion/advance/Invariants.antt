@@ -1,4 +1,4 @@
-use Rattle.qss_order2.proofs.Common.{[], IsAdvanced, take}
+use Rattle.qss_order2.proofs.Common.{IsAdvanced, take}
 use Rattle.qss_order2.proofs.order2_motion.Motion.advance.Given as goal
 
 -- the places and the slopes so far

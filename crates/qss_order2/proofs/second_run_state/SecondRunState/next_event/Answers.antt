@@ -1,6 +1,6 @@
 -- Under the nearest rule the rows of a call are the first of those that were to come.
 use Rattle.qss_order2.proofs.Common
-use Common.{[], ℕ, ◌∙◌, ◌≡◌, ap, end_of, IsNext2, IsRuled2, Machine, None, Outcome2, refl}
+use Common.{ℕ, ◌∙◌, ◌≡◌, ap, end_of, IsNext2, IsRuled2, Machine, None, Outcome2, refl}
 use Common.{SecondRunView, Store, tick_of, true, view_of}
 use Rattle.qss_order2.proofs.Events.{within_then}
 use Rattle.qss_order2.proofs.Ahead.{named_rows}
