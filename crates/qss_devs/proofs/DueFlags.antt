@@ -1,20 +1,29 @@
--- The flags of due branches, and those of one clause among all.
+-- The flags of due branches, those of one clause among all, and the rows of handlers as messages.
 use Rattle.qss_devs.proofs.Common
-use Common.{[], ℕ, ◌+◌, ◌-◌, ◌<◌, ◌∙◌, ◌≡◌, ◌≤◌, ap, arith, Bool, cases_lt, clause_at, clauses_stay}
-use Common.{conditions, drop, due_flags, false, flag_at, flags_from, get_or_past, HandlerState}
-use Common.{handling_of, inl, inr, length, length-conditions, List, Machine, None, none_passes}
-use Common.{refl, run_clauses, run_first_due, Some, sym, take, values_after, width_of}
+use Common.{[], ℕ, ℤ, ◌++◌, ◌+◌, ◌-◌, ◌<◌, ◌∙◌, ◌∷◌, ◌≡◌, ◌≤◌, Action, All, All-push, ap, arith}
+use Common.{Bool, cases_lt, clause_at, clauses_stay, conditions, discrete_count, drop, due_flags}
+use Common.{exceeds, false, flag_at, flags_from, get_or_past, HandlerState, handling_of, if_cases}
+use Common.{inl, inr, length, length-conditions, List, Machine, None, none_passes, passes-within}
+use Common.{pos, refl, Row, row_room, run_clauses, run_first_due, set, Some, state_count, sum_by}
+use Common.{sym, take, values_after, width_of}
 use Rattle.std.proofs.Common.{◌&&◌}
 use Rattle.std.specs.Prelude.{not}
 use Rattle.qss_events.proofs.Flags.{length-due_flags, flag_at-due_flags}
 use Rattle.std.proofs.lemmas.List.{get_or-take, get_or-drop, length-take, length-drop}
 use Rattle.std.proofs.lemmas.List.Sums.{sum_by_more_le}
-use Rattle.std.specs.List.{position, sum_by}
+use Rattle.std.specs.List.{position}
 use Rattle.qss_hand.specs.Values.{Values}
 use Rattle.qss_devs.specs.Flags.{HaveFlags}
 use Rattle.qss_devs.specs.declared.coupled_start.Truths.{Truths}
 use Rattle.qss_hand.proofs.AfterStatements.{whole}
-use Rattle.qss_hand.proofs.Turns.{next_turn}
+use Rattle.qss_hand.proofs.Turns.{next_turn, rows_clauses}
+use Rattle.qss_devs.specs.CoupledSteps.{IsMessageOfRow}
+use Rattle.qss_machine.specs.declared.machine_parts.Action.TheVariants.{Set, Reinit}
+use Rattle.qss_machine.specs.Handlers.{assign, fire_row}
+use Rattle.qss_machine.specs.MachineLimits.{IsAction}
+use Rattle.qss_hand.proofs.Targets.{target_set, target_reinit}
+use Rattle.qss_events.proofs.Kept.{after_clauses}
+use Rattle.qss_machine.specs.declared.machine_parts.RowKind.TheVariants as kind
 
 pub length-due : {count : ℕ} {t : Truths} → HaveFlags count t → length (due_flags t) ≡ count
 length-due {count} {t} have =
@@ -58,9 +67,7 @@ module _ (m : Machine) (w0 w : Values) (due : List Bool) (i first : ℕ) (h : i 
   turn_is : turn ≡ run_first_due m w0.tick w0.pre i 0 (handling_of w) (clause_at m i).branches (take (width_of (clause_at m i)) (drop first due))
   turn_is =
       let e : (first + width_of (clause_at m i)) - first ≡ width_of (clause_at m i) = omega arith in
-      ap (λ t. run_first_due m t w.pre i 0 (handling_of w) (clause_at m i).branches (flags_from first (width_of (clause_at m i)) due)) tick
-      ∙ ap (λ p. run_first_due m w0.tick p i 0 (handling_of w) (clause_at m i).branches (flags_from first (width_of (clause_at m i)) due)) before
-      ∙ ap (λ n. run_first_due m w0.tick w0.pre i 0 (handling_of w) (clause_at m i).branches (take n (drop first due))) e
+      rw (tick, before, e)
 
   pub turn_done : (next : Values) → next ≡ values_after w turn → None ≡ turn.overflow →
       run_clauses m w0.tick w0.pre i (handling_of w) (drop i m.clauses) (drop first due)
@@ -73,3 +80,44 @@ module _ (m : Machine) (w0 w : Values) (due : List Bool) (i first : ℕ) (h : i 
   turn_over var over =
       sym (next_turn m w0.tick w0.pre i first (handling_of w) turn m.clauses due (record { branches = [] }) h refl turn_is
       ∙ clauses_stay m w0.tick w0.pre (i + 1) turn var (drop (i + 1) m.clauses) (drop (first + width_of (clause_at m i)) due) (sym over))
+
+-- ---- the rows of handlers may be sent as messages
+
+module _ (m : Machine) (tick : ℕ) where
+  abbrev set_row : ℕ → ℤ → Row
+  set_row var z = record { tick = tick; kind = kind.Set; var = var; level = z; state = pos 0 }
+
+  abbrev reinit_row : ℕ → ℤ → Row
+  reinit_row var z = record { tick = tick; kind = kind.Reinit; var = var; level = pos 0; state = z }
+
+  messages_after_fire : (h : HandlerState) (clause branch : ℕ) → All (IsMessageOfRow m) h.rows → All (IsMessageOfRow m) (h.rows ++ fire_row tick clause branch ∷ [])
+  messages_after_fire h clause branch messages = All-push (IsMessageOfRow m) h.rows (fire_row tick clause branch) messages (record { set = λ q. absurd (cc); reinit = λ q. absurd (cc) })
+
+  messages_after_assignment : (h : HandlerState) (action : Action) (z : ℤ) → IsAction (state_count m) (discrete_count m) action → All (IsMessageOfRow m) h.rows → All (IsMessageOfRow m) (assign m tick h action z).rows
+  messages_after_assignment h (Set var form) z known messages =
+      let next : HandlerState = record h { discretes = set h.discretes (var - state_count m) z; rows = h.rows ++ set_row var z ∷ [] } in
+      let inside = target_set (state_count m) (discrete_count m) var form known.target in
+      if_cases (λ (g : HandlerState). All (IsMessageOfRow m) g.rows) (exceeds 43 z) (record h { overflow = Some var }) next (λ e. messages)
+      (λ e. All-push (IsMessageOfRow m) h.rows (set_row var z) messages (record { set = λ q. (inside.0, inside.1, passes-within 43 z e); reinit = λ q. absurd (cc) }))
+  messages_after_assignment h (Reinit var form) z known messages =
+      let next : HandlerState = record h { states = set h.states var z; rows = h.rows ++ reinit_row var z ∷ [] } in
+      if_cases (λ (g : HandlerState). All (IsMessageOfRow m) g.rows) (exceeds 88 z) (record h { overflow = Some var }) next (λ e. messages)
+      (λ e. All-push (IsMessageOfRow m) h.rows (reinit_row var z) messages (record { set = λ q. absurd (cc); reinit = λ q. (target_reinit (state_count m) (discrete_count m) var form known.target, passes-within 88 z e) }))
+
+  rows_are_messages : (before : List ℤ) (h : HandlerState) (due : List Bool) → All (IsMessageOfRow m) h.rows → All (IsMessageOfRow m) (run_clauses m tick before 0 h m.clauses due).rows
+  rows_are_messages before h due messages = after_clauses m tick before (λ (g : HandlerState). All (IsMessageOfRow m) g.rows) messages_after_fire messages_after_assignment 0 h m.clauses due m.has_clauses.each messages
+
+-- the rows of the handlers may be sent, and there is room for them
+pub rows_fired : (m : Machine) (w new : Values) (due : List Bool) → w.log ≡ [] →
+    new ≡ values_after w (run_clauses m w.tick w.pre 0 (handling_of w) m.clauses due) →
+    All (IsMessageOfRow m) new.log × (length new.log ≤ row_room m.clauses)
+rows_fired m w new due fresh values =
+    let none : All (IsMessageOfRow m) w.log = rw fresh (λ k d h. absurd (omega (arith, h))) in (
+      rw values (rows_are_messages m w.tick w.pre (handling_of w) due none),
+      omega (
+        arith,
+        ap (λ (v : Values). length v.log) values,
+        rows_clauses m w.tick w.pre 0 (handling_of w) m.clauses due,
+        ap length fresh,
+      ),
+    )

@@ -1,14 +1,14 @@
--- Integrators that take their levels one after another.
+-- Integrators that take their levels one after another, and functions that send their sums.
 use Rattle.qss_devs.proofs.Common
-use Common.{[], ℕ, ℤ, ◌++◌, ◌+◌, ◌<◌, ◌∙◌, ◌∷◌, ◌≡◌, ◌≤◌, Agrees, ap, append-nil, AreNextLevels}
-use Common.{AreTaken, AreTakenUpTo, AreValues, arith, Bool, cases_eq, cases_lt, Components, exceeds}
-use Common.{false, first_is, Floor, HasEach, if-false, if-true, if◌then◌else◌, inl, inr, int_at}
-use Common.{int_at-tabulate, int_eq, ints, is_within_quantum, IsAllowedLevel, IsLevelTaken}
-use Common.{IsWithin, IsWithinOneLevel, length, length-map-range_with_len, length-set, level_after}
-use Common.{level_by, level_unit, leveled, List, Machine, MatchBool, None, passes-within, pos}
-use Common.{position-none, range_with_len, refl, Row, row_after, Rule, same_lists, set, set_other}
-use Common.{set_same, Some, state_count, subst, suc, sym, tabulate, true, Values, within-passes}
-use Common.{zero}
+use Common.{[], ℕ, ℤ, ◌++◌, ◌+◌, ◌<◌, ◌∙◌, ◌∷◌, ◌≡◌, ◌≢◌, ◌≤◌, Agrees, ap, append-nil}
+use Common.{AreNextLevels, AreSent, AreSentUpTo, AreTaken, AreTakenUpTo, AreValues, arith, Bool}
+use Common.{cases_eq, cases_lt, Components, exceeds, exceeds_row_limits, false, first_is, Floor}
+use Common.{function_state_at, FunctionState, HasEach, if-false, if-true, inl, inr, int_at}
+use Common.{int_at-tabulate, ints, is_within_quantum, IsAllowedLevel, IsLevelTaken, IsSlopeSent}
+use Common.{IsWithin, IsWithinOneLevel, length, length-map-range_with_len, level_after, level_by}
+use Common.{level_unit, leveled, light_row, List, Machine, MatchBool, no_row, None, passes-within}
+use Common.{pos, position-none, range_with_len, refl, Row, row_after, row_at, Rule, slope_at}
+use Common.{sloped, Some, state_count, subst, suc, sym, tabulate, true, Values, within-passes, zero}
 use Rattle.std.proofs.Common.{flat_map, ◌<ℤ◌, append_assoc}
 use Rattle.std.proofs.lemmas.Grind.{flat_map-append}
 use Rattle.mu_num.proofs.NearLevels.{floor-free, near-free, inward-free}
@@ -17,9 +17,8 @@ use Rattle.qss_quant.specs.declared.quantizer.Rule.TheVariants.{Near, Inward}
 use Rattle.qss_quant.specs.LevelRules.{IsAnswer}
 use Rattle.qss_events.proofs.LevelRows.{range_more}
 use Rattle.qss_machine.proofs.Near.{unit_fits}
-use Rattle.qss_devs.specs.CoupledSteps.{levels_upto}
+use Rattle.qss_devs.proofs.Lists.{upto_many, upto_kept, upto_taken, upto_all}
 use Rattle.qss_devs.proofs.Overs.{not_past, is_past}
-use Rattle.qss_machine.specs.declared.machine_parts.RowKind.TheVariants as kind
 
 -- ---- the levels of a rule
 
@@ -27,9 +26,6 @@ rule_free : (rule : Rule) (unit state old : ℤ) → pos 0 <ℤ unit → IsWithi
 rule_free Floor unit state old h = floor-free unit state old h
 rule_free Near unit state old h = near-free unit state old h
 rule_free Inward unit state old h = inward-free unit state old h
-
-same_rule : (rule other : Rule) → Some rule ≡ Some other → rule ≡ other
-same_rule rule other is = cc
 
 module _ (m : Machine) (rule : Rule) (v : Values) where
   after_allowed : (j : ℕ) → IsNextLevel (IsAllowedLevel (Some rule)) m j (int_at v.states j) (int_at v.levels j) (level_after m rule v j)
@@ -45,7 +41,7 @@ module _ (m : Machine) (rule : Rule) (v : Values) where
           let taken : level_after m rule v j ≡ level_by rule (level_unit m) (int_at v.states j) (int_at v.levels j) = if-false (is_within_quantum m j (int_at v.states j) (int_at v.levels j)) _ _ e in
           record {
             close = subst (IsWithinOneLevel (level_unit m) (int_at v.states j) (int_at v.levels j)) (sym taken) (rule_free rule (level_unit m) (int_at v.states j) (int_at v.levels j) positive);
-            named = λ other is. taken ∙ ap (λ (r : Rule). level_by r (level_unit m) (int_at v.states j) (int_at v.levels j)) (same_rule rule other is);
+            named = λ other is. let same : rule ≡ other = cc in rw (← same) taken;
           }
 
   pub all_allowed : AreNextLevels (IsAllowedLevel (Some rule)) m v.states v.levels (tabulate (state_count m) (level_after m rule v))
@@ -54,51 +50,16 @@ module _ (m : Machine) (rule : Rule) (v : Values) where
     each = λ j h. subst (IsNextLevel (IsAllowedLevel (Some rule)) m j (int_at v.states j) (int_at v.levels j)) (sym (int_at-tabulate (state_count m) (level_after m rule v) j h)) (after_allowed j);
   }
 
--- ---- the levels of the first n states
-
 module _ (m : Machine) (rule : Rule) (v : Values) where
-  upto_many : (n : ℕ) → length (levels_upto m rule v n) ≡ length v.levels
-  upto_many zero = refl
-  upto_many (suc n) = length-set (levels_upto m rule v n) n (level_after m rule v n) ∙ upto_many n
-
-  upto_kept : (n i : ℕ) → n ≤ i → int_at (levels_upto m rule v n) i ≡ int_at v.levels i
-  upto_kept zero i le = refl
-  upto_kept (suc n) i le =
-      set_other (levels_upto m rule v n) n i (level_after m rule v n) (λ e. absurd (omega (arith, e, le))) ∙ upto_kept n i (omega (arith, le))
-
-  upto_taken : (n i : ℕ) → n ≤ length v.levels → i < n → int_at (levels_upto m rule v n) i ≡ level_after m rule v i
-  upto_taken zero i le h = absurd (omega (arith, h))
-  upto_taken (suc n) i le h = elim (cases_eq i n) [
-    | inl e ↦ set_same (levels_upto m rule v n) n i (level_after m rule v n) e (omega (arith, le, upto_many n)) ∙ ap (level_after m rule v) (sym e)
-    | inr ne ↦ set_other (levels_upto m rule v n) n i (level_after m rule v n) ne ∙ upto_taken n i (omega (arith, le)) (omega (arith, h, ne))
-  ]
-
   -- the next one has its own level yet
-  pub next_level : (n : ℕ) → int_at (levels_upto m rule v n) n ≡ int_at v.levels n
-  next_level n = upto_kept n n (omega arith)
+  next_level : (n : ℕ) → int_at (leveled m rule v n).levels n ≡ int_at v.levels n
+  next_level n = upto_kept (level_after m rule v) v.levels n n (omega arith)
 
-  pub next_after : (n : ℕ) → level_after m rule (leveled m rule v n) n ≡ level_after m rule v n
-  next_after n = ap (λ old. if is_within_quantum m n (int_at v.states n) old then old else level_by rule (level_unit m) (int_at v.states n) old) (next_level n)
+  next_after : (n : ℕ) → level_after m rule (leveled m rule v n) n ≡ level_after m rule v n
+  next_after n = rw (next_level n)
 
   next_row : (tick n : ℕ) → row_after m rule tick (leveled m rule v n) n ≡ row_after m rule tick v n
-  next_row tick n =
-      ap (λ old. if int_eq old (if is_within_quantum m n (int_at v.states n) old then old else level_by rule (level_unit m) (int_at v.states n) old) then []
-      else record {
-        tick = tick;
-        kind = kind.Level;
-        var = n;
-        level = if is_within_quantum m n (int_at v.states n) old then old else level_by rule (level_unit m) (int_at v.states n) old;
-        state = int_at v.states n;
-      } ∷ [])
-      (next_level n)
-
-  all_levels : length v.levels ≡ state_count m → levels_upto m rule v (state_count m) ≡ tabulate (state_count m) (level_after m rule v)
-  all_levels many =
-      let as_many : length (tabulate (state_count m) (level_after m rule v)) ≡ state_count m = length-map-range_with_len (level_after m rule v) 0 (state_count m) in
-      same_lists (pos 0) (levels_upto m rule v (state_count m)) (tabulate (state_count m) (level_after m rule v)) (upto_many (state_count m) ∙ many ∙ sym as_many)
-      (λ k inside.
-      let h : k < state_count m = omega (arith, inside, as_many) in
-      upto_taken (state_count m) k (omega (arith, many)) h ∙ sym (int_at-tabulate (state_count m) (level_after m rule v) k h))
+  next_row tick n = rw (next_level n)
 
 -- ---- the loop
 
@@ -121,17 +82,15 @@ taken_more {X} {g} {m} {rule} {tick} {v} {n} {parts} {next} {old} {mid} {new} be
     let past : exceeds 43 (level_after m rule v n) ≡ false = sym (ap (exceeds 43) (next_after m rule v n)) ∙ not_past (exceeds 43 (level_after m rule (leveled m rule v n) n)) n step.own_over in
     let e : suc n ≡ n + 1 = omega arith in
     subst (λ (k : ℕ). AreTakenUpTo m rule tick v k next old new) e (record {
-      agree = subst (λ (z : ℤ). Agrees m tick (record v { levels = set (levels_upto m rule v n) n z }) next) (next_after m rule v n) (step.agree refl);
+      agree = rw (next_after m rule v n) at (step.agree refl);
       small = λ i h. elim (cases_eq i n) [
         | inl same ↦ subst (λ (k : ℕ). IsWithin 43 (level_after m rule v k)) (sym same) (passes-within 43 (level_after m rule v n) past)
         | inr ne ↦ before.small i (omega (arith, h, ne))
       ];
       rows =
           step.rows refl
-          ∙ ap (λ (rows : List Row). rows ++ row_after m rule tick (leveled m rule v n) n) before.rows
-          ∙ ap (λ (row : List Row). (old ++ flat_map (row_after m rule tick v) (range_with_len 0 n)) ++ row) (next_row m rule v tick n)
-          ∙ append_assoc old (flat_map (row_after m rule tick v) (range_with_len 0 n)) (row_after m rule tick v n)
-          ∙ ap (λ (rows : List Row). old ++ rows) (sym (rows_more (row_after m rule tick v) n));
+          ∙ rw (before.rows, next_row m rule v tick n, rows_more (row_after m rule tick v) n)
+          (append_assoc old _ _);
     })
 
 rows_same : (f g : ℕ → List Row) (n : ℕ) → ((j : ℕ) → j < n → f j ≡ g j) → flat_map f (range_with_len 0 n) ≡ flat_map g (range_with_len 0 n)
@@ -154,21 +113,13 @@ module _ {X : Type 0} {g : _} {m : Machine} {rule : Rule} {tick : ℕ} {v : Valu
         (λ k inside.
         let h : k < state_count m = omega (arith, inside, length-map-range_with_len (level_after m rule v) 0 (state_count m)) in
         ap (exceeds 43) (int_at-tabulate (state_count m) (level_after m rule v) k h) ∙ within-passes 43 (level_after m rule v k) (taken.small k h)));
-    agree = λ e. subst (λ (levels : List ℤ). Agrees m tick (record v { levels = levels }) parts) (all_levels m rule v each.levels) taken.agree;
+    agree = λ e. rw (upto_all (level_after m rule v) v.levels (state_count m) each.levels) at taken.agree;
     rows = λ e.
-        taken.rows
+        rw each.states
+        (taken.rows
         ∙ ap (λ (rows : List Row). old ++ rows)
-        (rows_same (row_after m rule tick v)
-        (λ j. if int_eq (int_at v.levels j) (int_at (tabulate (state_count m) (level_after m rule v)) j) then []
-        else record { tick = tick; kind = kind.Level; var = j; level = int_at (tabulate (state_count m) (level_after m rule v)) j; state = int_at v.states j } ∷ [])
-        (state_count m)
-        (λ j h. ap (λ (level : ℤ). if int_eq (int_at v.levels j) level then [] else record { tick = tick; kind = kind.Level; var = j; level = level; state = int_at v.states j } ∷ [])
-        (sym (int_at-tabulate (state_count m) (level_after m rule v) j h)))
-        ∙ ap (λ (n : ℕ). flat_map
-        (λ j. if int_eq (int_at v.levels j) (int_at (tabulate (state_count m) (level_after m rule v)) j) then []
-        else record { tick = tick; kind = kind.Level; var = j; level = int_at (tabulate (state_count m) (level_after m rule v)) j; state = int_at v.states j } ∷ [])
-        (range_with_len 0 n))
-        (sym each.states));
+        (rows_same (row_after m rule tick v) _ (state_count m)
+        (λ j h. rw (int_at-tabulate (state_count m) (level_after m rule v) j h))));
   }
 
   -- a level that exceeds its limit ends the loop
@@ -203,10 +154,79 @@ pub leveled_values : {X : Type 0} {g : _} {m : Machine} {rule : Rule} {tick : �
     {n : ℕ} {parts : Components X g} {old new : List Row} → n ≤ state_count m → AreValues m v →
     AreTakenUpTo m rule tick v n parts old new → AreValues m (leveled m rule v n)
 leveled_values {X} {g} {m} {rule} {tick} {v} {n} le values taken = record {
-  each = record { states = values.each.states; slopes = values.each.slopes; levels = upto_many m rule v n ∙ values.each.levels; discretes = values.each.discretes };
+  each = record { states = values.each.states; slopes = values.each.slopes; levels = upto_many (level_after m rule v) v.levels n ∙ values.each.levels; discretes = values.each.discretes };
   small = λ i h. elim (cases_lt i n) [
-    | inl less ↦ subst (IsWithin 43) (sym (upto_taken m rule v n i (omega (arith, le, values.each.levels)) less)) (taken.small i less)
-    | inr past ↦ subst (IsWithin 43) (sym (upto_kept m rule v n i past)) (values.small i h)
+    | inl less ↦ subst (IsWithin 43) (sym (upto_taken (level_after m rule v) v.levels n i (omega (arith, le, values.each.levels)) less)) (taken.small i less)
+    | inr past ↦ subst (IsWithin 43) (sym (upto_kept (level_after m rule v) v.levels n i past)) (values.small i h)
   ];
   slow = values.slow;
 }
+
+-- ---- functions that send their sums one after another
+
+pub sent_none : {X : Type 0} {g : _} (m : Machine) (tick : ℕ) (v : Values) (parts : Components X g) → Agrees m tick v parts → AreSentUpTo m tick v 0 parts
+sent_none {X} {g} m tick v parts a = record { agree = a; light = λ i h. absurd (omega (arith, h)); sent = λ i h. absurd (omega (arith, h)) }
+
+pub sent_more : {X : Type 0} {g : _} {m : Machine} {tick : ℕ} {v : Values} {n : ℕ}
+    {parts next : Components X g} → n < state_count m → AreSentUpTo m tick v n parts →
+    IsSlopeSent m tick (sloped m v n) n next None →
+    ((i : ℕ) → i < state_count m → i ≢ n → function_state_at next i ≡ function_state_at parts i) →
+    AreSentUpTo m tick v (n + 1) next
+sent_more {X} {g} {m} {tick} {v} {n} {parts} {next} inside before step others =
+    let light : exceeds_row_limits m v.levels v.discretes (row_at m n) ≡ false = not_past (exceeds_row_limits m v.levels v.discretes (row_at m n)) n step.own_over in
+    let e : suc n ≡ n + 1 = omega arith in
+    subst (λ (k : ℕ). AreSentUpTo m tick v k next) e (record {
+      agree = step.agree refl;
+      light = λ i h. elim (cases_eq i n) [
+        | inl same ↦ subst (λ (k : ℕ). exceeds_row_limits m v.levels v.discretes (row_at m k) ≡ false) (sym same) light
+        | inr ne ↦ before.light i (omega (arith, h, ne))
+      ];
+      sent = λ i h. elim (cases_eq i n) [
+        | inl same ↦ subst (λ (k : ℕ). (function_state_at next k).changed ≡ None) (sym same) (step.sent refl)
+        | inr ne ↦ ap (λ (s : FunctionState). s.changed) (others i (omega (arith, h, inside)) ne) ∙ before.sent i (omega (arith, h, ne))
+      ];
+    })
+
+module _ {X : Type 0} {g : _} {m : Machine} {tick : ℕ} {v : Values} {parts : Components X g}
+    (each : HasEach m v) where
+  pub sent_all : AreSentUpTo m tick v (state_count m) parts → AreSent m tick v parts None
+  sent_all done = record {
+    own_over = sym (position-none no_row (exceeds_row_limits m v.levels v.discretes) m.rows (λ j inside. done.light j (omega (arith, inside, m.has_rows.one_each))));
+    agree = λ e. rw (upto_all (λ j. slope_at m j v.levels v.discretes) v.slopes (state_count m) each.slopes) at done.agree;
+    sent = λ e. done.sent;
+  }
+
+  -- a row that exceeds its limits ends the loop
+  pub sent_over : {n var : ℕ} {before : Components X g} → n < state_count m →
+      AreSentUpTo m tick v n before → IsSlopeSent m tick (sloped m v n) n parts (Some var) →
+      AreSent m tick v parts (Some var)
+  sent_over {n} {var} {before} inside done step =
+      let over = is_past (exceeds_row_limits m v.levels v.discretes (row_at m n)) n var step.own_over in
+      record {
+        own_over =
+            ap (λ (k : ℕ). Some k) over.1
+            ∙ sym (first_is no_row (exceeds_row_limits m v.levels v.discretes) m.rows n
+            (omega (arith, inside, m.has_rows.one_each)) (λ k less. done.light k less) over.0);
+        agree = λ e. absurd (cc);
+        sent = λ e. absurd (cc);
+      }
+
+-- the values after some functions made their transitions are within the limits
+pub sloped_values : {X : Type 0} {g : _} {m : Machine} {tick : ℕ} {v : Values} {n : ℕ}
+    {parts : Components X g} → n ≤ state_count m → AreValues m v → AreSentUpTo m tick v n parts →
+    AreValues m (sloped m v n)
+sloped_values {X} {g} {m} {tick} {v} {n} le values done =
+    let slope : ℕ → ℤ = λ j. slope_at m j v.levels v.discretes in
+    record {
+      each = record {
+        states = values.each.states;
+        slopes = upto_many slope v.slopes n ∙ values.each.slopes;
+        levels = values.each.levels;
+        discretes = values.each.discretes;
+      };
+      small = values.small;
+      slow = λ i h. elim (cases_lt i n) [
+        | inl less ↦ subst (IsWithin 88) (sym (upto_taken slope v.slopes n i (omega (arith, le, values.each.slopes)) less)) (light_row m v.levels v.discretes i (done.light i less)).slope
+        | inr past ↦ subst (IsWithin 88) (sym (upto_kept slope v.slopes n i past)) (values.slow i h)
+      ];
+    }

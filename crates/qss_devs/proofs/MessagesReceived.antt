@@ -1,84 +1,49 @@
--- Components of which some received a message.
+-- Components of which some received a message, and their agreement with its value.
 use Rattle.qss_devs.proofs.Common
-use Common.{[], ℕ, ◌+◌, ◌<◌, ◌==◌, ◌||◌, ◌∙◌, ◌≡◌, ◌≢◌, All, All-set, among_rows, ap, AreComponents}
-use Common.{AreReady, arith, Bool, cases_eq, Components, Condition, condition_at, conditions}
-use Common.{Crossing, crossing_after_message, crossing_at, crossing_of, CrossingModel}
-use Common.{crossings_given, Discrete, discrete_count, eqb-no, eqb-yes, false}
-use Common.{function_after_message, function_state_at, function_state_of, FunctionModel}
-use Common.{functions_given, get_or, get_or-map, get_or-set_other, get_or-set_same, HaveReceived}
-use Common.{if_cases, inl, inr, IntegratorModel, is_listed, IsCrossingReady, IsGivenLine}
-use Common.{IsIntegratorOf, IsLineNext, IsMessage, IsSummingReady, IsTimely, length, length-map}
-use Common.{length-set, Level, Line, line_after_message, line_at, lines_given, List, Machine, map}
-use Common.{map-set, Message, no_crossing, no_line, no_summing, Quantizer, reading_conditions}
-use Common.{reading_rows, refl, row_at, row_reads, set, Slope, State, state_count, subst, sym, true}
-use Common.{Truth}
-use Rattle.qss_components.specs.ComponentTheorems.{goes_to_crossing, goes_to_function}
-use Rattle.qss_components.specs.ComponentTheorems.{goes_to_integrator}
-use Rattle.qss_machine.specs.Readers.{condition_reads}
-use Rattle.qss_devs.specs.Coupling.{IsOfLine, IsOfLevel, IsOfDiscrete}
-use Rattle.qss_devs.proofs.ReadyAfterMessage.{summing_ready_given, crossing_ready_given}
-use Rattle.qss_devs.proofs.ReadyAfterMessage.{line_ready_given, received_twice}
+use Common.{[], ℕ, ℤ, ◌+◌, ◌-◌, ◌<◌, ◌==◌, ◌||◌, ◌∙◌, ◌∷◌, ◌≡◌, ◌≢◌, Agrees, All, All-set}
+use Common.{among_rows, ap, AreComponents, AreGiven, AreReady, AreRuled, arith, Bool, cases_eq}
+use Common.{Components, Condition, condition_at, conditions, Crossing, crossing_after_message}
+use Common.{crossing_at, crossing_of, CrossingAgrees, CrossingModel, Discrete, discrete_count}
+use Common.{eqb-no, eqb-yes, false, function_after_message, function_state_at, function_state_of}
+use Common.{FunctionModel, functions_given, FunctionState, get_or, get_or-map, HasEach}
+use Common.{HaveReceived, if_cases, inl, inr, IntegratorModel, is_listed, IsCrossingReady}
+use Common.{IsGivenLine, IsIntegratorOf, IsLineNext, IsMessage, IsSummingReady, IsTimely, length}
+use Common.{length-set, Level, Line, line_after_message, line_at, LineAgrees, lines_given, List}
+use Common.{Machine, Message, no_crossing, no_line, no_summing, Option, Quantizer, reading_rows}
+use Common.{refl, Row, RowKind, Rule, set, Slope, State, state_at, state_count, subst, sum_of}
+use Common.{summing_sent, SummingAgrees, sym, take, true, Values, values_after_row}
+use Common.{values_after_rows}
+use Rattle.std.proofs.Common.{◌⊎◌}
+use Rattle.qss_components.specs.ComponentTheorems.{crossings_given, goes_to_crossing}
+use Rattle.qss_components.specs.ComponentTheorems.{goes_to_function, goes_to_integrator}
+use Rattle.qss_components.specs.ComponentTheorems.{values_after_message}
+use Rattle.qss_machine.specs.Readers.{reading_conditions, condition_reads}
+use Rattle.qss_devs.proofs.MessageDelivery.{summing_ready_given, crossing_ready_given}
+use Rattle.qss_devs.proofs.MessageDelivery.{line_ready_given, received_twice, machines_stay}
+use Rattle.qss_devs.proofs.MessageDelivery.{given_by, given_by_two}
 use Rattle.qss_events.proofs.Readers.{among_conditions}
-use Rattle.qss_devs.proofs.MessageDelivery.{HaveStates, given_by, given_by_two}
+use Rattle.qss_devs.proofs.Lists.{mapped_set}
+use Rattle.qss_devs.proofs.OneTransition.{integrators_set}
+use Rattle.std.proofs.lemmas.List.Sums.{fold_more}
+use Rattle.qss_components.specs.Agreement.{Agree}
+use Rattle.qss_components.proofs.Keeping.{messages_keep_agreement}
+use Rattle.qss_machine.specs.declared.machine_parts.RowKind.TheVariants as kind
 
--- ---- the receivers of a message
-
-record GoesTo (m : Machine) (message : Message) (line : ℕ → Bool) (function : ℕ → Bool)
-    (crossing : Condition → Bool) : Type 0 where
-  line_is : (j : ℕ) → goes_to_integrator j message ≡ line j
-  function_is : (j : ℕ) → goes_to_function m j message ≡ function j
-  crossing_is : (k : Condition) → goes_to_crossing m k message ≡ crossing k
-
-line_receivers : (m : Machine) (var : ℕ) (message : Message) → IsOfLine var message →
-    GoesTo m message (λ j. var == j) (λ j. false) (condition_reads var)
-line_receivers m var (Slope other slope) is =
-    record { line_is = λ j. rw is refl; function_is = λ j. refl; crossing_is = λ k. rw is refl }
-line_receivers m var (State other state) is =
-    record { line_is = λ j. rw is refl; function_is = λ j. refl; crossing_is = λ k. rw is refl }
-line_receivers m var (Level other level) is = absurd is
-line_receivers m var (Discrete other value) is = absurd is
-line_receivers m var (Truth place now) is = absurd is
-
-level_receivers : (m : Machine) (var : ℕ) (message : Message) → IsOfLevel var message →
-    GoesTo m message (λ j. false) (λ j. row_reads var (row_at m j)) (λ k. false)
-level_receivers m var (Slope other slope) is = absurd is
-level_receivers m var (State other state) is = absurd is
-level_receivers m var (Level other level) is =
-    record { line_is = λ j. refl; function_is = λ j. rw is refl; crossing_is = λ k. refl }
-level_receivers m var (Discrete other value) is = absurd is
-level_receivers m var (Truth place now) is = absurd is
-
-discrete_receivers : (m : Machine) (var : ℕ) (message : Message) → IsOfDiscrete var message →
-    GoesTo m message (λ j. false) (λ j. row_reads var (row_at m j))
-    (λ k. condition_reads var k || condition_reads (var + discrete_count m) k)
-discrete_receivers m var (Slope other slope) is = absurd is
-discrete_receivers m var (State other state) is = absurd is
-discrete_receivers m var (Level other level) is = absurd is
-discrete_receivers m var (Discrete other value) is =
-    record { line_is = λ j. refl; function_is = λ j. rw is refl; crossing_is = λ k. rw is refl }
-discrete_receivers m var (Truth place now) is = absurd is
-
-discrete_twice : (m : Machine) (tick var : ℕ) (message : Message) → IsOfDiscrete var message →
-    (c : Crossing) →
-    crossing_after_message m (crossing_after_message m c tick message) tick message
-    ≡ crossing_after_message m c tick message
-discrete_twice m tick var (Slope other slope) is c = absurd is
-discrete_twice m tick var (State other state) is c = absurd is
-discrete_twice m tick var (Level other level) is c = absurd is
-discrete_twice m tick var (Discrete other value) is c = received_twice m tick other value c
-discrete_twice m tick var (Truth place now) is c = absurd is
+either_none : (a : Bool) → (a || false) ≡ a
+either_none true = refl
+either_none false = refl
 
 -- components that received a message are ready
 ready_after : {X : Type 0} {g : _} (m : Machine) (tick : ℕ) (message : Message)
-    (old new : Components X g) → IsMessage m message →
-    AreReady m tick (line_at old) (function_state_at old) (crossing_at old) →
+    (old new : Components X g) → IsMessage m message → AreReady m tick old → AreComponents m new →
     ((j : ℕ) → j < state_count m → line_at new j ≡ lines_given tick message (line_at old) j) →
     ((j : ℕ) → j < state_count m →
     function_state_at new j ≡ functions_given m tick message (function_state_at old) j) →
     ((place : ℕ) → place < length (conditions m) →
     crossing_at new place ≡ crossings_given m tick message (crossing_at old) place) →
-    AreReady m tick (line_at new) (function_state_at new) (crossing_at new)
-ready_after m tick message old new is ready lines functions crossings = record {
+    AreReady m tick new
+ready_after m tick message old new is ready are lines functions crossings = record {
+  parts = are;
   in_time = ready.in_time;
   integrators = λ j h.
       rw (lines j h)
@@ -98,246 +63,278 @@ ready_after m tick message old new is ready lines functions crossings = record {
       (λ e. ready.crossings place h));
 }
 
--- ---- an integrator among others
-
-module _ {X : Type 0} {g : _} (m : Machine) (xs : List (IntegratorModel X g)) (var : ℕ)
-    (t : IntegratorModel X g) (inside : var < length xs) where
-  pub integrators_set :
-      ((j : ℕ) (d : IntegratorModel X g) → j < length xs → IsIntegratorOf m j (get_or xs j d)) →
-      IsIntegratorOf m var t →
-      (j : ℕ) (d : IntegratorModel X g) → j < length (set xs var t) →
-      IsIntegratorOf m j (get_or (set xs var t) j d)
-  integrators_set each own j d h = elim (cases_eq var j) [
-    | inl e ↦
-        subst (λ (k : ℕ). IsIntegratorOf m k (get_or (set xs var t) k d)) e
-        (rw (get_or-set_same xs var t d inside) own)
-    | inr ne ↦
-        rw (get_or-set_other xs var j t d (λ e. ne (sym e)))
-        (each j d (omega (arith, h, length-set xs var t)))
-  ]
-
-  -- its line is another, and the other lines are unchanged
-  pub line_set : (j : ℕ) →
-      (var ≡ j → get_or (map (λ (i : IntegratorModel X g). i.line) (set xs var t)) j no_line ≡ t.line)
-      × (var ≢ j → get_or (map (λ (i : IntegratorModel X g). i.line) (set xs var t)) j no_line
-      ≡ get_or (map (λ (i : IntegratorModel X g). i.line) xs) j no_line)
-  line_set j =
-      let lines : List Line = map (λ (i : IntegratorModel X g). i.line) xs in
-      let moved : map (λ (i : IntegratorModel X g). i.line) (set xs var t) ≡ set lines var t.line =
-      map-set (λ (i : IntegratorModel X g). i.line) xs var t in
-      let many : var < length lines =
-      omega (arith, inside, length-map xs (λ (i : IntegratorModel X g). i.line)) in (
-        (λ e. ap (λ (ls : List Line). get_or ls j no_line) moved
-            ∙ subst (λ (k : ℕ). get_or (set lines var t.line) k no_line ≡ t.line) e
-            (get_or-set_same lines var t.line no_line many)),
-        (λ ne. ap (λ (ls : List Line). get_or ls j no_line) moved
-            ∙ get_or-set_other lines var j t.line no_line (λ e. ne (sym e))),
-      )
-
 -- ---- the messages
 
 module _ {X : Type 0} {g : _} (m : Machine) (tick var : ℕ) (message : Message)
-    (old new : Components X g) (are : AreComponents m old)
-    (ready : AreReady m tick (line_at old) (function_state_at old) (crossing_at old))
-    (is : IsMessage m message) where
+    (old new : Components X g) (ready : AreReady m tick old) (is : IsMessage m message) where
   abbrev pub FunctionsReceive : List ℕ → List FunctionModel → List FunctionModel → Type 0
-  FunctionsReceive =
-      HaveStates function_state_of (λ (f : FunctionModel). f.machine.value) no_summing
-      (λ n s. function_after_message n s tick message) m
+  FunctionsReceive = AreGiven (λ s t. (t.machine.value ≡ s.machine.value)
+      × (function_state_of t ≡ function_after_message s.machine.value (function_state_of s) tick message))
 
   abbrev pub CrossingsReceive : List ℕ → List CrossingModel → List CrossingModel → Type 0
-  CrossingsReceive =
-      HaveStates crossing_of (λ (c : CrossingModel). c.machine.value) no_crossing
-      (λ n c. crossing_after_message n c tick message) m
+  CrossingsReceive = AreGiven (λ s t. (t.machine.value ≡ s.machine.value)
+      × (crossing_of t ≡ crossing_after_message s.machine.value (crossing_of s) tick message))
+
+  -- the integrators received the message
+  record LinesReceive : Type 0 where
+    count : length new.integrators.items ≡ state_count m
+    own : (j : ℕ) (d : IntegratorModel X g) → j < length new.integrators.items →
+        IsIntegratorOf m j (get_or new.integrators.items j d)
+    ruled : (name : Option Rule) → AreRuled name old → AreRuled name new
+    lines : (j : ℕ) → j < state_count m → line_at new j ≡ lines_given tick message (line_at old) j
+
+  no_line_receives : ((j : ℕ) → goes_to_integrator j message ≡ false) →
+      new.integrators.items ≡ old.integrators.items → LinesReceive
+  no_line_receives no_line same = record {
+    count = rw same ready.parts.integrators;
+    own = rw same ready.parts.own_integrators;
+    ruled = λ name before. rw same before;
+    lines = λ j h. rw (same, no_line j);
+  }
+
+  none_receive : (xs : List CrossingModel) → CrossingsReceive [] xs xs
+  none_receive xs = record { as_many = refl; each = λ j d h e. absurd (cc); others = λ j d e. refl }
 
   -- functions at some places received the message, and crossings at places of two lists
-  readers_received : (rows first second : List ℕ) (mid : List CrossingModel) →
-      ((j : ℕ) → goes_to_integrator j message ≡ false) →
+  readers_received : (rows first second : List ℕ) (mid : List CrossingModel) → LinesReceive →
       ((j : ℕ) → j < state_count m → is_listed rows j ≡ goes_to_function m j message) →
       ((place : ℕ) → place < length (conditions m) → goes_to_crossing m (condition_at m place) message
       ≡ (is_listed first place || is_listed second place)) →
       ((c : Crossing) (place : ℕ) → is_listed first place ≡ true → is_listed second place ≡ true →
       crossing_after_message m (crossing_after_message m c tick message) tick message
-      ≡ crossing_after_message m c tick message) →
-      new.integrators.items ≡ old.integrators.items → new.uses ≡ old.uses →
-      All (λ (f : FunctionModel). f.machine.value ≡ m) new.functions.items →
-      All (λ (c : CrossingModel). c.machine.value ≡ m) new.crossings.items →
+      ≡ crossing_after_message m c tick message) → new.uses ≡ old.uses →
       FunctionsReceive rows old.functions.items new.functions.items →
       CrossingsReceive first old.crossings.items mid →
       CrossingsReceive second mid new.crossings.items → HaveReceived m tick message old new
-  readers_received rows first second mid no_line to_rows to_places twice same_lines same_uses
-      function_machines crossing_machines written one two = record {
-        parts = record {
-          integrators = rw same_lines are.integrators;
-          functions =
-              sym (length-map new.functions.items function_state_of)
-              ∙ written.as_many
-              ∙ length-map old.functions.items function_state_of
-              ∙ are.functions;
-          crossings =
-              sym (length-map new.crossings.items crossing_of)
-              ∙ two.as_many
-              ∙ one.as_many
-              ∙ length-map old.crossings.items crossing_of
-              ∙ are.crossings;
-          own_integrators = rw same_lines are.own_integrators;
-          own_functions = function_machines;
-          own_crossings = crossing_machines;
-          uses = same_uses ∙ are.uses;
-        };
-        ruled = λ name before. rw same_lines before;
-        ready = ready_after m tick message old new is ready lines functions crossings;
-        lines = lines;
+  readers_received rows first second mid integrators to_rows to_places twice same_uses written one
+      two = record {
+        ruled = integrators.ruled;
+        ready = ready_after m tick message old new is ready (record {
+          integrators = integrators.count;
+          functions = written.as_many ∙ ready.parts.functions;
+          crossings = two.as_many ∙ one.as_many ∙ ready.parts.crossings;
+          own_integrators = integrators.own;
+          own_functions =
+              machines_stay function_state_of (λ (f : FunctionModel). f.machine.value) no_summing
+              (λ n s. function_after_message n s tick message) m written ready.parts.own_functions;
+          own_crossings =
+              machines_stay crossing_of (λ (c : CrossingModel). c.machine.value) no_crossing
+              (λ n c. crossing_after_message n c tick message) m two mid_machines;
+          uses = same_uses ∙ ready.parts.uses;
+        }) integrators.lines functions crossings;
+        lines = integrators.lines;
         functions = functions;
         crossings = crossings;
       }
     where
-      lines : (j : ℕ) → j < state_count m → line_at new j ≡ lines_given tick message (line_at old) j
-      lines j h = rw (same_lines, no_line j) refl
-
       functions : (j : ℕ) → j < state_count m →
           function_state_at new j ≡ functions_given m tick message (function_state_at old) j
       functions j h =
-          given_by no_summing (λ s. function_after_message m s tick message) j
-          (goes_to_function m j message) (to_rows j h) written
+          given_by function_state_of (λ (f : FunctionModel). f.machine.value) no_summing
+          (λ n s. function_after_message n s tick message) m written ready.parts.own_functions j
+          (omega (arith, h, ready.parts.functions)) (goes_to_function m j message) (to_rows j h)
+
+      mid_machines : All (λ (c : CrossingModel). c.machine.value ≡ m) mid
+      mid_machines =
+          machines_stay crossing_of (λ (c : CrossingModel). c.machine.value) no_crossing
+          (λ n c. crossing_after_message n c tick message) m one ready.parts.own_crossings
 
       crossings : (place : ℕ) → place < length (conditions m) →
           crossing_at new place ≡ crossings_given m tick message (crossing_at old) place
       crossings place h =
+          let inside : place < length old.crossings.items = omega (arith, h, ready.parts.crossings) in
           rw (to_places place h)
-          (given_by_two no_crossing (λ c. crossing_after_message m c tick message) place
-          (is_listed first place) (is_listed second place) refl refl
-          (twice (crossing_at old place) place) one two)
+          (given_by_two (λ c. crossing_after_message m c tick message) (crossing_at old place) _
+          (crossing_at new place) (is_listed first place) (is_listed second place)
+          (twice (crossing_at old place) place)
+          (given_by crossing_of (λ (c : CrossingModel). c.machine.value) no_crossing
+          (λ n c. crossing_after_message n c tick message) m one ready.parts.own_crossings place inside _ refl)
+          (given_by crossing_of (λ (c : CrossingModel). c.machine.value) no_crossing
+          (λ n c. crossing_after_message n c tick message) m two mid_machines place
+          (omega (arith, inside, one.as_many)) _ refl))
 
-  pub level_received : (places : List ℕ) → IsOfLevel var message → places ≡ reading_rows m var →
+  pub level_received : (places : List ℕ) → (level : ℤ) × (message ≡ Level var level) → places ≡ reading_rows m var →
       new.integrators.items ≡ old.integrators.items →
       new.crossings.items ≡ old.crossings.items → new.uses ≡ old.uses →
-      All (λ (f : FunctionModel). f.machine.value ≡ m) new.functions.items →
       FunctionsReceive places old.functions.items new.functions.items →
       HaveReceived m tick message old new
-  level_received places kind own same_lines same_crossings same_uses machines written =
-      let goes = level_receivers m var message kind in
-      let none : CrossingsReceive [] old.crossings.items old.crossings.items =
-      record { as_many = refl; each = λ j e. absurd (cc); others = λ j e. refl } in
-      readers_received places [] [] old.crossings.items goes.line_is
-      (λ j h. rw own (among_rows m var j h) ∙ sym (goes.function_is j))
-      (λ place h. goes.crossing_is (condition_at m place)) (λ c place e f. absurd (cc)) same_lines
-      same_uses machines (rw same_crossings are.own_crossings) written none (rw same_crossings none)
+  level_received places own_kind own same_lines same_crossings same_uses written =
+      readers_received places [] [] old.crossings.items
+      (no_line_receives (λ j. rw own_kind.1) same_lines)
+      (λ j h. rw (own_kind.1, own) (among_rows m var j h)) (λ place h. rw own_kind.1)
+      (λ c place e f. absurd (cc)) same_uses written (none_receive _)
+      (rw same_crossings (none_receive _))
 
   pub discrete_received : (rows first second : List ℕ) (mid : List CrossingModel) →
-      IsOfDiscrete var message → rows ≡ reading_rows m var → first ≡ reading_conditions m var →
+      (value : ℤ) × (message ≡ Discrete var value) → rows ≡ reading_rows m var → first ≡ reading_conditions m var →
       second ≡ reading_conditions m (var + discrete_count m) →
       new.integrators.items ≡ old.integrators.items → new.uses ≡ old.uses →
-      All (λ (f : FunctionModel). f.machine.value ≡ m) new.functions.items →
-      All (λ (c : CrossingModel). c.machine.value ≡ m) new.crossings.items →
       FunctionsReceive rows old.functions.items new.functions.items →
       CrossingsReceive first old.crossings.items mid →
       CrossingsReceive second mid new.crossings.items → HaveReceived m tick message old new
-  discrete_received rows first second mid kind own_rows own_first own_second =
-      let goes = discrete_receivers m var message kind in
-      readers_received rows first second mid goes.line_is
-      (λ j h. rw own_rows (among_rows m var j h) ∙ sym (goes.function_is j))
+  discrete_received rows first second mid own_kind own_rows own_first own_second same_lines =
+      readers_received rows first second mid (no_line_receives (λ j. rw own_kind.1) same_lines)
+      (λ j h. rw (own_kind.1, own_rows) (among_rows m var j h))
       (λ place h.
-      let a : is_listed first place ≡ condition_reads var (condition_at m place) =
-      rw own_first (among_conditions m var place h) in
-      let b : is_listed second place ≡ condition_reads (var + discrete_count m) (condition_at m place) =
-      rw own_second (among_conditions m (var + discrete_count m) place h) in
-      rw (a, b) (goes.crossing_is (condition_at m place)))
-      (λ c place e f. discrete_twice m tick var message kind c)
+      rw (
+        own_kind.1,
+        own_first,
+        own_second,
+        among_conditions m var place h,
+        among_conditions m (var + discrete_count m) place h,
+      ))
+      (λ c place e f. rw own_kind.1 (received_twice m tick var own_kind.0 c))
 
-  pub line_received : (places : List ℕ) (t : IntegratorModel X g) → IsOfLine var message →
+  pub line_received : (places : List ℕ) (t : IntegratorModel X g) →
+      ((slope : ℤ) × (message ≡ Slope var slope)) ⊎ ((state : ℤ) × (message ≡ State var state)) →
       var < state_count m → places ≡ reading_conditions m var →
       new.integrators.items ≡ set old.integrators.items var t →
       IsGivenLine (get_or old.integrators.items var t) tick message t →
       new.functions.items ≡ old.functions.items → new.uses ≡ old.uses →
-      All (λ (c : CrossingModel). c.machine.value ≡ m) new.crossings.items →
       CrossingsReceive places old.crossings.items new.crossings.items →
       HaveReceived m tick message old new
-  line_received places t kind known reads now_set given same_functions same_uses machines written =
-      record {
-        parts = record {
-          integrators =
-              ap length now_set ∙ length-set old.integrators.items var t ∙ are.integrators;
-          functions = rw same_functions are.functions;
-          crossings =
-              sym (length-map new.crossings.items crossing_of)
-              ∙ written.as_many
-              ∙ length-map old.crossings.items crossing_of
-              ∙ are.crossings;
-          own_integrators =
-              rw now_set
-              (integrators_set m old.integrators.items var t inside are.own_integrators
-              (record { machine = given.machine ∙ was.machine; own = given.own ∙ was.own }));
-          own_functions = rw same_functions are.own_functions;
-          own_crossings = machines;
-          uses = same_uses ∙ are.uses;
-        };
+  line_received places t own_kind known reads now_set given same_functions same_uses written =
+      readers_received [] places [] new.crossings.items (record {
+        count = ap length now_set ∙ length-set old.integrators.items var t ∙ ready.parts.integrators;
+        own =
+            rw now_set
+            (integrators_set m old.integrators.items var t inside ready.parts.own_integrators
+            (record { machine = given.machine ∙ was.machine; own = given.own ∙ was.own }));
         ruled = λ name before.
             rw now_set
             (All-set (λ (i : IntegratorModel X g). i.quantizer.value.name ≡ name)
             old.integrators.items var t
             (ap (λ (q : Quantizer X g). q.name) given.rule ∙ before var t inside) before);
-        ready = ready_after m tick message old new is ready lines functions crossings;
         lines = lines;
-        functions = functions;
-        crossings = crossings;
-      }
+      }) (λ j h. sym (to_function j))
+      (λ place h.
+      to_crossing (condition_at m place)
+      ∙ rw (reads, among_conditions m var place h) (sym (either_none _)))
+      (λ c place e f. absurd (cc)) same_uses
+      (rw same_functions (record { as_many = refl; each = λ j d h e. absurd (cc); others = λ j d e. refl }))
+      written (none_receive _)
     where
-      goes : GoesTo m message (λ j. var == j) (λ j. false) (condition_reads var)
-      goes = line_receivers m var message kind
+      to_line : (j : ℕ) → goes_to_integrator j message ≡ (var == j)
+      to_line j = elim own_kind [ inl of_slope ↦ rw of_slope.1 | inr of_state ↦ rw of_state.1 ]
+
+      to_function : (j : ℕ) → goes_to_function m j message ≡ false
+      to_function j = elim own_kind [ inl of_slope ↦ rw of_slope.1 | inr of_state ↦ rw of_state.1 ]
+
+      to_crossing : (k : Condition) → goes_to_crossing m k message ≡ condition_reads var k
+      to_crossing k = elim own_kind [ inl of_slope ↦ rw of_slope.1 | inr of_state ↦ rw of_state.1 ]
 
       inside : var < length old.integrators.items
-      inside = omega (arith, known, are.integrators)
+      inside = omega (arith, known, ready.parts.integrators)
 
       was : IsIntegratorOf m var (get_or old.integrators.items var t)
-      was = are.own_integrators var t inside
+      was = ready.parts.own_integrators var t inside
 
       own_line : (get_or old.integrators.items var t).line ≡ line_at old var
       own_line =
           sym (get_or-map (λ (i : IntegratorModel X g). i.line) old.integrators.items var t no_line inside)
 
       new_line : t.line ≡ line_after_message var (line_at old var) tick message
-      new_line =
-          given.line
-          ∙ ap (λ (k : ℕ). line_after_message k (get_or old.integrators.items var t).line tick message)
-          was.own
-          ∙ ap (λ (l : Line). line_after_message var l tick message) own_line
+      new_line = given.line ∙ rw (was.own, own_line)
 
       lines : (j : ℕ) → j < state_count m → line_at new j ≡ lines_given tick message (line_at old) j
       lines j h = elim (cases_eq var j) [
         | inl e ↦
-            rw (now_set, goes.line_is j, eqb-yes var j e)
-            ((line_set m old.integrators.items var t inside j).0 e
-            ∙ new_line
+            rw (now_set, to_line j, eqb-yes var j e)
+            (((mapped_set (λ (i : IntegratorModel X g). i.line) no_line old.integrators.items var t inside j).0 e ∙ new_line)
             ∙ ap (λ (k : ℕ). line_after_message k (line_at old k) tick message) e)
-        | inr ne ↦
-            rw (now_set, goes.line_is j, eqb-no var j ne)
-            ((line_set m old.integrators.items var t inside j).1 ne)
+        | inr ne ↦ rw (now_set, to_line j, eqb-no var j ne) ((mapped_set (λ (i : IntegratorModel X g). i.line) no_line old.integrators.items var t inside j).1 ne)
       ]
 
-      functions : (j : ℕ) → j < state_count m →
-          function_state_at new j ≡ functions_given m tick message (function_state_at old) j
-      functions j h = rw (same_functions, goes.function_is j) refl
+-- ---- components that received a message agree with its value
 
-      crossings : (place : ℕ) → place < length (conditions m) →
-          crossing_at new place ≡ crossings_given m tick message (crossing_at old) place
-      crossings place h =
-          given_by no_crossing (λ c. crossing_after_message m c tick message) place
-          (goes_to_crossing m (condition_at m place) message)
-          (rw reads (among_conditions m var place h)
-          ∙ sym (goes.crossing_is (condition_at m place))) written
+-- agreement is one of each component
+pub agree_same : (m : Machine) (tick : ℕ) (v : Values) (line now_line : ℕ → Line) (s now_s : ℕ → FunctionState) (c now_c : ℕ → Crossing) →
+    ((j : ℕ) → j < state_count m → now_line j ≡ line j) → ((j : ℕ) → j < state_count m → now_s j ≡ s j) →
+    ((place : ℕ) → place < length (conditions m) → now_c place ≡ c place) → Agree m tick v line s c → Agree m tick v now_line now_s now_c
+agree_same m tick v line now_line s now_s c now_c lines functions crossings a = record {
+  integrators = λ j h. subst (LineAgrees tick v j) (sym (lines j h)) (a.integrators j h);
+  functions = λ j h. subst (SummingAgrees m tick v j) (sym (functions j h)) (a.functions j h);
+  crossings = λ place h. subst (CrossingAgrees m tick v place (condition_at m place)) (sym (crossings place h)) (a.crossings place h);
+}
 
--- a truth value has no receiver
-pub truth_stays : {X : Type 0} {g : _} (m : Machine) (tick place : ℕ) (now : Bool)
-    (message : Message) (parts : Components X g) → message ≡ Truth place now →
-    AreComponents m parts →
-    AreReady m tick (line_at parts) (function_state_at parts) (crossing_at parts) →
-    HaveReceived m tick message parts parts
-truth_stays m tick place now message parts is are ready = rw is (record {
-  parts = are;
-  ruled = λ name ruled. ruled;
-  ready = ready;
-  lines = λ j h. refl;
-  functions = λ j h. refl;
-  crossings = λ k h. refl;
-})
+module _ {X : Type 0} {g : _} (m : Machine) (tick : ℕ) (v : Values) (each : HasEach m v) (old new : Components X g) where
+  pub agree_state : (var : ℕ) (state : ℤ) → var < state_count m → HaveReceived m tick (State var state) old new → Agrees m tick v old → Agrees m tick (values_after_message m v (State var state)) new
+  agree_state var state known received a =
+      agree_same m tick (values_after_message m v (State var state)) (lines_given tick (State var state) (line_at old)) (line_at new) (function_state_at old) (function_state_at new)
+      (crossings_given m tick (State var state) (crossing_at old)) (crossing_at new) received.lines received.functions received.crossings
+      (messages_keep_agreement.state m tick var state v (line_at old) (function_state_at old) (crossing_at old) each known a)
+
+  pub agree_discrete : (var : ℕ) (value : ℤ) → IsMessage m (Discrete var value) → HaveReceived m tick (Discrete var value) old new → Agrees m tick v old → Agrees m tick (values_after_message m v (Discrete var value)) new
+  agree_discrete var value is received a =
+      agree_same m tick (values_after_message m v (Discrete var value)) (line_at old) (line_at new) (functions_given m tick (Discrete var value) (function_state_at old)) (function_state_at new)
+      (crossings_given m tick (Discrete var value) (crossing_at old)) (crossing_at new) received.lines received.functions received.crossings
+      (messages_keep_agreement.discrete m tick var value v (line_at old) (function_state_at old) (crossing_at old) each is a)
+
+  -- where a state's integrator took the level before it was sent
+  pub agree_level : (var : ℕ) (level : ℤ) (mid : Components X g) → var < state_count m → HaveReceived m tick (Level var level) mid new → Agrees m tick v old →
+      ((j : ℕ) → j ≢ var → line_at mid j ≡ line_at old j) →
+      line_at mid var ≡ record { tick = tick; x = state_at (line_at old var) tick; slope = (line_at old var).slope; level = level } →
+      ((j : ℕ) → function_state_at mid j ≡ function_state_at old j) → ((place : ℕ) → crossing_at mid place ≡ crossing_at old place) →
+      Agrees m tick (values_after_message m v (Level var level)) new
+  agree_level var level mid known received a others own functions crossings =
+      agree_same m tick (values_after_message m v (Level var level)) (line_at mid) (line_at new) (functions_given m tick (Level var level) (function_state_at old)) (function_state_at new)
+      (crossing_at old) (crossing_at new) received.lines
+      (λ j h. received.functions j h ∙ ap (λ (s : FunctionState). functions_given m tick (Level var level) (λ k. s) j) (functions j))
+      (λ place h. received.crossings place h ∙ crossings place)
+      (messages_keep_agreement.level m tick var level v (line_at old) (line_at mid) (function_state_at old) (crossing_at old) each known a others own)
+
+  -- where a function made its transition before its sum was sent
+  pub agree_slope : (var : ℕ) (mid : Components X g) → var < state_count m → HaveReceived m tick (Slope var (sum_of m (function_state_at old var))) mid new → Agrees m tick v old →
+      ((j : ℕ) → line_at mid j ≡ line_at old j) → ((j : ℕ) → j ≢ var → function_state_at mid j ≡ function_state_at old j) →
+      function_state_at mid var ≡ summing_sent (function_state_at old var) tick → ((place : ℕ) → crossing_at mid place ≡ crossing_at old place) →
+      Agrees m tick (values_after_message m v (Slope var (sum_of m (function_state_at old var)))) new
+  agree_slope var mid known received a lines others own crossings =
+      let sum = sum_of m (function_state_at old var) in
+      agree_same m tick (values_after_message m v (Slope var sum)) (lines_given tick (Slope var sum) (line_at old)) (line_at new) (function_state_at mid) (function_state_at new)
+      (crossings_given m tick (Slope var sum) (crossing_at old)) (crossing_at new)
+      (λ j h. received.lines j h ∙ ap (λ (l : Line). lines_given tick (Slope var sum) (λ k. l) j) (lines j)) received.functions
+      (λ place h. received.crossings place h ∙ ap (λ (c : Crossing). crossings_given m tick (Slope var sum) (λ k. c) place) (crossings place))
+      (messages_keep_agreement.slope m tick var v (line_at old) (function_state_at old) (function_state_at mid) (crossing_at old) each known a others own)
+
+-- ---- rows
+
+-- a row of another kind changes no value
+pub kind_other : (m : Machine) (v : Values) (k : RowKind) (row : Row) → k ≢ kind.Set → k ≢ kind.Reinit → values_after_row m v k row ≡ v
+kind_other m v kind.Start row a b = refl
+kind_other m v (kind.When clause branch) row a b = refl
+kind_other m v kind.Set row a b = absurd (a refl)
+kind_other m v kind.Reinit row a b = absurd (b refl)
+kind_other m v kind.Level row a b = refl
+kind_other m v kind.End row a b = refl
+kind_other m v kind.Overflow row a b = refl
+
+-- the values after a row have the same lengths
+kind_each : (m : Machine) (v : Values) (k : RowKind) (row : Row) → HasEach m v → HasEach m (values_after_row m v k row)
+kind_each m v kind.Start row each = each
+kind_each m v (kind.When clause branch) row each = each
+kind_each m v kind.Set row each = record {
+  states = each.states;
+  slopes = each.slopes;
+  levels = each.levels;
+  discretes = length-set v.discretes (row.var - state_count m) row.level ∙ each.discretes;
+}
+kind_each m v kind.Reinit row each = record {
+  states = length-set v.states row.var row.state ∙ each.states;
+  slopes = each.slopes;
+  levels = each.levels;
+  discretes = each.discretes;
+}
+kind_each m v kind.Level row each = each
+kind_each m v kind.End row each = each
+kind_each m v kind.Overflow row each = each
+
+pub rows_each : (m : Machine) (v : Values) (rows : List Row) → HasEach m v → HasEach m (values_after_rows m v rows)
+rows_each m v [] each = each
+rows_each m v (row ∷ rows) each = rows_each m (values_after_row m v row.kind row) rows (kind_each m v row.kind row each)
+
+-- one row more
+pub row_more : (m : Machine) (v : Values) (rows : List Row) (i : ℕ) (row : Row) → i < length rows → row ≡ get_or rows i row →
+    values_after_row m (values_after_rows m v (take i rows)) row.kind row ≡ values_after_rows m v (take (i + 1) rows)
+row_more m v rows i row h is =
+    ap (λ (r : Row). values_after_row m (values_after_rows m v (take i rows)) r.kind r) is
+    ∙ sym (fold_more (λ (values : Values) (r : Row). values_after_row m values r.kind r) v rows i row h)

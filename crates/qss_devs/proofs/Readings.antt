@@ -1,11 +1,16 @@
--- Crossings that were read on arrival at a tick.
+-- Crossings that were read on arrival at a tick, and components with them.
 use Rattle.qss_devs.proofs.Common
-use Common.{ℕ, ◌+◌, ◌<◌, ◌∙◌, ◌≡◌, ◌≢◌, ◌≤◌, ap, arith, cases_lt, Condition, Crossing, crossing_of}
-use Common.{CrossingAgrees, CrossingModel, get_or, get_or-set_other, get_or-set_same}
-use Common.{get_or_default, inl, inr, IsCrossingNext, IsRead, length, length-set, List, Machine}
-use Common.{Message, no_ticks, None, Option, refl, set, Some, subst, sym, Values}
+use Common.{ℕ, ◌+◌, ◌<◌, ◌∙◌, ◌≡◌, ◌≤◌, Agrees, All, ap, AreComponents, arith, Bool, compares}
+use Common.{Components, Condition, condition_at, conditions, Crossing, crossing_at, crossing_of}
+use Common.{CrossingAgrees, CrossingModel, CrossingsLater, false, flag_at, FunctionModel, get_or}
+use Common.{get_or-map, get_or-set_other, get_or_default, inl, inr, IntegratorModel, IsCrossingNext}
+use Common.{IsTimely, length, length-map, length-set, List, Machine, map, Message, no_crossing}
+use Common.{no_ticks, None, Option, refl, same_lists, set, Some, subst, sym, Values}
+use Rattle.qss_devs.specs.Coupling.{IsReadAt}
+use Rattle.qss_components.specs.Crossings.{IsRead}
 use Rattle.std.specs.Prelude.{IsSome, IfSome}
 use Rattle.qss_cross.specs.Crossing.{value_at}
+use Rattle.qss_devs.proofs.Lists.{set_more, at_twice, some_element}
 
 -- the message that is there
 pub message_is : (o : Option Message) (a : Message) → IsSome o → IfSome o (λ s. s ≡ a) → o ≡ Some a
@@ -31,64 +36,86 @@ read_agrees m tick v place condition old new (inr turned) a = subst (CrossingAgr
 -- the crossings before a place were read, and the others are as they were
 pub record AreReadUpTo (tick place : ℕ) (old new : List CrossingModel) : Type 0 where
   pub as_many : length new ≡ length old
-  pub machines : (k : ℕ) (d : CrossingModel) → k < place → k < length old → (get_or new k d).machine.value ≡ (get_or old k d).machine.value
-  pub read : (k : ℕ) (d : CrossingModel) → k < place → k < length old → IsRead tick (crossing_of (get_or old k d)) (crossing_of (get_or new k d))
-  pub later : (k n : ℕ) (d : CrossingModel) → k < place → k < length old → IsCrossingNext (get_or new k d).detector (Some n) → tick < n
+  pub read : (k : ℕ) (d : CrossingModel) → k < place → k < length old → IsReadAt tick (get_or old k d) (get_or new k d)
   pub rest : (k : ℕ) (d : CrossingModel) → place ≤ k → get_or new k d ≡ get_or old k d
 
 pub none_read : (tick : ℕ) (xs : List CrossingModel) → AreReadUpTo tick 0 xs xs
 none_read tick xs = record {
   as_many = refl;
-  machines = λ k d below inside. refl;
-  read = λ k d below inside. inl refl;
-  later = λ k n d below inside is. absurd (omega (arith, below));
+  read = λ k d below inside. absurd (omega (arith, below));
   rest = λ k d past. refl;
 }
 
 module _ (tick place : ℕ) (old now : List CrossingModel) (x e : CrossingModel) (h : place < length old) (are : AreReadUpTo tick place old now)
-    (machine : x.machine.value ≡ (get_or old place e).machine.value) (read : IsRead tick (crossing_of (get_or old place e)) (crossing_of x))
-    (later : (n : ℕ) → IsCrossingNext x.detector (Some n) → tick < n) where
-  here : (k : ℕ) (d : CrossingModel) → k ≡ place → get_or (set now place x) k d ≡ x
-  here k d same = ap (λ (n : ℕ). get_or (set now place x) n d) same ∙ get_or-set_same now place x d (omega (arith, h, are.as_many))
-
-  there : (k : ℕ) (d : CrossingModel) → k ≢ place → get_or (set now place x) k d ≡ get_or now k d
-  there k d ne = get_or-set_other now place k x d ne
-
-  old_at : (k : ℕ) (d : CrossingModel) → k ≡ place → get_or old k d ≡ get_or old place e
-  old_at k d same = ap (λ (n : ℕ). get_or old n d) same ∙ get_or_default old place d e h
-
+    (read : IsReadAt tick (get_or old place e) x) where
   -- one more crossing was read
   pub read_more : AreReadUpTo tick (place + 1) old (set now place x)
   read_more = record {
     as_many = length-set now place x ∙ are.as_many;
-    machines = λ k d below inside. elim (cases_lt k place) [ inl less ↦ machine_before k d less inside | inr past ↦ machine_here k d (omega (arith, below, past)) ];
-    read = λ k d below inside. elim (cases_lt k place) [ inl less ↦ read_before k d less inside | inr past ↦ read_here k d (omega (arith, below, past)) ];
-    later = λ k n d below inside is. elim (cases_lt k place) [ inl less ↦ later_before k n d less inside is | inr past ↦ later_here k n d (omega (arith, below, past)) is ];
-    rest = λ k d past. let ne : k ≢ place = λ same. omega (arith, past, same) in there k d ne ∙ are.rest k d (omega (arith, past));
+    read = λ k d below inside.
+        set_more (λ i (c : CrossingModel). IsReadAt tick (get_or old i d) c) now place x d k
+        (omega (arith, h, are.as_many)) below (λ less. are.read k d less inside)
+        (rw (get_or_default old place d e h) read);
+    rest = λ k d past.
+        get_or-set_other now place k x d (λ same. omega (arith, past, same))
+        ∙ are.rest k d (omega (arith, past));
   }
-    where
-      machine_before : (k : ℕ) (d : CrossingModel) → k < place → k < length old → (get_or (set now place x) k d).machine.value ≡ (get_or old k d).machine.value
-      machine_before k d less inside =
-          let ne : k ≢ place = λ same. omega (arith, less, same) in
-          ap (λ (c : CrossingModel). c.machine.value) (there k d ne) ∙ are.machines k d less inside
 
-      machine_here : (k : ℕ) (d : CrossingModel) → k ≡ place → (get_or (set now place x) k d).machine.value ≡ (get_or old k d).machine.value
-      machine_here k d same = ap (λ (c : CrossingModel). c.machine.value) (here k d same) ∙ machine ∙ sym (ap (λ (c : CrossingModel). c.machine.value) (old_at k d same))
+-- ---- components whose crossings were read on arrival at a tick
 
-      read_before : (k : ℕ) (d : CrossingModel) → k < place → k < length old → IsRead tick (crossing_of (get_or old k d)) (crossing_of (get_or (set now place x) k d))
-      read_before k d less inside =
-          let ne : k ≢ place = λ same. omega (arith, less, same) in
-          subst (λ (c : CrossingModel). IsRead tick (crossing_of (get_or old k d)) (crossing_of c)) (sym (there k d ne)) (are.read k d less inside)
+-- what holds of each condition's crossing holds of all crossings
+pub crossings_timely : {X : Type 0} {g : _} (m : Machine) (tick : ℕ) (parts : Components X g) → AreComponents m parts →
+    ((place : ℕ) → place < length (conditions m) → IsTimely (crossing_at parts place).detector.tick (IsCrossingNext (crossing_at parts place).detector) tick) →
+    All (λ (c : CrossingModel). IsTimely c.detector.tick (IsCrossingNext c.detector) tick) parts.crossings.items
+crossings_timely {X} {g} m tick parts are timely k d h =
+    subst (λ (c : Crossing). IsTimely c.detector.tick (IsCrossingNext c.detector) tick) (get_or-map crossing_of parts.crossings.items k d no_crossing h) (timely k (omega (arith, h, are.crossings)))
 
-      read_here : (k : ℕ) (d : CrossingModel) → k ≡ place → IsRead tick (crossing_of (get_or old k d)) (crossing_of (get_or (set now place x) k d))
-      read_here k d same =
-          subst (λ (c : CrossingModel). IsRead tick (crossing_of (get_or old k d)) (crossing_of c)) (sym (here k d same))
-          (subst (λ (c : CrossingModel). IsRead tick (crossing_of c) (crossing_of x)) (sym (old_at k d same)) read)
+pub crossings_hold : {X : Type 0} {g : _} (m : Machine) (parts : Components X g) → AreComponents m parts → (now : List Bool) → length now ≡ length (conditions m) →
+    ((place : ℕ) → place < length (conditions m) → flag_at now place ≡ compares (crossing_at parts place).detector.rel (crossing_at parts place).detector.value) →
+    now ≡ map (λ (c : CrossingModel). compares c.detector.rel c.detector.value) parts.crossings.items
+crossings_hold {X} {g} m parts are now many held =
+    let holds : CrossingModel → Bool = λ c. compares c.detector.rel c.detector.value in
+    let items : List CrossingModel = parts.crossings.items in
+    same_lists false now (map holds items)
+    (many ∙ sym are.crossings ∙ sym (length-map items holds))
+    (λ k h.
+    let inside : k < length items = omega (arith, h, length-map items holds) in
+    held k (omega (arith, inside, are.crossings))
+    ∙ sym (at_twice crossing_of (λ (c : Crossing). compares c.detector.rel c.detector.value) items k no_crossing false inside))
 
-      later_before : (k n : ℕ) (d : CrossingModel) → k < place → k < length old → IsCrossingNext (get_or (set now place x) k d).detector (Some n) → tick < n
-      later_before k n d less inside is =
-          let ne : k ≢ place = λ same. omega (arith, less, same) in
-          are.later k n d less inside (subst (λ (c : CrossingModel). IsCrossingNext c.detector (Some n)) (there k d ne) is)
+module _ {X : Type 0} {g : _} (m : Machine) (tick : ℕ) (old new : Components X g) (are : AreComponents m old)
+    (same_lines : new.integrators.items ≡ old.integrators.items) (same_functions : new.functions.items ≡ old.functions.items) (same_uses : new.uses ≡ old.uses)
+    (as_many : length new.crossings.items ≡ length old.crossings.items)
+    (read : (k : ℕ) (d : CrossingModel) → k < length old.crossings.items → IsReadAt tick (get_or old.crossings.items k d) (get_or new.crossings.items k d)) where
+  pub read_components : AreComponents m new
+  read_components = record {
+    integrators = ap (λ (l : List (IntegratorModel X g)). length l) same_lines ∙ are.integrators;
+    functions = ap (λ (l : List FunctionModel). length l) same_functions ∙ are.functions;
+    crossings = as_many ∙ are.crossings;
+    own_integrators = rw same_lines are.own_integrators;
+    own_functions = rw same_functions are.own_functions;
+    own_crossings = λ k d h. let inside : k < length old.crossings.items = omega (arith, h, as_many) in (read k d inside).machine ∙ are.own_crossings k d inside;
+    uses = same_uses ∙ are.uses;
+  }
 
-      later_here : (k n : ℕ) (d : CrossingModel) → k ≡ place → IsCrossingNext (get_or (set now place x) k d).detector (Some n) → tick < n
-      later_here k n d same is = later n (subst (λ (c : CrossingModel). IsCrossingNext c.detector (Some n)) (here k d same) is)
+  was_read : (place : ℕ) → place < length (conditions m) → IsRead tick (crossing_at old place) (crossing_at new place)
+  was_read place h =
+      let inside : place < length old.crossings.items = omega (arith, h, are.crossings) in
+      let here : place < length new.crossings.items = omega (arith, inside, as_many) in
+      let d : CrossingModel = some_element old.crossings.items place inside in
+      subst (λ (c : Crossing). IsRead tick c (crossing_at new place)) (sym (get_or-map crossing_of old.crossings.items place d no_crossing inside))
+      (subst (λ (c : Crossing). IsRead tick (crossing_of (get_or old.crossings.items place d)) c) (sym (get_or-map crossing_of new.crossings.items place d no_crossing here)) (read place d inside).read)
+
+  pub read_agree : (v : Values) → Agrees m tick v old → Agrees m tick v new
+  read_agree v a = record {
+    integrators = λ j h. rw same_lines (a.integrators j h);
+    functions = λ j h. rw same_functions (a.functions j h);
+    crossings = λ place h. read_agrees m tick v place (condition_at m place) (crossing_at old place) (crossing_at new place) (was_read place h) (a.crossings place h);
+  }
+
+  pub read_later : CrossingsLater m tick (crossing_at new)
+  read_later place next h is =
+      let inside : place < length old.crossings.items = omega (arith, h, are.crossings) in
+      let here : place < length new.crossings.items = omega (arith, inside, as_many) in
+      let d : CrossingModel = some_element old.crossings.items place inside in
+      (read place d inside).later next (subst (λ (c : Crossing). IsCrossingNext c.detector (Some next)) (get_or-map crossing_of new.crossings.items place d no_crossing here) is)

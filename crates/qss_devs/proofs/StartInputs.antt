@@ -1,56 +1,29 @@
 -- The inputs of a row at the start, variable by variable.
 use Rattle.qss_devs.proofs.Common
-use Common.{[], ℕ, ◌++◌, ◌+◌, ◌-◌, ◌<◌, ◌==◌, ◌||◌, ◌∙◌, ◌∷◌, ◌≡◌, ◌≤◌, ◌⊎◌, All, All-push}
-use Common.{among_rows, ap, AreFirstInputs, AreInputs, AreRisingBelow, arith, Bool, cases_eq}
+use Common.{[], ℕ, ◌++◌, ◌+◌, ◌-◌, ◌<◌, ◌==◌, ◌||◌, ◌∙◌, ◌∷◌, ◌≡◌, ◌≤◌, All, All-push, among_rows}
+use Common.{ap, AreFirstInputs, AreInputs, AreRisingBelow, arith, Bool, cases_Bool, cases_eq}
 use Common.{cases_lt, discrete_count, EachAt, Entry, eqb-no, eqb-yes, false, FunctionInput, get_or}
-use Common.{get_or-map, get_or_append_left, get_or_default, if-false, if-true, if◌then◌else◌, inl}
-use Common.{input_discretes, input_levels, inr, int_at, is_listed, IsWithin, IsWritten, length}
-use Common.{List, list_any, Machine, nat_lt, nat_tests, no_row, not_before, pos, read_levels}
+use Common.{get_or-map, get_or_append_left, get_or_default, if◌then◌else◌, inl, inr, is_listed}
+use Common.{IsWithin, IsWritten, length, List, Machine, nat_lt, nat_tests, no_row, not_before, pos}
 use Common.{reading_numbers, reading_rows, refl, row_at, row_coefficient, row_reads, set}
-use Common.{start_values, state_count, subst, sym, take, true, written_more}
-use Rattle.std.proofs.lemmas.Bool.{cases_Bool}
+use Common.{start_values, state_count, subst, sym, take, true}
+use Rattle.qss_components.specs.FunctionInputs.{input_discretes, input_levels, input_vars}
+use Rattle.qss_components.specs.FunctionInputs.{input_value}
+use Rattle.qss_devs.specs.Starts.{read_levels, read_discretes, level_or_value}
+use Rattle.mu_num.proofs.Writes.{written_more, among_push, among_at, index_of}
+use Rattle.std.proofs.lemmas.Bool.{or_from, or_right}
+use Rattle.std.proofs.lemmas.List.Folds.{list_any_none}
 use Rattle.std.proofs.lemmas.List.{get_or_push, length_push, map_push}
-use Rattle.std.proofs.lemmas.List.Elements.{All-head, All-tail}
 use Rattle.std.specs.List.Sorted.{IsStrictlyIncreasing}
 use Rattle.mu_num.proofs.Tables.{tabulate-same}
-use Rattle.mu_num.proofs.Writes.{among_push, among_at, index_of}
 use Rattle.qss_machine.specs.declared.machine_parts.Product.{Product}
 use Rattle.qss_machine.specs.MachineLimits.{IsRow}
-use Rattle.qss_machine.specs.Readers.{has_entry}
 use Rattle.qss_machine.proofs.Distinct.{coefficient_small}
-use Rattle.qss_components.specs.FunctionInputs.{input_vars, input_value}
 use Rattle.qss_components.proofs.InputPlaces.{no_input, input_place, others, vars_many}
 use Rattle.qss_components.proofs.InputValues.{value_at, no_value}
-use Rattle.qss_devs.specs.Starts.{read_discretes, level_or_value}
 use Rattle.qss_devs.proofs.Begun.{level_small, discrete_small}
 
 -- ---- variables that no row reads
-
-no_entry : (entries : List Entry) (var count : ℕ) → All (λ entry. entry.var < count) entries → count
-    ≤ var → has_entry var entries ≡ false
-no_entry [] var count known past = refl
-no_entry (entry ∷ entries) var count known past =
-    let low : entry.var < count = All-head (λ (entry : Entry). entry.var < count) entry entries
-    known in
-    ap (λ b. b || has_entry var entries) (eqb-no entry.var var (λ e. omega (arith, e, low, past)))
-    ∙ no_entry entries var count (All-tail (λ (entry : Entry). entry.var < count) entry entries
-    known) past
-
-abbrev is_of : ℕ → Product → Bool
-is_of var product = product.state == var || product.discrete == var
-
-no_product : (products : List Product) (var count : ℕ) → All (λ product. (product.state < count) ×
-    (product.discrete < count)) products → count ≤ var → list_any (is_of var) products ≡ false
-no_product [] var count known past = refl
-no_product (product ∷ products) var count known past =
-    let low = All-head (λ (product : Product). (product.state < count) × (product.discrete < count))
-    product products known in
-    ap (λ b. (b || product.discrete == var) || list_any (is_of var) products)
-    (eqb-no product.state var (λ e. omega (arith, e, low.0, past)))
-    ∙ ap (λ b. b || list_any (is_of var) products) (eqb-no product.discrete var
-    (λ e. omega (arith, e, low.1, past)))
-    ∙ no_product products var count (All-tail (λ (product : Product). (product.state < count) ×
-    (product.discrete < count)) product products known) past
 
 module _ (m : Machine) (j : ℕ) (h : j < state_count m) where
   is_row : IsRow (state_count m) (discrete_count m) (row_at m j)
@@ -60,44 +33,31 @@ module _ (m : Machine) (j : ℕ) (h : j < state_count m) where
   coefficient_within var = coefficient_small (row_at m j).entries var is_row.entries.rising
       is_row.coefficients
 
-  unread_past : (var : ℕ) → state_count m + discrete_count m ≤ var → row_reads var (row_at m j) ≡
-      false
-  unread_past var past =
-      let count : ℕ = state_count m + discrete_count m in
-      ap (λ b. b || list_any (is_of var) (row_at m j).products)
-      (no_entry (row_at m j).entries var count is_row.entries.known past)
-      ∙ no_product (row_at m j).products var count
-      (λ k d within. (
-        omega (arith, is_row.products.of_states k d within),
-        (is_row.products.of_discretes k d within).1,
-      )) past
+  unread_past : (var : ℕ) → state_count m + discrete_count m ≤ var →
+      row_reads var (row_at m j) ≡ false
+  unread_past var past = or_from _ _
+      (list_any_none (λ (entry : Entry). entry.var == var) (row_at m j).entries
+      (λ k d within. eqb-no _ var (λ e. omega (arith, e, is_row.entries.known k d within, past))))
+      (list_any_none (λ (product : Product). product.state == var || product.discrete == var)
+      (row_at m j).products (λ k d within. or_from _ _
+      (eqb-no _ var (λ e. omega (arith, e, is_row.products.of_states k d within, past)))
+      (eqb-no _ var (λ e. omega (arith, e, (is_row.products.of_discretes k d within).1, past)))))
 
 -- ---- one more variable
 
 rising_push : (found : List ℕ) (number : ℕ) → IsStrictlyIncreasing found → All (λ j. j < number)
     found → IsStrictlyIncreasing (found ++ number ∷ [])
-rising_push found number rising beyond k h = by_last (cases_lt (k + 1) (length found))
-  where
-    inside : k < length found
-    inside = omega (arith, h, length_push found number)
-
-    by_last : (k + 1 < length found) ⊎ (length found ≤ k + 1) → get_or (found ++ number ∷ []) k 0 <
-        get_or (found ++ number ∷ []) (k + 1) 0
-    by_last (inl less) = omega (
-      arith,
-      get_or_append_left found (number ∷ []) 0 k inside,
-      get_or_append_left found (number ∷ []) 0 (k + 1) less,
-      rising k less,
-    )
-    by_last (inr last) =
-        let many : length found ≡ k + 1 = omega (arith, last, inside) in
-        omega (
-          arith,
-          get_or_append_left found (number ∷ []) 0 k inside,
-          get_or_push found number 0
-              (k + 1) many,
-          beyond k 0 inside,
-        )
+rising_push found number rising beyond k h =
+    let inside : k < length found = omega (arith, h, length_push found number) in
+    elim (cases_lt (k + 1) (length found)) [
+      | inl less ↦
+          rw (get_or_append_left found (number ∷ []) 0 k, get_or_append_left found (number ∷ []) 0 (k + 1))
+          (rising k less)
+      | inr last ↦
+          let many : length found ≡ k + 1 = omega (arith, last, inside) in
+          rw (get_or_append_left found (number ∷ []) 0 k, get_or_push found number 0 (k + 1) many)
+          (beyond k 0 inside)
+    ]
 
 -- a number past all others is not listed
 unlisted_past : (numbers : List ℕ) (past number : ℕ) → All (λ j. j < past) numbers → past ≤ number →
@@ -158,14 +118,11 @@ module _ (m : Machine) (past j : ℕ) (inputs : List FunctionInput)
     }
       where
         listed : (a b : Bool) → b ≡ true → (a || (b || false)) ≡ true
-        listed true b e = refl
-        listed false true e = refl
-        listed false false e = absurd (cc)
+        listed a b e = rw e (or_right a true refl)
 
         unlisted : (a b : Bool) → b ≡ false → (a || (b || false)) ≡ a
         unlisted true b e = refl
-        unlisted false false e = refl
-        unlisted false true e = absurd (cc)
+        unlisted false b e = rw e
 
 pub first_none : (m : Machine) (j : ℕ) → AreFirstInputs m 0 j []
 first_none m j = record {
@@ -185,12 +142,10 @@ module _ (m : Machine) (j : ℕ) (h : j < state_count m) (inputs : List Function
   value_within var known = elim (cases_lt var (state_count m)) [
     | inl low ↦
         let yes : nat_lt var (state_count m) ≡ true = grind (arith, nat_tests) in
-        subst (IsWithin 43) (sym (if-true (nat_lt var (state_count m)) _ _ yes))
-        (level_small m var low)
+        rw yes (level_small m var low)
     | inr high ↦
         let no : nat_lt var (state_count m) ≡ false = grind (arith, nat_tests) in
-        subst (IsWithin 43) (sym (if-false (nat_lt var (state_count m)) _ _ no))
-        (discrete_small m (var - state_count m) (omega (arith, high, known)))
+        rw no (discrete_small m (var - state_count m) (omega (arith, high, known)))
   ]
 
   all_reads : (var : ℕ) → is_listed (input_vars inputs) var ≡ row_reads var (row_at m j)
@@ -220,33 +175,26 @@ module _ (m : Machine) (j : ℕ) (h : j < state_count m) (inputs : List Function
   value_of var = elim (cases_Bool (is_listed (input_vars inputs) var)) [
     | inl listed ↦
         let found = input_place inputs var listed in
-        value_at inputs var found.0 no_input are.rising found.1 (found.2 no_input)
+        let reads : row_reads var (row_at m j) ≡ true = sym (all_reads var) ∙ listed in
+        rw reads
+        (value_at inputs var found.0 no_input are.rising found.1 (found.2 no_input)
         ∙ are.values found.0 no_input found.1
-        ∙ ap (level_or_value m (start_values m)) (found.2 no_input)
-        ∙ sym (if-true (row_reads var (row_at m j)) _ (pos 0) (sym (all_reads var) ∙ listed))
-    | inr other ↦ no_value inputs var (others inputs var other) ∙ sym
-        (if-false (row_reads var (row_at m j)) (level_or_value m (start_values m) var) (pos 0)
-        (sym (all_reads var) ∙ other))
+        ∙ ap (level_or_value m (start_values m)) (found.2 no_input))
+    | inr other ↦
+        let unread : row_reads var (row_at m j) ≡ false = sym (all_reads var) ∙ other in
+        rw unread (no_value inputs var (others inputs var other))
   ]
 
   pub all_levels : input_levels m inputs ≡ read_levels m j (start_values m).levels
-  all_levels = tabulate-same (pos 0) (state_count m) (input_value inputs)
-      (λ i. if row_reads i (row_at m j) then int_at (start_values m).levels i else pos 0) (λ i low.
+  all_levels = tabulate-same (pos 0) (state_count m) _ _ (λ i low.
       let yes : nat_lt i (state_count m) ≡ true = grind (arith, nat_tests) in
-      value_of i ∙ ap (λ z. if row_reads i (row_at m j) then z else pos 0)
-      (if-true (nat_lt i (state_count m)) _ _ yes))
+      value_of i ∙ rw yes)
 
   pub all_discretes : input_discretes m inputs ≡ read_discretes m j (start_values m).discretes
-  all_discretes =
-      tabulate-same (pos 0) (discrete_count m) (λ g. input_value inputs (state_count m + g))
-      (λ g. if row_reads (state_count m + g) (row_at m j) then int_at (start_values m).discretes
-      g else pos 0) (λ g low.
+  all_discretes = tabulate-same (pos 0) (discrete_count m) _ _ (λ g low.
       let no : nat_lt (state_count m + g) (state_count m) ≡ false = grind (arith, nat_tests) in
       let there : state_count m + g - state_count m ≡ g = omega arith in
-      value_of (state_count m + g)
-      ∙ ap (λ z. if row_reads (state_count m + g) (row_at m j) then z else pos 0)
-      (if-false (nat_lt (state_count m + g) (state_count m)) _ _ no ∙ ap
-      (int_at (start_values m).discretes) there))
+      value_of (state_count m + g) ∙ rw (no, there))
 
 -- ---- the rows that read a variable
 
@@ -267,10 +215,10 @@ module _ (m : Machine) (var : ℕ) (rows : List ℕ) (are : rows ≡ reading_row
       let known : at < state_count m = numbers.below k 0 inside in
       let same : get_or now at [] ≡ get_or old at [] = written.others at
       (not_before rows k numbers.rising inside) in
-      let here : AreFirstInputs m var at (get_or now at []) = subst (AreFirstInputs m var at)
-      (sym same) (before at [] (omega (arith, known, many, written.as_many))) in
-      let reads : row_reads var (row_at m at) ≡ true = sym (among_rows m var at known) ∙ ap
-      (λ rs. is_listed rs at) (sym are) ∙ among_at rows k inside in
+      let here : AreFirstInputs m var at (get_or now at []) =
+      rw same (before at [] (omega (arith, known, many, written.as_many))) in
+      let reads : row_reads var (row_at m at) ≡ true =
+      sym (among_rows m var at known) ∙ rw (← are) (among_at rows k inside) in
       written_more [] (AreFirstInputs m (var + 1)) rows old now k (get_or now at [] ++ input ∷ [])
       inside (omega (arith, known, many)) written
       (first_read m var at (get_or now at []) here input is_var reads own value)

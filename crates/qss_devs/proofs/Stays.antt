@@ -1,29 +1,38 @@
--- A crossing holds up to its next transition as at its own tick.
+-- A test up to its next change is as at its first tick; so is a crossing's up to its transition.
 use Rattle.qss_devs.proofs.Common
-use Common.{ℕ, ◌+◌, ◌-◌, ◌<◌, ◌∙◌, ◌≡◌, ◌≢◌, ◌≤◌, ap, arith, cases_lt, compares, DetectorView}
+use Common.{ℕ, ◌+◌, ◌-◌, ◌<◌, ◌∙◌, ◌≡◌, ◌≢◌, ◌≤◌, ap, arith, Bool, cases_lt, compares, DetectorView}
 use Common.{holds_at, inl, inr, IsCrossingNext, IsFirstAfter, no_ticks, Some, suc, tick_limit, zero}
 use Rattle.qss_events.proofs.Silence.{same_flag}
 
-module _ (w : DetectorView) (tick : ℕ) (early : w.tick ≤ tick) (in_time : tick ≤ tick_limit) (later : (next : ℕ) → IsCrossingNext w (Some next) → tick < next) where
-  holds_through : (n k : ℕ) → k ≤ n → w.tick + n ≤ tick → holds_at w (w.tick + k) ≡ compares w.rel w.value
-  holds_through zero k le below =
-      let z : w.tick + k ≡ w.tick = omega (arith, le) in
-      ap (holds_at w) z ∙ ap (compares w.rel) (no_ticks w.value w.speed w.tick)
-  holds_through (suc n) k le below = elim (cases_lt k (suc n)) [
-    | inl less ↦ holds_through n k (omega (arith, less)) (omega (arith, below))
-    | inr past ↦ let same : w.tick + k ≡ w.tick + suc n = omega (arith, past, le) in ap (holds_at w) same ∙ last (λ i less reach. holds_through n i less reach)
+-- a test that changes only after a tick has its first result up to that tick
+module _ (test : ℕ → Bool) (own : Bool) (from to : ℕ) (in_time : to ≤ tick_limit)
+    (here : test from ≡ own)
+    (later : (next : ℕ) → IsFirstAfter (λ t. test t ≢ own) from next → to < next) where
+  same_through : (n k : ℕ) → k ≤ n → from + n ≤ to → test (from + k) ≡ own
+  same_through zero k le below = let z : from + k ≡ from = omega (arith, le) in ap test z ∙ here
+  same_through (suc n) k le below = elim (cases_lt k (suc n)) [
+    | inl less ↦ same_through n k (omega (arith, less)) (omega (arith, below))
+    | inr past ↦
+        let same : from + k ≡ from + suc n = omega (arith, past, le) in
+        ap test same ∙ last (λ i less reach. same_through n i less reach)
   ]
     where
-      last : ((i : ℕ) → i ≤ n → w.tick + n ≤ tick → holds_at w (w.tick + i) ≡ compares w.rel w.value) → holds_at w (w.tick + suc n) ≡ compares w.rel w.value
-      last sooner = same_flag (holds_at w (w.tick + suc n)) (compares w.rel w.value) (λ ne.
-          let stays : (u : ℕ) → w.tick < u → u < w.tick + suc n → ¬ (holds_at w u ≢ compares w.rel w.value) = λ u after before change.
-          let place : u ≡ w.tick + (u - w.tick) = omega (arith, after) in
-          change (ap (holds_at w) place ∙ sooner (u - w.tick) (omega (arith, before, after)) (omega (arith, below))) in
-          let first : IsFirstAfter (λ t. holds_at w t ≢ compares w.rel w.value) w.tick (w.tick + suc n) =
+      last : ((i : ℕ) → i ≤ n → from + n ≤ to → test (from + i) ≡ own) → test (from + suc n) ≡ own
+      last sooner = same_flag (test (from + suc n)) own (λ ne.
+          let stays : (u : ℕ) → from < u → u < from + suc n → ¬ (test u ≢ own) = λ u after before change.
+          let place : u ≡ from + (u - from) = omega (arith, after) in
+          change (ap test place ∙ sooner (u - from) (omega (arith, before, after)) (omega (arith, below))) in
+          let first : IsFirstAfter (λ t. test t ≢ own) from (from + suc n) =
           record { later = omega arith; in_time = omega (arith, below, in_time); holds = ne; first = stays } in
-          omega (arith, later (w.tick + suc n) first, below))
+          omega (arith, later (from + suc n) first, below))
 
-  pub holds_still : holds_at w tick ≡ compares w.rel w.value
-  holds_still =
-      let same : tick ≡ w.tick + (tick - w.tick) = omega (arith, early) in
-      ap (holds_at w) same ∙ holds_through (tick - w.tick) (tick - w.tick) (omega arith) (omega (arith, early))
+  pub same_up_to : from ≤ to → test to ≡ own
+  same_up_to early =
+      let same : to ≡ from + (to - from) = omega (arith, early) in
+      ap test same ∙ same_through (to - from) (to - from) (omega arith) (omega (arith, early))
+
+pub holds_still : (w : DetectorView) (tick : ℕ) → w.tick ≤ tick → tick ≤ tick_limit →
+    ((next : ℕ) → IsCrossingNext w (Some next) → tick < next) → holds_at w tick ≡ compares w.rel w.value
+holds_still w tick early in_time later =
+    same_up_to (holds_at w) (compares w.rel w.value) w.tick tick in_time
+    (ap (compares w.rel) (no_ticks w.value w.speed w.tick)) later early

@@ -1,29 +1,82 @@
--- The store after the components made the transitions of a tick.
+-- What a tick leaves, from its handlers, the levels that were taken and the slopes that were sent.
 use Rattle.qss_devs.proofs.Common
-use Common.{ℕ, ℤ, ◌++◌, ◌<◌, ◌∙◌, ◌≡◌, Agrees, all_within, AllLinesLater, ap, AreComponents}
-use Common.{AreReady, AreSent, AreTaken, AreValues, AreWithinQuanta, arith, arrived_values, Bool}
-use Common.{compares, Components, ComponentsRepresent, crossing_at, CrossingModel, CrossingsLater}
-use Common.{discrete_count, Err, exceeds_row_limits, first_exceeding, FitsMachine}
-use Common.{function_state_at, HasEach, int_at, int_at-tabulate, IsAfterHandlers, IsAllowedLevel}
-use Common.{IsStep, IsWithin, length, length-map-range_with_len, levels_of, line_at, List, Machine}
-use Common.{map, moved_states, None, Ok, Option, pos, position, Row, row_is_light, Rule, slope_at}
-use Common.{Snapshot, snapshot_of, Some, state_count, states_at, Store, StoreRepresents, subst, sym}
-use Common.{tabulate, tick_rows, truths, Values, values_after_rows}
-use Rattle.qss_hand.specs.Values.{Values as Kept}
+use Common.{ℕ, ℤ, ◌++◌, ◌<◌, ◌∙◌, ◌≡◌, ◌≤◌, Agrees, all_within, AllLinesLater, ap, AreComponents}
+use Common.{AreNextLevels, AreReady, AreSent, AreTaken, AreValues, AreWithinQuanta, arith}
+use Common.{arrived_values, Bool, compares, Components, ComponentsRepresent, Crossing, crossing_at}
+use Common.{crossing_of, CrossingModel, crossings_tell, CrossingsLater, discrete_count, Err}
+use Common.{exceeds_row_limits, false, firing_flags, first_exceeding, FitsMachine}
+use Common.{function_state_at, handlers_at, HandlerState, HasEach, int_at, int_at-tabulate}
+use Common.{IntegratorModel, IsAfterHandlers, IsAllowedLevel, IsStep, IsWithin, length, length-map}
+use Common.{length-map-range_with_len, levels_of, Line, line_at, List, Machine, map, moved_states}
+use Common.{no_crossing, no_line, None, Option, option_or, pos, position, Result, Row, Rule}
+use Common.{same_lists, slope_at, slopes_of, Snapshot, snapshot_of, snapshot_unless, Some, state_at}
+use Common.{state_count, states_at, Store, StoreRepresents, subst, sym, tabulate, tick_limit}
+use Common.{tick_rows, truths, truths_are, Values, values_after_rows}
+use Rattle.std.specs.Prelude.{Ok}
+use Rattle.qss_events.proofs.LightRows.{row_is_light}
 use Rattle.mu_num.proofs.Tests.{int_lt-yes}
 use Rattle.qss_machine.specs.Runs.{level_rows}
 use Rattle.qss_events.proofs.NextLevels.{next_is_near}
 use Rattle.qss_components.proofs.Sent.{settled_stand}
-use Rattle.qss_devs.proofs.Followed.{handled_values, values_after_handlers, handled_fit, step_level}
-use Rattle.qss_devs.proofs.Followed.{step_slope, step_done, states_are, levels_are, settled_are}
+use Rattle.qss_components.proofs.RowsTold.{rows_tell_handlers}
+use Rattle.qss_devs.proofs.Lists.{at_twice}
+use Rattle.qss_devs.proofs.Stays.{holds_still}
+
+module _ (m : Machine) (tick : ℕ) (w : Snapshot) where
+  abbrev handlers : HandlerState
+  handlers = handlers_at m tick w
+
+  -- the values after the handlers, which their rows list
+  abbrev pub handled_values : Values
+  handled_values = record { states = handlers.states; slopes = slopes_of m w; levels = w.levels; discretes = handlers.discretes }
+
+  module _ (name : Option Rule) (none : handlers.overflow ≡ None) (levels : List ℤ) (allowed : AreNextLevels (IsAllowedLevel name) m handlers.states w.levels levels) where
+    abbrev next : Snapshot
+    next = record { states = handlers.states; levels = levels; discretes = handlers.discretes; at_arrival = truths m (moved_states m w) w.discretes tick; after_handlers = truths m handlers.states handlers.discretes tick }
+
+    -- the tick has the result that the first variable past its limit says
+    pub step_is : (result : Result Snapshot ℕ) → result ≡ snapshot_unless (option_or (first_exceeding 43 levels) (position (exceeds_row_limits m levels handlers.discretes) m.rows)) next → IsStep (IsAllowedLevel name) m tick w result
+    step_is result e = (levels, (λ q. allowed), e ∙ rw none)
+
+-- ---- the states and levels of components that agree with values
+
+module _ {X : Type 0} {g : _} (m : Machine) (tick : ℕ) (v : Values) (parts : Components X g) (are : AreComponents m parts) (a : Agrees m tick v parts) where
+  by_line : (f : Line → ℤ) (zs : List ℤ) → length zs ≡ state_count m → ((j : ℕ) → j < state_count m → f (line_at parts j) ≡ int_at zs j) → map (λ (i : IntegratorModel X g). f i.line) parts.integrators.items ≡ zs
+  by_line f zs many each =
+      let items : List (IntegratorModel X g) = parts.integrators.items in
+      same_lists (pos 0) (map (λ (i : IntegratorModel X g). f i.line) items) zs
+      (length-map items (λ (i : IntegratorModel X g). f i.line) ∙ are.integrators ∙ sym many)
+      (λ k inside.
+      let here : k < state_count m = omega (arith, inside, many) in
+      at_twice (λ (i : IntegratorModel X g). i.line) f items k no_line (pos 0)
+      (omega (arith, here, are.integrators)) ∙ each k here)
+
+  pub states_are : length v.states ≡ state_count m → states_at tick parts ≡ v.states
+  states_are many = by_line (λ line. state_at line tick) v.states many (λ j here. (a.integrators j here).here)
+
+  pub component_levels : length v.levels ≡ state_count m → levels_of parts ≡ v.levels
+  component_levels many = by_line (λ line. line.level) v.levels many (λ j here. (a.integrators j here).own_level)
+
+-- ---- the conditions after the handlers
+
+-- they hold as the crossings say that change only later
+pub settled_are : {X : Type 0} {g : _} (m : Machine) (tick : ℕ) (w : Snapshot) (parts : Components X g) → AreComponents m parts → tick ≤ tick_limit → length w.states ≡ state_count m → length w.discretes ≡ discrete_count m →
+    ComponentsRepresent m tick w (line_at parts) (function_state_at parts) (crossing_at parts) → CrossingsLater m tick (crossing_at parts) →
+    map (λ (c : CrossingModel). compares c.detector.rel c.detector.value) parts.crossings.items ≡ truths m w.states w.discretes tick
+settled_are {X} {g} m tick w parts are in_time states discretes stand later =
+    let items : List CrossingModel = parts.crossings.items in
+    truths_are m w.states w.discretes tick (map (λ (c : CrossingModel). compares c.detector.rel c.detector.value) items)
+    (length-map items (λ (c : CrossingModel). compares c.detector.rel c.detector.value) ∙ are.crossings)
+    (λ k here.
+    at_twice crossing_of (λ (c : Crossing). compares c.detector.rel c.detector.value) items k no_crossing false (omega (arith, here, are.crossings))
+    ∙ sym (holds_still (crossing_at parts k).detector tick (stand.agree.crossings k here).not_later in_time (λ next found. later k next here found))
+    ∙ crossings_tell m tick k w (line_at parts) (function_state_at parts) (crossing_at parts) states discretes here stand)
+
+-- ---- the store after the components made the transitions of a tick
 
 abbrev snapshot : List ℤ → List ℤ → List ℤ → List Bool → List Bool → Snapshot
 snapshot a b d e f =
     record { states = a; levels = b; discretes = d; at_arrival = e; after_handlers = f }
-
-same_snapshot : {a x b y d z : List ℤ} {e u f v : List Bool} → a ≡ x → b ≡ y → d ≡ z → e ≡ u →
-    f ≡ v → snapshot a b d e f ≡ snapshot x y z u v
-same_snapshot p q r s t = cc
 
 module _ {X : Type 0} {g : _} {m : Machine} {name : Option Rule} {tick : ℕ} {w : Snapshot}
     {s : Store X g} (h : IsAfterHandlers m name tick w s) where
@@ -37,22 +90,34 @@ module _ {X : Type 0} {g : _} {m : Machine} {name : Option Rule} {tick : ℕ} {w
   discretes_many = ap length (sym h.discretes) ∙ h.fits.values.discretes
 
   pub handled_fits : AreValues m handled
-  handled_fits = handled_fit m tick w h.left states_many discretes_many
+  handled_fits = record {
+    each = record {
+      states = states_many;
+      slopes = length-map-range_with_len (λ j. slope_at m j w.levels w.discretes) 0 (state_count m);
+      levels = h.left.one_each;
+      discretes = discretes_many;
+    };
+    small = h.left.small_levels;
+    slow = λ j inside.
+        rw (int_at-tabulate (state_count m) (λ j. slope_at m j w.levels w.discretes) j inside)
+        (row_is_light m w.levels w.discretes h.left.light j inside).slope;
+  }
 
   -- components that received the assignments of handlers agree with the values after the handlers
   pub handled_agree : (parts : Components X g) → ((v : Values) → HasEach m v → Agrees m tick v s.parts
       → Agrees m tick (values_after_rows m v s.work.log) parts) → Agrees m tick handled parts
   handled_agree parts received =
+      let told = rows_tell_handlers m tick (arrived_values m w) (first_exceeding 88 (moved_states m w)) (firing_flags (truths m (moved_states m w) w.discretes tick) w.at_arrival w.after_handlers) in
       subst (λ (v : Values). Agrees m tick v parts)
-      (ap (values_after_rows m (arrived_values m w)) h.log ∙ values_after_handlers m tick w)
+      (ap (values_after_rows m (arrived_values m w)) h.log ∙ told)
       (received (arrived_values m w) h.each h.agree)
 
   module _ {leveled : Components X g} {before after : List Row} {over : Option ℕ}
       (taken : AreTaken m name tick handled leveled before after over) where
     pub levels_step : (var : ℕ) → over ≡ Some var → IsStep (IsAllowedLevel name) m tick w (Err var)
     levels_step var is =
-        step_level m tick w name h.none_over taken.levels taken.allowed var
-        (sym is ∙ taken.own_over)
+        step_is m tick w name h.none_over taken.levels taken.allowed (Err var)
+        (rw (sym taken.own_over, is))
 
     module _ (none : over ≡ None) where
       small : first_exceeding 43 taken.levels ≡ None
@@ -65,9 +130,6 @@ module _ {X : Type 0} {g : _} {m : Machine} {name : Option Rule} {tick : ℕ} {w
         levels = taken.levels;
         discretes = handled.discretes;
       }
-
-      pub taken_agree : Agrees m tick taken_values leveled
-      taken_agree = taken.agree none
 
       pub taken_fits : AreValues m taken_values
       taken_fits = record {
@@ -93,8 +155,8 @@ module _ {X : Type 0} {g : _} {m : Machine} {name : Option Rule} {tick : ℕ} {w
         pub slopes_step : (var : ℕ) → heavy ≡ Some var →
             IsStep (IsAllowedLevel name) m tick w (Err var)
         slopes_step var is =
-            step_slope m tick w name h.none_over taken.levels taken.allowed var (sym small)
-            (sym is ∙ sent.own_over)
+            step_is m tick w name h.none_over taken.levels taken.allowed (Err var)
+            (rw (small, sym sent.own_over, is))
 
 -- a tick that ended: its step, its rows, and the store after it
 pub record EndsTick {X : Type 0} {g : _} (m : Machine) (name : Option Rule) (tick : ℕ) (w : Snapshot)
@@ -108,8 +170,7 @@ pub ends_tick : {X : Type 0} {g : _} (m : Machine) (name : Option Rule) (tick : 
     (before after : List Row) (over heavy : Option ℕ) →
     AreTaken m name tick (handled_values m tick w) leveled before after over → over ≡ None →
     ((v : Values) → AreValues m v → Agrees m tick v leveled → AreSent m tick v parts heavy) →
-    heavy ≡ None → AreComponents m parts →
-    AreReady m tick (line_at parts) (function_state_at parts) (crossing_at parts) →
+    heavy ≡ None → AreReady m tick parts →
     ((v : Values) → AreValues m v → Agrees m tick v leveled → AreWithinQuanta m v →
     AllLinesLater m tick (line_at parts)) →
     next.parts ≡ parts → next.work ≡ s.work →
@@ -118,7 +179,7 @@ pub ends_tick : {X : Type 0} {g : _} (m : Machine) (name : Option Rule) (tick : 
     ≡ map (λ (c : CrossingModel). compares c.detector.rel c.detector.value) parts.crossings.items →
     before ≡ s.work.log → FitsMachine m name next → EndsTick m name tick w next after
 ends_tick {X} {g} m name tick w s next h leveled parts before after over heavy taken none sends light
-    are ready later of_parts of_work arrived settled of_log fits =
+    ready later of_parts of_work arrived settled of_log fits =
     let x : List ℤ = (handled h).states in
     let d : List ℤ = (handled h).discretes in
     let levels : List ℤ = taken.levels in
@@ -128,7 +189,7 @@ ends_tick {X} {g} m name tick w s next h leveled parts before after over heavy t
     let last : Snapshot =
     snapshot x levels d (truths m (moved_states m w) w.discretes tick) (truths m x d tick) in
     let of_values = taken_fits h taken none in
-    let leveled_agree = taken_agree h taken none in
+    let leveled_agree = taken.agree none in
     let sent = sends (taken_values h taken none) of_values leveled_agree in
     let agree : Agrees m tick v parts = sent.agree light in
     let each : HasEach m v = record {
@@ -149,19 +210,19 @@ ends_tick {X} {g} m name tick w s next h leveled parts before after over heavy t
     agree (sent.sent light) slow).0 in
     let crossings : CrossingsLater m tick (crossing_at parts) =
     λ place n inside found. (ready.crossings place inside).later n found in
-    let states : states_at tick parts ≡ x = states_are m tick v parts are agree each.states in
+    let states : states_at tick parts ≡ x = states_are m tick v parts ready.parts agree each.states in
     let truths_are : next.truths.after_handlers.items ≡ truths m x d tick =
     settled
-    ∙ settled_are m tick last parts are (omega (arith, ready.in_time)) each.states each.discretes
+    ∙ settled_are m tick last parts ready.parts (omega (arith, ready.in_time)) each.states each.discretes
     stand crossings in
+    let levels_of_parts = component_levels m tick v parts ready.parts agree each.levels in
+    let arrival = arrived ∙ h.current in
     let is : snapshot_of tick next ≡ last =
-    same_snapshot (ap (states_at tick) of_parts ∙ states)
-    (ap levels_of of_parts ∙ levels_are m tick v parts are agree each.levels)
-    (ap (λ (u : Kept). u.d) of_work ∙ h.discretes) (arrived ∙ h.current) truths_are in
+    rw (of_parts, of_work, states, levels_of_parts, h.discretes, arrival, truths_are) in
     record {
       step =
-          step_done m tick w name h.none_over levels taken.allowed (snapshot_of tick next) is (sym small)
-          (sym none_heavy);
+          step_is m tick w name h.none_over levels taken.allowed (Ok (snapshot_of tick next))
+          (ap (λ (u : Snapshot). Ok u) is ∙ rw (small, none_heavy));
       rows_are =
           taken.rows none
           ∙ ap (λ (l : List Row). l ++ level_rows tick w.levels levels x) (of_log ∙ h.log)
@@ -175,9 +236,7 @@ ends_tick {X} {g} m name tick w s next h leveled parts before after over heavy t
           light = none_heavy;
         });
         after_handlers =
-            let a : (snapshot_of tick next).states ≡ x = ap (λ (u : Snapshot). u.states) is in
-            let b : next.work.d ≡ d = ap (λ (u : Snapshot). u.discretes) is in
-            rw (a, b) truths_are;
+            rw (of_parts, of_work, states, h.discretes) truths_are;
         lines = rw of_parts (later (taken_values h taken none) of_values leveled_agree (taken_near h taken none));
         crossings = rw of_parts crossings;
       };

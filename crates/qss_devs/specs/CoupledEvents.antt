@@ -1,4 +1,4 @@
--- The data of a coupled model, and the snapshot that it represents.
+-- The data of a coupled model, the snapshot that it represents, and its view as the state of a run.
 use Rattle.std.specs.Prelude.{◌≡◌, ℕ, ◌+◌, ◌<◌, ◌≤◌, List, length, map, All, ℤ, Option, Some, None}
 use Rattle.std.specs.Prelude.{vec_capacity}
 use Rattle.qss_machine.specs.declared.compiled_machine.Machine.{Machine}
@@ -10,6 +10,8 @@ use Rattle.qss_quant.specs.IntegratorLines.{state_at}
 use Rattle.qss_hand.specs.Works.{AreValuesOf, row_room}
 use Rattle.qss_events.specs.EventFreeTicks.{MayFollowTick}
 use Rattle.qss_events.specs.Schedules.{slopes_of}
+use Rattle.qss_events.specs.RunViews.{RunView}
+use Rattle.qss_events.specs.declared.event_outcome.Outcome.{Outcome}
 use Rattle.qss_components.specs.Crossings.{Crossing, IsCrossingNext}
 use Rattle.qss_components.specs.Agreement.{Values, HasEach, ComponentsRepresent}
 use Rattle.qss_devs.specs.declared.coupled_messages.Components.{Components}
@@ -70,7 +72,7 @@ pub record IsAfterHandlers {X : Type 0} {g : _} (m : Machine) (name : Option Rul
   pub fits : FitsMachine m name s
   pub left : MayFollowTick m w
   pub each : HasEach m (arrived_values m w)
-  pub ready : AreReady m tick (line_at s.parts) (function_state_at s.parts) (crossing_at s.parts)
+  pub ready : AreReady m tick s.parts
   pub agree : Agrees m tick (arrived_values m w) s.parts
   pub none_over : (handlers_at m tick w).overflow ≡ None
   pub states : s.work.x ≡ (handlers_at m tick w).states
@@ -79,3 +81,7 @@ pub record IsAfterHandlers {X : Type 0} {g : _} (m : Machine) (name : Option Rul
   pub messages : All (IsMessageOfRow m) s.work.log
   pub count : length s.work.log ≤ row_room m.clauses
   pub current : s.truths.current.items ≡ truths m (moved_states m w) w.discretes tick
+
+-- the view of a store at a tick
+abbrev pub view_of : {X : Type 0} {g : _} → Machine → ℕ → Store X g → Option Outcome → RunView
+view_of {X} {g} m tick s end = record { machine = m; tick = tick; snapshot = snapshot_of tick s; rows = s.rows.items; end = end }

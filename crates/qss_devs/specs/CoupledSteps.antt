@@ -5,7 +5,6 @@ use Rattle.std.specs.List.{range_with_len}
 use Rattle.std.specs.Ordering.{int_eq}
 use Rattle.mu_num.specs.Sizes.{exceeds}
 use Rattle.qss_machine.specs.declared.machine_parts.Row.{Row}
-use Rattle.qss_machine.specs.declared.machine_parts.RowKind.{RowKind}
 use Rattle.qss_machine.specs.declared.machine_parts.RowKind.TheVariants as kind
 use Rattle.qss_machine.specs.declared.compiled_machine.Machine.{Machine}
 use Rattle.mu_num.specs.IndexedSums.{int_at, tabulate, first_exceeding}
@@ -23,17 +22,9 @@ use Rattle.qss_devs.specs.declared.coupled_messages.Components.{Components}
 use Rattle.qss_devs.specs.Coupling.{line_at, function_state_at, crossing_at}
 
 -- the message for a row of a handler is within the limits
-abbrev pub IsMessageOfKind : Machine → RowKind → Row → Type 0
-IsMessageOfKind m kind.Start row = Unit {0}
-IsMessageOfKind m (kind.When clause branch) row = Unit {0}
-IsMessageOfKind m kind.Set row = IsMessage m (Discrete row.var row.level)
-IsMessageOfKind m kind.Reinit row = IsMessage m (State row.var row.state)
-IsMessageOfKind m kind.Level row = Unit {0}
-IsMessageOfKind m kind.End row = Unit {0}
-IsMessageOfKind m kind.Overflow row = Unit {0}
-
-abbrev pub IsMessageOfRow : Machine → Row → Type 0
-IsMessageOfRow m row = IsMessageOfKind m row.kind row
+pub record IsMessageOfRow (m : Machine) (row : Row) : Type 0 where
+  pub set : row.kind ≡ kind.Set → IsMessage m (Discrete row.var row.level)
+  pub reinit : row.kind ≡ kind.Reinit → IsMessage m (State row.var row.state)
 
 -- the rule of a quantizer has a name, and so is a function of the state and its old level
 abbrev pub IsNamed : Option Rule → Type 0
@@ -60,13 +51,14 @@ row_after m rule tick v j =
     if int_eq (int_at v.levels j) (level_after m rule v j) then []
     else record { tick = tick; kind = kind.Level; var = j; level = level_after m rule v j; state = int_at v.states j } ∷ []
 
--- the levels after the transitions of the first n integrators, and the values with these levels
-abbrev pub levels_upto : Machine → Rule → Values → ℕ → List ℤ
-levels_upto m rule v zero = v.levels
-levels_upto m rule v (suc n) = slice_set (levels_upto m rule v n) n (level_after m rule v n)
+-- a list of which the first n numbers are replaced by those of f
+abbrev pub replaced_upto : (ℕ → ℤ) → List ℤ → ℕ → List ℤ
+replaced_upto f xs zero = xs
+replaced_upto f xs (suc n) = slice_set (replaced_upto f xs n) n (f n)
 
+-- the values after the transitions of the first n integrators
 abbrev pub leveled : Machine → Rule → Values → ℕ → Values
-leveled m rule v n = record v { levels = levels_upto m rule v n }
+leveled m rule v n = record v { levels = replaced_upto (level_after m rule v) v.levels n }
 
 -- the first n integrators made their transitions, and no level exceeds its limit
 pub record AreTakenUpTo {X : Type 0} {g : _} (m : Machine) (rule : Rule) (tick : ℕ) (v : Values) (n : ℕ) (parts : Components X g) (old new : List Row) : Type 0 where
@@ -74,13 +66,10 @@ pub record AreTakenUpTo {X : Type 0} {g : _} (m : Machine) (rule : Rule) (tick :
   pub small : (i : ℕ) → i < n → IsLevel (level_after m rule v i)
   pub rows : new ≡ old ++ flat_map (row_after m rule tick v) (range_with_len 0 n)
 
--- the slopes after the transitions of the first n functions, and the values with these slopes
-abbrev pub slopes_upto : Machine → Values → ℕ → List ℤ
-slopes_upto m v zero = v.slopes
-slopes_upto m v (suc n) = slice_set (slopes_upto m v n) n (slope_at m n v.levels v.discretes)
-
+-- the values after the transitions of the first n functions
 abbrev pub sloped : Machine → Values → ℕ → Values
-sloped m v n = record v { slopes = slopes_upto m v n }
+sloped m v n =
+    record v { slopes = replaced_upto (λ j. slope_at m j v.levels v.discretes) v.slopes n }
 
 -- the first n functions made their transitions, and no row exceeds its limits
 pub record AreSentUpTo {X : Type 0} {g : _} (m : Machine) (tick : ℕ) (v : Values) (n : ℕ) (parts : Components X g) : Type 0 where

@@ -1,7 +1,8 @@
 -- The components of a machine by their numbers, and the ticks at which all may receive a message.
-use Rattle.std.specs.Prelude.{◌≡◌, ℕ, ◌<◌, ◌≤◌, [], length, map, All, pos, Option, Some, None}
-use Rattle.std.specs.Prelude.{slice_index_or}
+use Rattle.std.specs.Prelude.{◌≡◌, ℕ, ◌<◌, ◌≤◌, List, [], length, map, All, pos, Option, Some, None}
+use Rattle.std.specs.Prelude.{slice_index_or, true, false}
 use Rattle.mu_num.specs.Limits.{tick_limit}
+use Rattle.mu_num.specs.ListedPlaces.{is_listed}
 use Rattle.qss_machine.specs.declared.compiled_machine.Machine.{Machine}
 use Rattle.qss_machine.specs.Machines.{state_count}
 use Rattle.qss_machine.specs.Handlers.{conditions}
@@ -11,12 +12,11 @@ use Rattle.qss_quant.specs.IntegratorLines.{Line}
 use Rattle.qss_events.specs.Schedules.{no_line, no_detector}
 use Rattle.qss_components.specs.declared.integrator_model.IntegratorModel.{IntegratorModel}
 use Rattle.qss_components.specs.declared.atomic.Message.{Message}
-use Rattle.qss_components.specs.declared.atomic.Message.TheVariants.{Slope, State, Level, Discrete}
-use Rattle.qss_components.specs.declared.atomic.Message.TheVariants.{Truth}
+use Rattle.qss_components.specs.declared.crossing_model.CrossingModel.{CrossingModel}
 use Rattle.qss_components.specs.Messages.{IsTimely}
 use Rattle.qss_components.specs.Integrators.{IsLineNext}
 use Rattle.qss_components.specs.Functions.{FunctionState}
-use Rattle.qss_components.specs.Crossings.{Crossing, IsCrossingNext, AreSmallAt}
+use Rattle.qss_components.specs.Crossings.{Crossing, IsCrossingNext, IsRead, AreSmallAt}
 use Rattle.qss_components.specs.ComponentModels.{function_state_of, crossing_of}
 use Rattle.qss_components.specs.ComponentTheorems.{lines_given, functions_given, crossings_given}
 use Rattle.qss_devs.specs.declared.coupled_messages.Components.{Components}
@@ -72,43 +72,28 @@ pub record IsCrossingReady (m : Machine) (tick : ℕ) (c : Crossing) : Type 0 wh
   pub later : (next : ℕ) → IsCrossingNext c.detector (Some next) → tick < next
   pub small : AreSmallAt m c.inputs tick
 
--- components that may receive messages at a tick: conditions were read there, and no level or sum
--- is overdue
-pub record AreReady (m : Machine) (tick : ℕ) (line : ℕ → Line) (s : ℕ → FunctionState) (c : ℕ → Crossing) : Type 0 where
+-- the components of a machine, which may receive messages at a tick: conditions were read there,
+-- and no level or sum is overdue
+pub record AreReady {X : Type 0} {g : _} (m : Machine) (tick : ℕ) (all : Components X g) : Type 0 where
+  pub parts : AreComponents m all
   pub in_time : tick < tick_limit
-  pub integrators : (j : ℕ) → j < state_count m → IsTimely (line j).tick (IsLineNext m j (line j)) tick
-  pub functions : (j : ℕ) → j < state_count m → IsSummingReady tick (s j)
-  pub crossings : (place : ℕ) → place < length (conditions m) → IsCrossingReady m tick (c place)
+  pub integrators : (j : ℕ) → j < state_count m
+      → IsTimely (line_at all j).tick (IsLineNext m j (line_at all j)) tick
+  pub functions : (j : ℕ) → j < state_count m → IsSummingReady tick (function_state_at all j)
+  pub crossings : (place : ℕ) → place < length (conditions m) → IsCrossingReady m tick (crossing_at all place)
 
--- a message about the slope or the state of a state variable
-abbrev pub IsOfLine : ℕ → Message → Type 0
-IsOfLine j (Slope var slope) = var ≡ j
-IsOfLine j (State var state) = var ≡ j
-IsOfLine j (Level var level) = ⊥
-IsOfLine j (Discrete var value) = ⊥
-IsOfLine j (Truth condition now) = ⊥
-
--- a message about the level of a state
-abbrev pub IsOfLevel : ℕ → Message → Type 0
-IsOfLevel j (Slope var slope) = ⊥
-IsOfLevel j (State var state) = ⊥
-IsOfLevel j (Level var level) = var ≡ j
-IsOfLevel j (Discrete var value) = ⊥
-IsOfLevel j (Truth condition now) = ⊥
-
--- a message about the value of a discrete variable
-abbrev pub IsOfDiscrete : ℕ → Message → Type 0
-IsOfDiscrete j (Slope var slope) = ⊥
-IsOfDiscrete j (State var state) = ⊥
-IsOfDiscrete j (Level var level) = ⊥
-IsOfDiscrete j (Discrete var value) = var ≡ j
-IsOfDiscrete j (Truth condition now) = ⊥
+-- the models at some places received a message, and the others are unchanged
+pub record AreGiven {A : Type 0} (Given : A → A → Type 0) (places : List ℕ) (old new : List A) : Type 0 where
+  pub as_many : length new ≡ length old
+  pub each : (j : ℕ) (d : A) → j < length old → is_listed places j ≡ true
+      → Given (slice_index_or old j d) (slice_index_or new j d)
+  pub others : (j : ℕ) (d : A) → is_listed places j ≡ false
+      → slice_index_or new j d ≡ slice_index_or old j d
 
 -- a message was sent to its receivers, and the components may receive another one
 pub record HaveReceived {X : Type 0} {g : _} (m : Machine) (tick : ℕ) (message : Message) (old new : Components X g) : Type 0 where
-  pub parts : AreComponents m new
   pub ruled : (name : Option Rule) → AreRuled name old → AreRuled name new
-  pub ready : AreReady m tick (line_at new) (function_state_at new) (crossing_at new)
+  pub ready : AreReady m tick new
   pub lines : (j : ℕ) → j < state_count m → line_at new j ≡ lines_given tick message (line_at old) j
   pub functions : (j : ℕ) → j < state_count m → function_state_at new j ≡ functions_given m tick message (function_state_at old) j
   pub crossings : (place : ℕ) → place < length (conditions m) → crossing_at new place ≡ crossings_given m tick message (crossing_at old) place
@@ -116,3 +101,9 @@ pub record HaveReceived {X : Type 0} {g : _} (m : Machine) (tick : ℕ) (message
 -- no integrator is due at or before this tick
 abbrev pub AllLinesLater : Machine → ℕ → (ℕ → Line) → Type 0
 AllLinesLater m tick line = (j next : ℕ) → j < state_count m → IsLineNext m j (line j) (Some next) → tick < next
+
+-- a crossing was read on arrival at a tick, and is not due at or before this tick
+pub record IsReadAt (tick : ℕ) (old new : CrossingModel) : Type 0 where
+  pub machine : new.machine.value ≡ old.machine.value
+  pub read : IsRead tick (crossing_of old) (crossing_of new)
+  pub later : (next : ℕ) → IsCrossingNext new.detector (Some next) → tick < next

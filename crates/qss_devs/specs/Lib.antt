@@ -4,4 +4,3 @@ pub mod Coupling
 pub mod CoupledSteps
 pub mod CoupledEvents
 pub mod Flags
-pub mod CoupledViews

@@ -15,7 +15,7 @@ pub use Rattle.qss_components.specs.FunctionInputs.{AreInputs, input_discretes, 
 pub use Rattle.qss_components.specs.Functions.{function_after_message}
 pub use Rattle.qss_components.specs.Integrators.{IsLineNext}
 pub use Rattle.qss_components.specs.Messages.{IsMessage, IsTimely}
-pub use Rattle.qss_components.specs.declared.atomic.Message.TheVariants.{Truth}
+pub use Rattle.qss_components.specs.declared.atomic.Message.TheVariants.{Discrete, Level, Slope, State, Truth}
 pub use Rattle.qss_components.specs.declared.crossing_model.CrossingModel.{CrossingModel}
 pub use Rattle.qss_cross.specs.Crossing.{holds_at}
 pub use Rattle.qss_events.specs.AllowedLevels.{IsAllowedLevel}

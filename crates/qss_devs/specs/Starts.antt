@@ -110,11 +110,7 @@ pub record IsFirstFunction (m : Machine) (j : ℕ) (s : FunctionModel) : Type 0 
   pub machine : s.machine.value ≡ m
   pub summing : function_state_of s ≡ first_summing m (start_values m) j
 
--- the crossing of a condition at the start
-pub record IsFirstCrossing (m : Machine) (place : ℕ) (condition : Condition) (c : CrossingModel) : Type 0 where
+-- the crossing of the condition with this number at the start
+pub record IsFirstCrossing (m : Machine) (place : ℕ) (c : CrossingModel) : Type 0 where
   pub machine : c.machine.value ≡ m
-  pub crossing : crossing_of c ≡ first_crossing m (start_values m) place condition
-
--- the crossing of the condition with this number
-abbrev pub IsFirstAt : Machine → ℕ → CrossingModel → Type 0
-IsFirstAt m place c = IsFirstCrossing m place (condition_at m place) c
+  pub crossing : crossing_of c ≡ first_crossing m (start_values m) place (condition_at m place)

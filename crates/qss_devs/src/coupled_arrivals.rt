@@ -2,10 +2,10 @@
 //! the handlers of the tick.
 
 ghost use Rattle.std.specs.Prelude.{◌≡◌, ◌<◌, ◌≤◌, ℕ, Bool, length, map, All, Some, slice_index_or};
-ghost use Rattle.qss_devs.specs.Prelude.{compares, int_at, first_exceeding, conditions, flag_at, variable_limit, tick_limit, bits_of_state, state_at, holds_at, IsTimely, CrossingModel, Truth, IsCrossingNext, IsRead, crossing_of, Values, overflow_of};
+ghost use Rattle.qss_devs.specs.Prelude.{compares, first_exceeding, conditions, flag_at, variable_limit, tick_limit, bits_of_state, state_at, holds_at, IsTimely, CrossingModel, Truth, IsCrossingNext, Values, overflow_of};
 ghost use Rattle.qss_devs.specs.CoupledEvents.{CrossingsLater};
 ghost use Rattle.qss_devs.specs.CoupledSteps.{Agrees};
-ghost use Rattle.qss_devs.specs.Coupling.{crossing_at, AreComponents};
+ghost use Rattle.qss_devs.specs.Coupling.{crossing_at, AreComponents, IsReadAt};
 ghost use Rattle.qss_devs.specs.Flags.{HaveFlags};
 
 use crate::coupled_messages::Components;
@@ -86,18 +86,8 @@ fn fill_arrival_states(integrators: &[IntegratorModel], tick: u64, x: &mut [i128
     ensures { x.new ≡ map (λ i. state_at i.line tick) integrators.now }
 {
     for j in 0..integrators.len() {
-        x[j] = state_of_line_at(integrators, j, tick);
+        x[j] = integrators[j].line.value_at(tick);
     }
-}
-
-// The state of an integrator's line at a tick.
-fn state_of_line_at(integrators: &[IntegratorModel], j: usize, tick: u64) -> i128
-    requires known { j < length integrators.now }
-    requires not_later { All (λ i. i.line.tick ≤ tick) integrators.now }
-    requires tick_limit { tick < tick_limit }
-    ensures { result ≡ int_at (map (λ i. state_at i.line tick) integrators.now) j }
-{
-    integrators[j].line.value_at(tick)
 }
 
 // The error is the first state that exceeds its limit.
@@ -120,14 +110,9 @@ fn read_all_on_arrival(crossings: &mut [CrossingModel], tick: u64, now: &mut [bo
         crossings.old }
     requires held { now.old ≡ map (λ c. compares c.detector.rel c.detector.value) crossings.old }
     ensures now { now.new ≡ map (λ c. holds_at c.detector tick) crossings.old }
-    ensures machines { (place : ℕ) (d : CrossingModel) → place < length crossings.old
-        → (slice_index_or crossings.new place d).machine.value
-        ≡ (slice_index_or crossings.old place d).machine.value }
     ensures read { (place : ℕ) (d : CrossingModel) → place < length crossings.old
-        → IsRead tick (crossing_of (slice_index_or crossings.old place d))
-        (crossing_of (slice_index_or crossings.new place d)) }
-    ensures later { All (λ c. (next : ℕ) → IsCrossingNext c.detector (Some next) → tick < next)
-        crossings.new }
+        → IsReadAt tick (slice_index_or crossings.old place d)
+        (slice_index_or crossings.new place d) }
 {
     for place in 0..crossings.len() {
         let held = now[place];
@@ -142,9 +127,7 @@ fn read_crossing_on_arrival(crossing: &mut CrossingModel, tick: u64, held: bool)
         tick }
     requires held { held ≡ compares crossing.old.detector.rel crossing.old.detector.value }
     ensures now { result ≡ holds_at crossing.old.detector tick }
-    ensures machine { crossing.new.machine.value ≡ crossing.old.machine.value }
-    ensures read { IsRead tick (crossing_of crossing.old) (crossing_of crossing.new) }
-    ensures later { (next : ℕ) → IsCrossingNext crossing.new.detector (Some next) → tick < next }
+    ensures read { IsReadAt tick crossing.old crossing.new }
 {
     if !is_due(crossing, tick) {
         return held;
@@ -170,15 +153,6 @@ pub(crate) fn settle_all_arrival_truths(crossings: &[CrossingModel], flags: &mut
     ensures { flags.new ≡ map (λ c. compares c.detector.rel c.detector.value) crossings.now }
 {
     for place in 0..crossings.len() {
-        flags[place] = crossing_truth_at(crossings, place);
+        flags[place] = crossings[place].detector.truth();
     }
-}
-
-// Whether a condition holds at the tick of its crossing.
-fn crossing_truth_at(crossings: &[CrossingModel], place: usize) -> bool
-    requires { place < length crossings.now }
-    ensures { result
-        ≡ flag_at (map (λ c. compares c.detector.rel c.detector.value) crossings.now) place }
-{
-    crossings[place].detector.truth()
 }

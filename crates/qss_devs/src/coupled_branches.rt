@@ -29,7 +29,13 @@ pub(crate) fn fire_clauses_on_arrival(
     ensures messages { All (IsMessageOfRow m.now) work.new.log }
     ensures count { length work.new.log ≤ row_room m.now.clauses }
 {
-    fire_all_clauses(m, truths, work)
+    let mut first = 0;
+    for clause in 0..m.clauses.as_slice().len() {
+        let count = branch_count(m, clause);
+        fire_clause(m, clause as u32, first, truths, work)?;
+        first += count;
+    }
+    Ok(())
 }
 
 /// The condition of a branch.
@@ -41,28 +47,6 @@ pub(crate) fn branch_condition(m: &Machine, clause: usize, branch: usize) -> &Co
 {
     let branches = m.clauses.as_slice()[clause].branches.as_slice();
     &branches[branch].condition
-}
-
-// Runs all clauses in order. The first due branch of each fires.
-fn fire_all_clauses(m: &Machine, truths: &Truths, w: &mut Work) -> Result<(), Over>
-    requires flags { HaveFlags (length (conditions m.now)) truths.now }
-    requires fits { AreValuesOf m.now w.old }
-    requires room { length w.old.log + row_room m.now.clauses ≤ w.old.room }
-    ensures values { w.new ≡ values_after w.old
-        (run_clauses m.now w.old.tick w.old.pre 0 (handling_of w.old) m.now.clauses
-        (due_flags truths.now)) }
-    ensures overflow { overflow_of result
-        ≡ (run_clauses m.now w.old.tick w.old.pre 0 (handling_of w.old) m.now.clauses
-        (due_flags truths.now)).overflow }
-    ensures fits { AreValuesOf m.now w.new }
-{
-    let mut first = 0;
-    for clause in 0..m.clauses.as_slice().len() {
-        let count = branch_count(m, clause);
-        fire_clause(m, clause as u32, first, truths, w)?;
-        first += count;
-    }
-    Ok(())
 }
 
 /// The number of branches of a clause.

@@ -2,10 +2,9 @@
 //! have an event. It also adds the rows at the start and at the end.
 
 ghost use Rattle.std.specs.Prelude.{◌≡◌, ◌+◌, ◌<◌, ◌≤◌, ◌++◌, if◌then◌else◌, All, None, length, map, vec_capacity, vec_len, ℕ, Option, Some, List};
-ghost use Rattle.qss_devs.specs.Prelude.{overflow_of, first_exceeding, variable_limit, tick_limit, bits_of_state, Snapshot, snapshot_unless, handlers_at, IsStep, tick_rows, state_rows, discrete_rows, snapshot_rows, last_snapshot, state_at, IsAllowedLevel, IsNext, tick_of, end_of, state_count, conditions, HasNoEventBefore, IsLineNext, IsCrossingNext, AreNext, AreEventFree, IsVisit};
-ghost use Rattle.qss_devs.specs.CoupledEvents.{snapshot_of, StoreRepresents, IsAfterHandlers};
+ghost use Rattle.qss_devs.specs.Prelude.{overflow_of, first_exceeding, variable_limit, tick_limit, bits_of_state, Snapshot, snapshot_unless, handlers_at, IsStep, tick_rows, state_rows, discrete_rows, snapshot_rows, state_at, IsAllowedLevel, IsNext, tick_of, end_of, state_count, conditions, HasNoEventBefore, IsLineNext, IsCrossingNext, AreNext, AreEventFree};
+ghost use Rattle.qss_devs.specs.CoupledEvents.{snapshot_of, StoreRepresents, IsAfterHandlers, view_of};
 ghost use Rattle.qss_devs.specs.CoupledSteps.{IsNamed};
-ghost use Rattle.qss_devs.specs.CoupledViews.{view_of};
 ghost use Rattle.qss_devs.specs.Coupling.{line_at, crossing_at};
 ghost use Rattle.qss_machine.specs.declared.machine_parts.RowKind.TheVariants as kind;
 
@@ -25,13 +24,6 @@ use qss_hand::{Over, Work};
 use qss_machine::{Machine, Row, RowKind};
 use qss_quant::Quantizer;
 
-/// An event step: its tick and its result. The error is the variable that overflows.
-#[derive(Clone, Copy)]
-pub(crate) struct EventStep {
-    pub tick: u64,
-    pub ran: Result<(), Over>,
-}
-
 /// Advances to the next tick with rows, to an overflow, or to the last tick. Allocates no memory.
 pub(crate) fn go_to_next_rows(m: &Machine, q: &Quantizer, from: u64, s: &mut Store) -> Outcome
     requires named { IsNamed q.now.name }
@@ -45,9 +37,9 @@ pub(crate) fn go_to_next_rows(m: &Machine, q: &Quantizer, from: u64, s: &mut Sto
 {
     let mut tick = from;
     while tick < m.last {
-        let step = visit_next_step(m, q, tick, s);
-        tick = step.tick;
-        if let Err(over) = step.ran {
+        let before = skip_event_free_ticks(m, q, tick, s);
+        tick = before + 1;
+        if let Err(over) = run_next_tick(m, q, before, s) {
             set_event_overflow_row(tick, over.var, &mut s.rows);
             return Outcome::Over {
                 tick,
@@ -60,29 +52,6 @@ pub(crate) fn go_to_next_rows(m: &Machine, q: &Quantizer, from: u64, s: &mut Sto
     }
     set_rows_at_end(m, q, s);
     Outcome::Done
-}
-
-/// Advances over the event-free ticks and runs one more tick.
-fn visit_next_step(m: &Machine, q: &Quantizer, tick: u64, s: &mut Store) -> EventStep
-    requires named { IsNamed q.now.name }
-    requires represents_snapshot { StoreRepresents m.now q.now.name tick s.old }
-    requires tick_limit { tick < m.now.last }
-    ensures later { tick < result.tick }
-    ensures tick_limit { result.tick ≤ m.now.last }
-    ensures visited { (silent : List Snapshot) × IsVisit (IsAllowedLevel q.now.name) m.now tick
-        (snapshot_of tick s.old) silent result.tick
-        (snapshot_unless (overflow_of result.ran) (snapshot_of result.tick s.new))
-        × (overflow_of result.ran ≡ None → s.new.rows.items ≡ tick_rows m.now result.tick
-        (last_snapshot (snapshot_of tick s.old) silent) (snapshot_of result.tick s.new)) }
-    ensures represents_snapshot { overflow_of result.ran ≡ None
-        → StoreRepresents m.now q.now.name result.tick s.new }
-    ensures room { vec_capacity s.new.rows ≡ vec_capacity s.old.rows }
-{
-    let before = skip_event_free_ticks(m, q, tick, s);
-    EventStep {
-        tick: before + 1,
-        ran: run_next_tick(m, q, before, s),
-    }
 }
 
 // Advances to the tick before the next one that may have an event, and returns it.

@@ -1,10 +1,10 @@
 //! The components of a machine, and the delivery of messages between them. Integrators, functions
 //! and assignments of handlers send messages.
 
-ghost use Rattle.std.specs.Prelude.{◌≡◌, ◌<◌, ◌+◌, ◌≢◌, ◌≤◌, length, map, All, slice_index_or, Option, ℕ, None, Some, vec_len, vec_capacity};
-ghost use Rattle.qss_devs.specs.Prelude.{overflow_of, state_count, discrete_count, AreRisingBelow, IsWritten, tick_limit, IsMessage, function_after_message, crossing_after_message, function_state_of, crossing_of, Rule, Values, HasEach, values_after_row, values_after_rows, no_line, IsLineNext};
+ghost use Rattle.std.specs.Prelude.{◌≡◌, ◌<◌, ◌+◌, ◌≢◌, ◌≤◌, ◌⊎◌, length, map, All, slice_index_or, Option, ℕ, ℤ, None, Some, vec_len, vec_capacity};
+ghost use Rattle.qss_devs.specs.Prelude.{overflow_of, state_count, discrete_count, AreRisingBelow, IsMessage, IsTimely, Slope, State, Level, Discrete, Rule, Values, HasEach, values_after_row, values_after_rows, no_line, IsLineNext};
 ghost use Rattle.qss_devs.specs.CoupledSteps.{IsMessageOfRow, Agrees, AreValues, IsLevelTaken, AreTaken, AreWithinQuanta, IsSlopeSent, AreSent};
-ghost use Rattle.qss_devs.specs.Coupling.{line_at, function_state_at, crossing_at, no_summing, no_crossing, AreComponents, AreReady, IsSummingReady, IsCrossingReady, IsOfLine, IsOfLevel, IsOfDiscrete, HaveReceived, AreRuled, AllLinesLater};
+ghost use Rattle.qss_devs.specs.Coupling.{line_at, function_state_at, AreGiven, AreReady, HaveReceived, AreRuled, AllLinesLater};
 ghost use Rattle.qss_machine.specs.declared.machine_parts.RowKind.TheVariants as kind;
 
 use qss_components::{
@@ -26,14 +26,10 @@ pub struct Components {
 
 /// Sends the messages for all assignments of the handlers.
 pub(crate) fn send_assigned_messages(m: &Machine, parts: &mut Components, tick: u64, work: &Work)
-    requires parts { AreComponents m.now parts.old }
-    requires ready { AreReady m.now tick
-        (line_at parts.old) (function_state_at parts.old) (crossing_at parts.old) }
+    requires ready { AreReady m.now tick parts.old }
     requires messages { All (IsMessageOfRow m.now) work.now.log }
-    ensures parts { AreComponents m.now parts.new }
     ensures ruled { (name : Option Rule) → AreRuled name parts.old → AreRuled name parts.new }
-    ensures ready { AreReady m.now tick
-        (line_at parts.new) (function_state_at parts.new) (crossing_at parts.new) }
+    ensures ready { AreReady m.now tick parts.new }
     ensures agree { (v : Values) → HasEach m.now v → Agrees m.now tick v parts.old
         → Agrees m.now tick (values_after_rows m.now v work.now.log) parts.new }
 {
@@ -51,15 +47,11 @@ pub(crate) fn send_integrator_level_messages(
     tick: u64,
     rows: &mut Vec<Row>,
 ) -> Result<(), Over>
-    requires parts { AreComponents m.now parts.old }
     requires ruled { (rule : Rule) × AreRuled (Some rule) parts.old }
-    requires ready { AreReady m.now tick
-        (line_at parts.old) (function_state_at parts.old) (crossing_at parts.old) }
+    requires ready { AreReady m.now tick parts.old }
     requires room { vec_len rows.old + state_count m.now ≤ vec_capacity rows.old }
-    ensures parts { AreComponents m.now parts.new }
     ensures ruled { (name : Option Rule) → AreRuled name parts.old → AreRuled name parts.new }
-    ensures ready { AreReady m.now tick
-        (line_at parts.new) (function_state_at parts.new) (crossing_at parts.new) }
+    ensures ready { AreReady m.now tick parts.new }
     ensures taken { (rule : Rule) (v : Values) → AreRuled (Some rule) parts.old
         → AreValues m.now v → Agrees m.now tick v parts.old
         → AreTaken m.now (Some rule) tick v parts.new rows.old.items rows.new.items
@@ -80,13 +72,9 @@ pub(crate) fn send_slope_messages(
     parts: &mut Components,
     tick: u64,
 ) -> Result<(), Over>
-    requires parts { AreComponents m.now parts.old }
-    requires ready { AreReady m.now tick
-        (line_at parts.old) (function_state_at parts.old) (crossing_at parts.old) }
-    ensures parts { AreComponents m.now parts.new }
+    requires ready { AreReady m.now tick parts.old }
     ensures ruled { (name : Option Rule) → AreRuled name parts.old → AreRuled name parts.new }
-    ensures ready { AreReady m.now tick
-        (line_at parts.new) (function_state_at parts.new) (crossing_at parts.new) }
+    ensures ready { AreReady m.now tick parts.new }
     ensures sent { (v : Values) → AreValues m.now v → Agrees m.now tick v parts.old
         → AreSent m.now tick v parts.new (overflow_of result) }
     ensures later { (v : Values) → AreValues m.now v → Agrees m.now tick v parts.old
@@ -101,14 +89,10 @@ pub(crate) fn send_slope_messages(
 
 // Sends the message for a row of a handler.
 fn send_row_messages(m: &Machine, parts: &mut Components, tick: u64, row: &Row)
-    requires parts { AreComponents m.now parts.old }
-    requires ready { AreReady m.now tick
-        (line_at parts.old) (function_state_at parts.old) (crossing_at parts.old) }
+    requires ready { AreReady m.now tick parts.old }
     requires messages { IsMessageOfRow m.now row.now }
-    ensures parts { AreComponents m.now parts.new }
     ensures ruled { (name : Option Rule) → AreRuled name parts.old → AreRuled name parts.new }
-    ensures ready { AreReady m.now tick
-        (line_at parts.new) (function_state_at parts.new) (crossing_at parts.new) }
+    ensures ready { AreReady m.now tick parts.new }
     ensures agree { (v : Values) → HasEach m.now v → Agrees m.now tick v parts.old
         → Agrees m.now tick (values_after_row m.now v row.now.kind row.now) parts.new }
 {
@@ -137,9 +121,7 @@ fn send_row_messages(m: &Machine, parts: &mut Components, tick: u64, row: &Row)
 
 /// Sends a message to its receivers.
 pub(crate) fn send_message(m: &Machine, parts: &mut Components, tick: u64, msg: Message)
-    requires parts { AreComponents m.now parts.old }
-    requires ready { AreReady m.now tick
-        (line_at parts.old) (function_state_at parts.old) (crossing_at parts.old) }
+    requires ready { AreReady m.now tick parts.old }
     requires message { IsMessage m.now msg }
     ensures { HaveReceived m.now tick msg parts.old parts.new }
 {
@@ -154,98 +136,58 @@ pub(crate) fn send_message(m: &Machine, parts: &mut Components, tick: u64, msg: 
 
 // Sends a state or a slope to the state's integrator and to the crossings that read the state.
 fn send_line_message(m: &Machine, parts: &mut Components, tick: u64, var: u32, msg: Message)
-    requires parts { AreComponents m.now parts.old }
-    requires ready { AreReady m.now tick
-        (line_at parts.old) (function_state_at parts.old) (crossing_at parts.old) }
+    requires ready { AreReady m.now tick parts.old }
     requires message { IsMessage m.now msg }
-    requires own { IsOfLine var msg }
+    requires own { ((slope : ℤ) × (msg ≡ Slope var slope))
+        ⊎ ((state : ℤ) × (msg ≡ State var state)) }
     requires known { var < state_count m.now }
     ensures { HaveReceived m.now tick msg parts.old parts.new }
 {
     send_to_integrator_model(m, &mut parts.integrators, var, tick, msg);
     let places = parts.uses.conditions_of(var);
-    send_message_to_crossings(m, &mut parts.crossings, places, tick, msg);
+    send_message_to_models(&mut parts.crossings, places, tick, msg);
 }
 
-// Sends a message to crossings.
-fn send_message_to_crossings(
-    m: &Machine,
-    crossings: &mut [CrossingModel],
-    places: &[u32],
-    tick: u64,
-    msg: Message,
-)
-    requires places { AreRisingBelow (length crossings.old) places.now }
-    requires machines { All (λ c. c.machine.value ≡ m.now) crossings.old }
-    requires message { IsMessage m.now msg }
-    requires ready { All (λ c. IsCrossingReady m.now tick (crossing_of c)) crossings.old }
-    requires tick_limit { tick < tick_limit }
-    ensures machines { All (λ c. c.machine.value ≡ m.now) crossings.new }
-    ensures ready { All (λ c. IsCrossingReady m.now tick (crossing_of c)) crossings.new }
-    ensures received { IsWritten no_crossing (λ j c. c ≡ crossing_after_message m.now
-        (slice_index_or (map crossing_of crossings.old) j no_crossing) tick msg)
-        places.now (map crossing_of crossings.old) (map crossing_of crossings.new) }
+// Sends a message to the models at some places.
+fn send_message_to_models<A: Atomic>(models: &mut [A], places: &[u32], tick: u64, msg: Message)
+    requires places { AreRisingBelow (length models.old) places.now }
+    requires allowed { All (λ a. IsTimely (A.own_tick a) (A.is_next a) tick
+        × IsMessage (A.part_of a) msg × A.has_small a tick) models.old }
+    ensures { AreGiven (λ a b. A.given a tick msg b) places.now models.old models.new }
 {
     for place in places {
-        crossings[*place as usize].external(tick, msg);
+        models[*place as usize].external(tick, msg);
     }
 }
 
 // Sends a level to the functions that read its state.
 fn send_level_message(m: &Machine, parts: &mut Components, tick: u64, var: u32, msg: Message)
-    requires parts { AreComponents m.now parts.old }
-    requires ready { AreReady m.now tick
-        (line_at parts.old) (function_state_at parts.old) (crossing_at parts.old) }
+    requires ready { AreReady m.now tick parts.old }
     requires message { IsMessage m.now msg }
-    requires own { IsOfLevel var msg }
+    requires own { (level : ℤ) × (msg ≡ Level var level) }
     requires known { var < state_count m.now }
     ensures { HaveReceived m.now tick msg parts.old parts.new }
 {
     let places = parts.uses.rows_of(var);
-    send_message_to_functions(m, &mut parts.functions, places, tick, msg);
-}
-
-// Sends a message to functions.
-fn send_message_to_functions(
-    m: &Machine,
-    functions: &mut [FunctionModel],
-    places: &[u32],
-    tick: u64,
-    msg: Message,
-)
-    requires places { AreRisingBelow (length functions.old) places.now }
-    requires machines { All (λ s. s.machine.value ≡ m.now) functions.old }
-    requires message { IsMessage m.now msg }
-    requires ready { All (λ s. IsSummingReady tick (function_state_of s)) functions.old }
-    requires tick_limit { tick < tick_limit }
-    ensures machines { All (λ s. s.machine.value ≡ m.now) functions.new }
-    ensures received { IsWritten no_summing (λ j s. s ≡ function_after_message m.now
-        (slice_index_or (map function_state_of functions.old) j no_summing) tick msg)
-        places.now (map function_state_of functions.old) (map function_state_of functions.new) }
-{
-    for place in places {
-        functions[*place as usize].external(tick, msg);
-    }
+    send_message_to_models(&mut parts.functions, places, tick, msg);
 }
 
 // Sends the value of a discrete variable to the functions that read it, and to the crossings that
 // read it or its value before the tick.
 fn send_discrete_message(m: &Machine, parts: &mut Components, tick: u64, var: u32, msg: Message)
-    requires parts { AreComponents m.now parts.old }
-    requires ready { AreReady m.now tick
-        (line_at parts.old) (function_state_at parts.old) (crossing_at parts.old) }
+    requires ready { AreReady m.now tick parts.old }
     requires message { IsMessage m.now msg }
-    requires own { IsOfDiscrete var msg }
+    requires own { (value : ℤ) × (msg ≡ Discrete var value) }
     requires known { var < state_count m.now + discrete_count m.now }
     ensures { HaveReceived m.now tick msg parts.old parts.new }
 {
     let before = m.discretes.as_slice().len() as u32;
     let rows = parts.uses.rows_of(var);
-    send_message_to_functions(m, &mut parts.functions, rows, tick, msg);
+    send_message_to_models(&mut parts.functions, rows, tick, msg);
     let places = parts.uses.conditions_of(var);
-    send_message_to_crossings(m, &mut parts.crossings, places, tick, msg);
+    send_message_to_models(&mut parts.crossings, places, tick, msg);
     let others = parts.uses.conditions_of(var + before);
-    send_message_to_crossings(m, &mut parts.crossings, others, tick, msg);
+    send_message_to_models(&mut parts.crossings, others, tick, msg);
 }
 
 // Makes the transition of an integrator, if it is due, sends its level and appends its row. The
@@ -257,16 +199,12 @@ fn send_integrator_level_message(
     j: u32,
     rows: &mut Vec<Row>,
 ) -> Result<(), Over>
-    requires parts { AreComponents m.now parts.old }
     requires ruled { (rule : Rule) × AreRuled (Some rule) parts.old }
     requires known { j < state_count m.now }
-    requires ready { AreReady m.now tick
-        (line_at parts.old) (function_state_at parts.old) (crossing_at parts.old) }
+    requires ready { AreReady m.now tick parts.old }
     requires room { vec_len rows.old < vec_capacity rows.old }
-    ensures parts { AreComponents m.now parts.new }
     ensures ruled { (name : Option Rule) → AreRuled name parts.old → AreRuled name parts.new }
-    ensures ready { AreReady m.now tick
-        (line_at parts.new) (function_state_at parts.new) (crossing_at parts.new) }
+    ensures ready { AreReady m.now tick parts.new }
     ensures taken { (rule : Rule) (v : Values) → AreRuled (Some rule) parts.old
         → AreValues m.now v → Agrees m.now tick v parts.old
         → IsLevelTaken m.now rule tick v j parts.new rows.old.items rows.new.items
@@ -314,14 +252,10 @@ fn level_message_row(tick: u64, var: u32, integrators: &[IntegratorModel]) -> Ro
 
 // Sends the sum of a function, if it changed. The error is the state if its row exceeds its limits.
 fn send_slope_message(m: &Machine, parts: &mut Components, tick: u64, j: u32) -> Result<(), Over>
-    requires parts { AreComponents m.now parts.old }
     requires known { j < state_count m.now }
-    requires ready { AreReady m.now tick
-        (line_at parts.old) (function_state_at parts.old) (crossing_at parts.old) }
-    ensures parts { AreComponents m.now parts.new }
+    requires ready { AreReady m.now tick parts.old }
     ensures ruled { (name : Option Rule) → AreRuled name parts.old → AreRuled name parts.new }
-    ensures ready { AreReady m.now tick
-        (line_at parts.new) (function_state_at parts.new) (crossing_at parts.new) }
+    ensures ready { AreReady m.now tick parts.new }
     ensures sent { (v : Values) → AreValues m.now v → Agrees m.now tick v parts.old
         → IsSlopeSent m.now tick v j parts.new (overflow_of result) }
     ensures others { (i : ℕ) → i < state_count m.now → i ≢ j

@@ -29,7 +29,7 @@ pub struct Coupled {
 impl Coupled {
     ghost use Rattle.std.specs.Prelude.{◌≡◌, ◌++◌, None, Some, IfOk};
     ghost use Rattle.qss_devs.specs.Prelude.{start_snapshot, snapshot_rows, Rule, level_by, IsAllowedLevel, Outcome, IsNext, rows_left};
-    ghost use Rattle.qss_devs.specs.CoupledViews.{view_of};
+    ghost use Rattle.qss_devs.specs.CoupledEvents.{view_of};
     ghost use Rattle.qss_machine.specs.declared.machine_parts.RowKind.TheVariants as kind;
 
     /// A coupled model at tick 0, with the start rows. Allocates all memory that the run needs.

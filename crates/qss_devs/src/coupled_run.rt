@@ -2,7 +2,7 @@
 
 ghost use Rattle.std.specs.Prelude.{◌≡◌, ◌≢◌, Some, All, true};
 ghost use Rattle.qss_devs.specs.Prelude.{Floor, remaining_rows, HasVariable, Appends, AppendsPrefix, EndsByFault, run_by_rule, run_text, IsRunResult, IsRunCutShort, is_whole};
-ghost use Rattle.qss_devs.specs.CoupledViews.{view_of};
+ghost use Rattle.qss_devs.specs.CoupledEvents.{view_of};
 
 use crate::coupled_model::Coupled;
 use mu_io::{Name, Sink};

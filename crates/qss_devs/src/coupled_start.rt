@@ -1,11 +1,11 @@
 //! Builds the store of a coupled model at tick 0: the values of variables, the components with
 //! their lines and inputs, and the start rows.
 
-ghost use Rattle.std.specs.Prelude.{◌≡◌, ◌<◌, ◌+◌, ◌-◌, ◌*ℤ◌, if◌then◌else◌, map, length, IfOk, ℕ, All, None, nat_lt, false, replicate};
+ghost use Rattle.std.specs.Prelude.{◌≡◌, ◌<◌, ◌+◌, ◌-◌, ◌*ℤ◌, if◌then◌else◌, map, length, IfOk, ℕ, All, None, nat_lt};
 ghost use Rattle.qss_devs.specs.Prelude.{level_below, int_at, tabulate, state_count, level_unit, slope_at, start_states, start_discretes, discrete_count, compares, IsState, IsForm, first_place, conditions, input_at, form_at, speed_by, IsInput, AreParts, StaysIfDiscrete, function_state_of, crossing_of, EachAt, AreInputs, input_levels, input_discretes, uses_of, snapshot_rows, start_snapshot};
 ghost use Rattle.qss_devs.specs.CoupledEvents.{snapshot_of, StoreRepresents};
 ghost use Rattle.qss_devs.specs.Coupling.{AreComponents};
-ghost use Rattle.qss_devs.specs.Starts.{values_in, start_values, first_line, first_input, entry_at, IsFirstIntegrator, IsFirstFunction, IsFirstAt};
+ghost use Rattle.qss_devs.specs.Starts.{values_in, start_values, first_line, first_input, entry_at, IsFirstIntegrator, IsFirstFunction, IsFirstCrossing};
 ghost use Rattle.qss_machine.specs.declared.machine_parts.RowKind.TheVariants as kind;
 
 use crate::coupled_arrivals::settle_all_arrival_truths;
@@ -140,7 +140,8 @@ fn start_coupled_parts(
         EachAt (IsFirstIntegrator m.now q.now.value) parts.integrators.items) }
     ensures functions { IfOk result
         (λ parts. EachAt (IsFirstFunction m.now) parts.functions.items) }
-    ensures crossings { IfOk result (λ parts. EachAt (IsFirstAt m.now) parts.crossings.items) }
+    ensures crossings { IfOk result
+        (λ parts. EachAt (IsFirstCrossing m.now) parts.crossings.items) }
 {
     let v = start_values(alloc, m, &work.x, &work.d)?;
     let integrators = start_integrators(alloc, m, shared, q, &v)?;
@@ -218,7 +219,12 @@ pub(crate) fn start_integrators(
         let line = start_coupled_line(m, v, var);
         let machine = shared.clone()?;
         let quantizer = q.clone()?;
-        let integrator = start_coupled_integrator(machine, quantizer, var, line);
+        let integrator = IntegratorModel {
+            machine,
+            quantizer,
+            var,
+            line,
+        };
         integrators.push_reserved(integrator);
     }
     Ok(integrators)
@@ -238,27 +244,6 @@ fn start_coupled_line(m: &Machine, v: &StartValues, j: u32) -> Integrator
         x,
         slope,
         level,
-    }
-}
-
-// An integrator with this line.
-fn start_coupled_integrator(
-    machine: Rc<Machine>,
-    quantizer: Rc<Quantizer>,
-    var: u32,
-    line: Integrator,
-) -> IntegratorModel
-    requires { var < state_count machine.value }
-    ensures machine { result.machine.value ≡ machine.value }
-    ensures quantizer { result.quantizer.value ≡ quantizer.value }
-    ensures own { result.var ≡ var }
-    ensures line { result.line ≡ line }
-{
-    IntegratorModel {
-        machine,
-        quantizer,
-        var,
-        line,
     }
 }
 
@@ -282,36 +267,16 @@ pub(crate) fn start_functions(
         let row = j as u32;
         let machine = shared.clone()?;
         let inputs = replace(&mut lists[j], Vec::new(alloc));
-        let function = start_coupled_function(machine, row, inputs);
+        let function = FunctionModel {
+            machine,
+            row,
+            tick: 0,
+            inputs,
+            changed: None,
+        };
         functions.push_reserved(function);
     }
     Ok(functions)
-}
-
-// A function with these inputs, and nothing to send.
-fn start_coupled_function(
-    machine: Rc<Machine>,
-    row: u32,
-    inputs: Vec<FunctionInput>,
-) -> FunctionModel
-    requires known { row < state_count machine.value }
-    requires inputs { AreInputs machine.value row inputs.items }
-    ensures machine { result.machine.value ≡ machine.value }
-    ensures summing { function_state_of result ≡ record {
-      row = row;
-      tick = 0;
-      levels = input_levels machine.value inputs.items;
-      discretes = input_discretes machine.value inputs.items;
-      changed = None;
-    } }
-{
-    FunctionModel {
-        machine,
-        row,
-        tick: 0,
-        inputs,
-        changed: None,
-    }
 }
 
 /// Creates a crossing for each condition, at the start.
@@ -323,7 +288,7 @@ pub(crate) fn start_crossings(
     requires { values_in v.now ≡ start_values shared.now.value }
     ensures count { IfOk result
         (λ list. length list.items ≡ length (conditions shared.now.value)) }
-    ensures each { IfOk result (λ list. EachAt (IsFirstAt shared.now.value) list.items) }
+    ensures each { IfOk result (λ list. EachAt (IsFirstCrossing shared.now.value) list.items) }
 {
     let mut crossings: Vec<CrossingModel> = Vec::new(alloc);
     for clause in 0..shared.clauses.as_slice().len() {
@@ -343,11 +308,11 @@ fn add_start_crossings(
     requires values { values_in v.now ≡ start_values shared.now.value }
     requires known { clause < length shared.now.value.clauses }
     requires count { length crossings.old.items ≡ first_place shared.now.value.clauses clause }
-    requires each { EachAt (IsFirstAt shared.now.value) crossings.old.items }
+    requires each { EachAt (IsFirstCrossing shared.now.value) crossings.old.items }
     ensures count { IfOk result (λ done.
         length crossings.new.items ≡ first_place shared.now.value.clauses (clause + 1)) }
     ensures each { IfOk result (λ done.
-        EachAt (IsFirstAt shared.now.value) crossings.new.items) }
+        EachAt (IsFirstCrossing shared.now.value) crossings.new.items) }
 {
     let m: &Machine = shared;
     let count = branch_count(m, clause);
@@ -516,18 +481,7 @@ fn start_flags(alloc: Global, crossings: &[CrossingModel]) -> Result<Vec<bool>, 
     ensures { IfOk result (λ flags. flags.items
         ≡ map (λ c. compares c.detector.rel c.detector.value) crossings.now) }
 {
-    let mut flags = blank_start_flags(alloc, crossings.len())?;
+    let mut flags = vec![in alloc; false; crossings.len()]?;
     settle_all_arrival_truths(crossings, &mut flags);
-    Ok(flags)
-}
-
-// A list of `count` flags that are false.
-fn blank_start_flags(alloc: Global, count: usize) -> Result<Vec<bool>, AllocError>
-    ensures { IfOk result (λ flags. flags.items ≡ replicate count false) }
-{
-    let mut flags: Vec<bool> = Vec::with_capacity(alloc, count)?;
-    for _ in 0..count {
-        flags.push_reserved(false);
-    }
     Ok(flags)
 }

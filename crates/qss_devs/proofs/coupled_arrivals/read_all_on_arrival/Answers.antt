@@ -1,8 +1,8 @@
 -- One more crossing is read.
 use Rattle.qss_devs.proofs.Common
-use Common.{◌<◌, ◌∙◌, ◌≡◌, ap, arith, compares, crossing_of, CrossingModel, false, flag_at, get_or}
-use Common.{get_or-map, get_or-set_other, holds_at, IsCrossingNext, IsRead, IsTimely, length}
-use Common.{length-map, length-set, List, map, one_more, refl, same_lists, subst, sym}
+use Common.{◌<◌, ◌∙◌, ◌≡◌, ap, arith, compares, CrossingModel, false, flag_at, get_or, get_or-map}
+use Common.{get_or-set_other, holds_at, IsCrossingNext, IsTimely, length, length-map, length-set}
+use Common.{List, map, one_more, refl, same_lists, subst, sym}
 use Rattle.qss_devs.proofs.Readings.{none_read, read_more}
 use Rattle.qss_devs.proofs.coupled_arrivals.read_all_on_arrival.Goals as goal
 
@@ -43,8 +43,7 @@ loop-place-preserved c =
     let flags_are : c.read_crossing_on_arrival.result ≡ flag_at (map (λ (k : CrossingModel). holds_at k.detector tick) old) place =
     c.read_crossing_on_arrival.ensures.now ∙ ap (λ (k : CrossingModel). holds_at k.detector tick) same ∙ sym (get_or-map (λ (k : CrossingModel). holds_at k.detector tick) old place d false h) in
     record {
-      crossings = read_more tick place old xs x d h inv.crossings (c.read_crossing_on_arrival.ensures.machine ∙ ap (λ (k : CrossingModel). k.machine.value) same)
-          (subst (λ (k : CrossingModel). IsRead tick (crossing_of k) (crossing_of x)) same c.read_crossing_on_arrival.ensures.read) c.read_crossing_on_arrival.ensures.later;
+      crossings = read_more tick place old xs x d h inv.crossings (rw same at c.read_crossing_on_arrival.ensures.read);
       as_many = length-set c.loop-place.now place c.read_crossing_on_arrival.result ∙ inv.as_many;
       flags_are = one_more false (flag_at (map (λ (k : CrossingModel). holds_at k.detector tick) old)) c.loop-place.now place c.read_crossing_on_arrival.result within inv.flags_are flags_are;
       rest = λ k past. get_or-set_other c.loop-place.now place k c.read_crossing_on_arrival.result false (λ e. absurd (omega (arith, e, past))) ∙ inv.rest k (omega (arith, past));
@@ -59,7 +58,5 @@ returns c =
     record {
       now = same_lists false c.loop-place.now (map (λ (k : CrossingModel). holds_at k.detector tick) old) (inv.as_many ∙ c.requires.same_length ∙ sym all)
           (λ k h. inv.flags_are k (omega (arith, h, all, c.loop-place-test.false)));
-      machines = λ k d h. inv.crossings.machines k d (omega (arith, h, c.loop-place-test.false)) h;
       read = λ k d h. inv.crossings.read k d (omega (arith, h, c.loop-place-test.false)) h;
-      later = λ k d h n is. inv.crossings.later k n d (omega (arith, h, inv.crossings.as_many, c.loop-place-test.false)) (omega (arith, h, inv.crossings.as_many)) is;
     }

@@ -18,12 +18,14 @@ returns-then-not-is_due c = record {
       let before : c.args.tick ≤ n = c.requires.timely.not_past n due in
       let other : n ≢ c.args.tick = λ same. c.is_due.ensures.other c.if-not-is_due.true (subst (λ (k : ℕ). IsCrossingNext w (Some k)) same due) in
       omega (arith, before, other)) found.1);
-  machine = refl;
-  read = inl refl;
-  later = λ n is.
-      let before : c.args.tick ≤ n = c.requires.timely.not_past n is in
-      let other : n ≢ c.args.tick = λ same. c.is_due.ensures.other c.if-not-is_due.true (subst (λ (k : ℕ). IsCrossingNext c.args.crossing.now.detector (Some k)) same is) in
-      omega (arith, before, other);
+  read = record {
+    machine = refl;
+    read = inl refl;
+    later = λ n is.
+        let before : c.args.tick ≤ n = c.requires.timely.not_past n is in
+        let other : n ≢ c.args.tick = λ same. c.is_due.ensures.other c.if-not-is_due.true (subst (λ (k : ℕ). IsCrossingNext c.args.crossing.now.detector (Some k)) same is) in
+        omega (arith, before, other);
+  };
 }
 
 pub internal-requires : goal.internal-requires
@@ -40,7 +42,12 @@ returns c = record {
       let sent : c.output.result ≡ Some (Truth x.place (holds_at x.detector c.args.tick)) =
       message_is c.output.result (Truth x.place (holds_at x.detector c.args.tick)) ((c.output.ensures.when (Some c.args.tick) due).1 refl) (c.output.ensures.what c.args.tick due) in
       c.message_truth-now.ensures x.place (holds_at x.detector c.args.tick) sent;
-  machine = (c.internal.ensures.turned c.args.tick (c.is_due.ensures.due c.if-not-is_due.false)).2.0;
-  read = inr (c.internal.ensures.turned c.args.tick (c.is_due.ensures.due c.if-not-is_due.false)).2.1;
-  later = λ n is. c.internal.ensures.later c.args.tick n (c.is_due.ensures.due c.if-not-is_due.false) is;
+  read =
+      let due = c.is_due.ensures.due c.if-not-is_due.false in
+      let turned = c.internal.ensures.turned c.args.tick due in
+      record {
+        machine = turned.2.0;
+        read = inr turned.2.1;
+        later = λ n is. c.internal.ensures.later c.args.tick n due is;
+      };
 }

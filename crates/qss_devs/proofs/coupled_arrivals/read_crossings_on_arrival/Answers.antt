@@ -1,11 +1,11 @@
 -- The crossings of all conditions are read.
 use Rattle.qss_devs.proofs.Common
-use Common.{ℕ, ◌<◌, ◌∙◌, ◌≡◌, All, ap, arith, compares, Crossing, crossing_of, CrossingModel, false}
-use Common.{flag_at, get_or, holds_at, IsCrossingNext, IsRead, IsTimely, length, List, map}
-use Common.{no_crossing, refl, Some, subst, sym, with_items, with_items_is}
-use Rattle.qss_devs.proofs.Coasting.{at_twice}
-use Rattle.qss_devs.proofs.ReadParts.{crossings_timely, crossings_hold, read_components, read_agree}
-use Rattle.qss_devs.proofs.ReadParts.{read_later}
+use Common.{◌<◌, ◌∙◌, All, ap, arith, compares, Crossing, crossing_of, CrossingModel, false}
+use Common.{flag_at, holds_at, IsCrossingNext, IsTimely, length, List, map, no_crossing, refl}
+use Common.{subst, sym, with_items, with_items_is}
+use Rattle.qss_devs.proofs.Lists.{at_twice}
+use Rattle.qss_devs.proofs.Readings.{crossings_timely, crossings_hold, read_components, read_agree}
+use Rattle.qss_devs.proofs.Readings.{read_later}
 use Rattle.qss_devs.proofs.coupled_arrivals.read_crossings_on_arrival.Goals as goal
 
 pub read_all_on_arrival-requires : goal.read_all_on_arrival-requires
@@ -30,18 +30,14 @@ returns g c =
     let new = record old { crossings = with_items old.crossings ys } in
     let items = with_items_is old.crossings ys (c.read_all_on_arrival.auto.crossings ∙ c.deref_mut.ensures.len) in
     let as_many = ap length items ∙ c.read_all_on_arrival.auto.crossings ∙ ap length was in
-    let machines = subst (λ (zs : List CrossingModel). (k : ℕ) (d : CrossingModel) → k < length old.crossings.items → (get_or zs k d).machine.value ≡ (get_or old.crossings.items k d).machine.value) (sym items)
-    (subst (λ (zs : List CrossingModel). (k : ℕ) (d : CrossingModel) → k < length zs → (get_or ys k d).machine.value ≡ (get_or zs k d).machine.value) was c.read_all_on_arrival.ensures.machines) in
-    let read = subst (λ (zs : List CrossingModel). (k : ℕ) (d : CrossingModel) → k < length old.crossings.items → IsRead tick (crossing_of (get_or old.crossings.items k d)) (crossing_of (get_or zs k d))) (sym items)
-    (subst (λ (zs : List CrossingModel). (k : ℕ) (d : CrossingModel) → k < length zs → IsRead tick (crossing_of (get_or zs k d)) (crossing_of (get_or ys k d))) was c.read_all_on_arrival.ensures.read) in
-    let later = subst (All (λ (k : CrossingModel). (next : ℕ) → IsCrossingNext k.detector (Some next) → tick < next)) (sym items) c.read_all_on_arrival.ensures.later in
+    let read = rw (was, ← items) at c.read_all_on_arrival.ensures.read in
     record {
       unchanged = refl;
-      parts = read_components m tick old new c.requires.parts refl refl refl as_many machines;
+      parts = read_components m tick old new c.requires.parts refl refl refl as_many read;
       now = λ place h.
           let inside : place < length old.crossings.items = omega (arith, h, c.requires.parts.crossings) in
           ap (λ flags. flag_at flags place) (c.read_all_on_arrival.ensures.now ∙ ap (map (λ (k : CrossingModel). holds_at k.detector tick)) was)
           ∙ at_twice crossing_of (λ (k : Crossing). holds_at k.detector tick) old.crossings.items place no_crossing false inside;
-      agree = λ v a. read_agree m tick old new c.requires.parts refl refl refl as_many machines read later v a;
-      later = read_later m tick old new c.requires.parts refl refl refl as_many machines read later;
+      agree = λ v a. read_agree m tick old new c.requires.parts refl refl refl as_many read v a;
+      later = read_later m tick old new c.requires.parts refl refl refl as_many read;
     }

@@ -1,8 +1,8 @@
 -- The first due branch fires, and without one nothing changes.
 use Rattle.qss_devs.proofs.Common
 use Common.{◌+◌, ◌∙◌, ◌≡◌, ◌≤◌, Action, ap, arith, Bool, branch_at, clause_at, conditions_few}
-use Common.{due_flags, false, flags_from, HandlerState, handling_of, length, List, None, refl}
-use Common.{run_first_due, Some, sym, values_after}
+use Common.{due_flags, false, flags_from, HandlerState, handling_of, length, List, refl}
+use Common.{run_first_due, sym, values_after}
 use Rattle.std.proofs.lemmas.List.Quantifiers.{position-Some}
 use Rattle.std.proofs.lemmas.List.Sums.{get_or-le-sum_by}
 use Rattle.std.specs.List.{position}
@@ -12,6 +12,7 @@ use Rattle.qss_hand.specs.Values.{Values}
 use Rattle.qss_hand.proofs.Turns.{first_fires, none_due}
 use Rattle.qss_hand.proofs.Branches.{no_branch}
 use Rattle.qss_devs.proofs.DueFlags.{length-due, length-flags, none_set}
+use Rattle.qss_devs.proofs.coupled_branches.fire_clause.Goals.{After-first_due_branch}
 use Rattle.qss_devs.proofs.coupled_branches.fire_clause.Goals as goal
 
 pub first_due_branch-requires : goal.first_due_branch-requires
@@ -28,26 +29,29 @@ first_due_branch-requires c =
       };
     }
 
+-- the flags of the clause, and its first due branch
+abbrev flags : After-first_due_branch → List Bool
+flags c = flags_from c.args.first (length (clause_at c.args.m.now c.args.clause).branches) (due_flags c.args.truths.now)
+
+many : (c : After-first_due_branch) → length (flags c) ≡ length (clause_at c.args.m.now c.args.clause).branches
+many c =
+    length-flags (due_flags c.args.truths.now) c.args.first _
+    (omega (arith, length-due c.requires.flags, c.requires.inside))
+
+found : (c : After-first_due_branch) → position (λ flag. flag) (flags c) ≡ c.first_due_branch.result
+found c = rw (← c.branch_count-count.ensures) (sym c.first_due_branch.ensures)
+
 pub fire-requires : goal.fire-requires
 fire-requires c =
     let m = c.args.m.now in
-    let width = length (clause_at m c.args.clause).branches in
-    let due : List Bool = due_flags c.args.truths.now in
-    let flags : List Bool = flags_from c.args.first width due in
-    let many : length flags ≡ width =
-    length-flags due c.args.first width
-    (omega (arith, length-due c.requires.flags, c.requires.inside)) in
-    let found : position (λ flag. flag) flags ≡ Some c.in-Some.branch =
-    ap (λ n. position (λ flag. flag) (flags_from c.args.first n due)) (sym c.branch_count-count.ensures)
-    ∙ sym c.first_due_branch.ensures
-    ∙ c.in-Some.is in
-    let at = position-Some (λ flag. flag) flags c.in-Some.branch false found in
+    let k = (goal.at.fire-requires c).After-first_due_branch in
+    let at = position-Some (λ flag. flag) (flags k) c.in-Some.branch false (found k ∙ c.in-Some.is) in
     let own : length (branch_at m c.args.clause c.in-Some.branch).actions ≤ _ =
     get_or-le-sum_by (λ (b : BranchInfo). length b.actions) (clause_at m c.args.clause).branches
-    c.in-Some.branch no_branch (omega (arith, at.0, many)) in
+    c.in-Some.branch no_branch (omega (arith, at.0, many k)) in
     record {
       clause = c.requires.clause;
-      branch = omega (arith, at.0, many);
+      branch = omega (arith, at.0, many k);
       fits = c.requires.fits;
       room = omega (arith, own, c.requires.room);
     }
@@ -57,24 +61,15 @@ returns-in-Some c =
     let m = c.args.m.now in
     let w : Values = c.args.w.now in
     let clause = c.args.clause in
-    let width = length (clause_at m clause).branches in
-    let due : List Bool = due_flags c.args.truths.now in
-    let flags : List Bool = flags_from c.args.first width due in
-    let many : length flags ≡ width =
-    length-flags due c.args.first width
-    (omega (arith, length-due c.requires.flags, c.requires.inside)) in
-    let found : position (λ flag. flag) flags ≡ Some c.in-Some.branch =
-    ap (λ n. position (λ flag. flag) (flags_from c.args.first n due)) (sym c.branch_count-count.ensures)
-    ∙ sym c.first_due_branch.ensures
-    ∙ c.in-Some.is in
-    let at = position-Some (λ flag. flag) flags c.in-Some.branch false found in
+    let k = (goal.at.returns-in-Some c).After-first_due_branch in
+    let at = position-Some (λ flag. flag) (flags k) c.in-Some.branch false (found k ∙ c.in-Some.is) in
     let actions : List Action = (branch_at m clause c.in-Some.branch).actions in
     let zero : 0 + c.in-Some.branch ≡ c.in-Some.branch = omega arith in
-    let e : run_first_due m w.tick w.pre clause 0 (handling_of w) (clause_at m clause).branches flags
+    let e : run_first_due m w.tick w.pre clause 0 (handling_of w) (clause_at m clause).branches (flags k)
     ≡ run_branch m w.tick w.pre clause c.in-Some.branch (handling_of w) actions =
     rw zero at
     (first_fires m w.tick w.pre clause 0 c.in-Some.branch (handling_of w)
-    (clause_at m clause).branches flags no_branch (omega (arith, at.0, many)) at.2 at.1) in
+    (clause_at m clause).branches (flags k) no_branch (omega (arith, at.0, many k)) at.2 at.1) in
     record {
       values = c.fire.ensures.values ∙ ap (values_after w) (sym e);
       overflow = c.fire.ensures.overflow ∙ ap (λ (h : HandlerState). h.overflow) (sym e);
@@ -85,18 +80,10 @@ pub returns-in-None : goal.returns-in-None
 returns-in-None c =
     let m = c.args.m.now in
     let w : Values = c.args.w.now in
-    let clause = c.args.clause in
-    let width = length (clause_at m clause).branches in
-    let due : List Bool = due_flags c.args.truths.now in
-    let flags : List Bool = flags_from c.args.first width due in
-    let none : position (λ flag. flag) flags ≡ None =
-    ap (λ n. position (λ flag. flag) (flags_from c.args.first n due)) (sym c.branch_count-count.ensures)
-    ∙ sym c.first_due_branch.ensures
-    ∙ c.in-None.is in
-    let e : run_first_due m w.tick w.pre clause 0 (handling_of w) (clause_at m clause).branches flags
-    ≡ handling_of w =
-    none_due m w.tick w.pre clause 0 (handling_of w) (clause_at m clause).branches flags
-    (none_set flags none) in
+    let k = (goal.at.returns-in-None c).After-first_due_branch in
+    let e =
+    none_due m w.tick w.pre c.args.clause 0 (handling_of w) (clause_at m c.args.clause).branches (flags k)
+    (none_set (flags k) (found k ∙ c.in-None.is)) in
     record {
       values = ap (values_after w) (sym e);
       overflow = ap (λ (h : HandlerState). h.overflow) (sym e);

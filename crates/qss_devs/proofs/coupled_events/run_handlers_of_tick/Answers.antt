@@ -1,13 +1,13 @@
 -- The handlers of the next tick.
 use Rattle.qss_devs.proofs.Common
-use Common.{[], ℤ, ◌+◌, ◌∙◌, ◌≡◌, ◌≤◌, All, ap, AreRuled, arith, arrived_values, Bool, Components}
-use Common.{conditions, Err, first_exceeding, flag_at, function_state_at, HandlerState}
-use Common.{IntegratorModel, length, line_at, List, map, moved_states, None, overflow_of, refl}
-use Common.{rules, Snapshot, snapshot_of, state_at, Store, subst, sym, truths, with_items_is}
+use Common.{◌+◌, ◌∙◌, ◌≡◌, ◌≤◌, All, ap, arith, arrived_values, Bool, Components, Err}
+use Common.{first_exceeding, flag_at, function_state_at, HandlerState, IntegratorModel, length}
+use Common.{line_at, List, moved_states, overflow_of, refl, rules, Snapshot, snapshot_of, Store}
+use Common.{subst, sym, with_items_is}
 use Rattle.qss_hand.specs.Values.{Values as Kept}
-use Rattle.qss_devs.proofs.Arrivals.{arrival_over, arrived_agree, arrived_each, arrived_states}
-use Rattle.qss_devs.proofs.Arrivals.{arrived_truths, arrived_ready, begun, begun_fits, handled_is}
-use Rattle.qss_devs.proofs.Arrivals.{crossing_timely, crossing_held}
+use Rattle.qss_devs.proofs.Arrivals.{arrival_over, arrived_agree, arrived_each, over_arrived}
+use Rattle.qss_devs.proofs.Arrivals.{arrived_truths, arrived_ready, begun_is, begun_fits}
+use Rattle.qss_devs.proofs.Arrivals.{handled_is, crossing_timely, crossing_held}
 use Rattle.qss_devs.proofs.Overs.{no_overflow}
 use Rattle.qss_devs.proofs.SnapshotRows.{lines_early}
 use Rattle.qss_devs.proofs.coupled_events.run_handlers_of_tick.Goals as goal
@@ -35,17 +35,17 @@ compute_arrival_states-requires g c =
 pub returns-in_err-compute_arrival_states : goal.returns-in_err-compute_arrival_states
 returns-in_err-compute_arrival_states g c =
     let m = c.args.m.now in
-    let t = c.args.tick + 1 in
     let w : Snapshot = snapshot_of c.args.tick c.args.s.now in
-    let at_arrival : map (λ (i : IntegratorModel _ _). state_at i.line t) c.deref.result.now ≡ moved_states m w =
-    ap (map (λ (i : IntegratorModel _ _). state_at i.line t)) c.deref.ensures.value
-    ∙ arrived_states c.requires.represents_snapshot c.requires.tick_limit in
     let found : overflow_of c.compute_arrival_states.result ≡ first_exceeding 88 (moved_states m w) =
-    c.compute_arrival_states.ensures.overflow ∙ ap (first_exceeding 88) at_arrival in
+    over_arrived c.requires.represents_snapshot c.requires.tick_limit _ _ c.deref.ensures.value
+    c.compute_arrival_states.ensures.overflow in
     let over = c.in_err-compute_arrival_states.field-0.0 in
     let given : c.from_residual.result ≡ Err over = search rules in
     record {
-      overflow = rw given (arrival_over m t w over.var (rw c.in_err-compute_arrival_states.was at found));
+      overflow =
+          rw given
+          (arrival_over m (c.args.tick + 1) w over.var
+          (rw c.in_err-compute_arrival_states.was at found));
       handled = no_overflow c.from_residual.result over given;
       room = refl;
     }
@@ -73,38 +73,29 @@ read_crossings_on_arrival-requires g c =
 
 pub fire_clauses_on_arrival-requires : goal.fire_clauses_on_arrival-requires
 fire_clauses_on_arrival-requires g c =
-    let m = c.args.m.now in
-    let t = c.args.tick + 1 in
-    let s : Store _ _ = c.args.s.now in
     let stands = c.requires.represents_snapshot in
     let before = c.requires.tick_limit in
-    let w : Snapshot = snapshot_of c.args.tick s in
-    let at_arrival : map (λ (i : IntegratorModel _ _). state_at i.line t) c.deref.result.now ≡ moved_states m w =
-    ap (map (λ (i : IntegratorModel _ _). state_at i.line t)) c.deref.ensures.value
-    ∙ arrived_states stands before in
-    let found : overflow_of c.compute_arrival_states.result ≡ first_exceeding 88 (moved_states m w) =
-    c.compute_arrival_states.ensures.overflow ∙ ap (first_exceeding 88) at_arrival in
-    let within : first_exceeding 88 (moved_states m w) ≡ None =
-    sym found ∙ ap overflow_of c.in_ok-compute_arrival_states.was in
-    let v : Kept = c.compute_arrival_states.new.work in
-    let work_is : v ≡ begun stands before =
-    c.compute_arrival_states.ensures.work
-    ∙ ap (λ (u : Kept). record u { x = map (λ (i : IntegratorModel _ _). state_at i.line t) c.deref.result.now }) c.begin.ensures
-    ∙ ap (λ (xs : List ℤ). record s.work { x = xs; pre = s.work.d; tick = t; log = [] }) at_arrival in
-    let read : List Bool = c.read_crossings_on_arrival.new.now in
-    let many : length read ≡ length (conditions m) =
+    let flags = stands.fits.flags in
+    let value = c.deref.ensures.value in
+    let arrived = c.compute_arrival_states.ensures in
+    let within =
+    sym (over_arrived stands before _ _ value arrived.overflow)
+    ∙ ap overflow_of c.in_ok-compute_arrival_states.was in
+    let work_is = begun_is stands before _ _ _ value c.begin.ensures arrived.work in
+    let many =
     c.read_crossings_on_arrival.auto.now
     ∙ ap length (c.deref_mut.ensures.value ∙ c.copy_from_slice.ensures.items ∙ c.deref-2.ensures.value)
-    ∙ stands.fits.flags.after_handlers in
-    let current_is = with_items_is c.copy_from_slice.new.self read (c.read_crossings_on_arrival.auto.now ∙ c.deref_mut.ensures.len) in
-    let flags = stands.fits.flags in
+    ∙ flags.after_handlers in
+    let current_is =
+    with_items_is c.copy_from_slice.new.self c.read_crossings_on_arrival.new.now
+    (c.read_crossings_on_arrival.auto.now ∙ c.deref_mut.ensures.len) in
     record {
       flags = record {
         current = ap length current_is ∙ many;
         at_arrival = flags.at_arrival;
         after_handlers = flags.after_handlers;
       };
-      fits = begun_fits stands before v work_is within;
+      fits = begun_fits stands before _ work_is within;
       fresh = ap (λ (u : Kept). u.log) work_is;
       room = omega (arith, stands.fits.work_room, ap (λ (u : Kept). u.room) work_is);
     }
@@ -112,42 +103,35 @@ fire_clauses_on_arrival-requires g c =
 pub returns : goal.returns
 returns g c =
     let m = c.args.m.now in
-    let t = c.args.tick + 1 in
-    let s : Store _ _ = c.args.s.now in
     let stands = c.requires.represents_snapshot in
     let before = c.requires.tick_limit in
-    let w : Snapshot = snapshot_of c.args.tick s in
-    let at_arrival : map (λ (i : IntegratorModel _ _). state_at i.line t) c.deref.result.now ≡ moved_states m w =
-    ap (map (λ (i : IntegratorModel _ _). state_at i.line t)) c.deref.ensures.value
-    ∙ arrived_states stands before in
-    let found : overflow_of c.compute_arrival_states.result ≡ first_exceeding 88 (moved_states m w) =
-    c.compute_arrival_states.ensures.overflow ∙ ap (first_exceeding 88) at_arrival in
-    let within : first_exceeding 88 (moved_states m w) ≡ None =
-    sym found ∙ ap overflow_of c.in_ok-compute_arrival_states.was in
-    let v : Kept = c.compute_arrival_states.new.work in
-    let work_is : v ≡ begun stands before =
-    c.compute_arrival_states.ensures.work
-    ∙ ap (λ (u : Kept). record u { x = map (λ (i : IntegratorModel _ _). state_at i.line t) c.deref.result.now }) c.begin.ensures
-    ∙ ap (λ (xs : List ℤ). record s.work { x = xs; pre = s.work.d; tick = t; log = [] }) at_arrival in
-    let read : List Bool = c.read_crossings_on_arrival.new.now in
-    let many : length read ≡ length (conditions m) =
+    let w : Snapshot = snapshot_of c.args.tick c.args.s.now in
+    let value = c.deref.ensures.value in
+    let arrived = c.compute_arrival_states.ensures in
+    let within =
+    sym (over_arrived stands before _ _ value arrived.overflow)
+    ∙ ap overflow_of c.in_ok-compute_arrival_states.was in
+    let work_is = begun_is stands before _ _ _ value c.begin.ensures arrived.work in
+    let many =
     c.read_crossings_on_arrival.auto.now
     ∙ ap length (c.deref_mut.ensures.value ∙ c.copy_from_slice.ensures.items ∙ c.deref-2.ensures.value)
     ∙ stands.fits.flags.after_handlers in
-    let current_is = with_items_is c.copy_from_slice.new.self read (c.read_crossings_on_arrival.auto.now ∙ c.deref_mut.ensures.len) in
-    let now_is = current_is ∙ arrived_truths stands before read many c.read_crossings_on_arrival.ensures.now in
-    let handled = handled_is stands before v _ _ _ work_is within now_is refl refl in
+    let read = c.read_crossings_on_arrival in
+    let current_is =
+    with_items_is c.copy_from_slice.new.self read.new.now (read.auto.now ∙ c.deref_mut.ensures.len) in
+    let now_is = current_is ∙ arrived_truths stands before read.new.now many read.ensures.now in
+    let handled = handled_is stands before _ _ work_is within now_is in
     let fired = c.fire_clauses_on_arrival.ensures in
-    let parts : Components _ _ = c.read_crossings_on_arrival.new.parts in
-    let kept = c.read_crossings_on_arrival.ensures.unchanged in
-    let agree = c.read_crossings_on_arrival.ensures.agree (arrived_values m w) (arrived_agree stands before) in
+    let parts : Components _ _ = read.new.parts in
+    let kept = read.ensures.unchanged in
+    let agree = read.ensures.agree (arrived_values m w) (arrived_agree stands before) in
     let overflow = fired.overflow ∙ ap (λ (h : HandlerState). h.overflow) handled in
     record {
       overflow = overflow;
       handled = λ none. record {
         fits = record {
-          parts = c.read_crossings_on_arrival.ensures.parts;
-          ruled = subst (AreRuled c.args.q.now.name) (sym kept) stands.fits.ruled;
+          parts = read.ensures.parts;
+          ruled = rw kept stands.fits.ruled;
           values = fired.fits;
           work_room = omega (arith, stands.fits.work_room, ap (λ (u : Kept). u.room) fired.values, ap (λ (u : Kept). u.room) work_is);
           flags = record {
@@ -159,8 +143,8 @@ returns g c =
         };
         left = stands.left;
         each = arrived_each stands before;
-        ready = arrived_ready stands before within parts (λ j h. ap (λ (p : Components _ _). line_at p j) kept)
-            (λ j h. ap (λ (p : Components _ _). function_state_at p j) kept) agree c.read_crossings_on_arrival.ensures.later;
+        ready = arrived_ready stands before within parts read.ensures.parts (λ j h. ap (λ (p : Components _ _). line_at p j) kept)
+            (λ j h. ap (λ (p : Components _ _). function_state_at p j) kept) agree read.ensures.later;
         agree = agree;
         none_over = sym overflow ∙ none;
         states = ap (λ (u : Kept). u.x) fired.values ∙ ap (λ (h : HandlerState). h.states) handled;

@@ -5,13 +5,13 @@ use Common.{IsAfterHandlers, length, length-map, map, None, overflow_of, refl, r
 use Common.{Some, Store, sym}
 use Rattle.qss_devs.proofs.Overs.{no_overflow}
 use Rattle.qss_devs.proofs.TickEnds.{handled, handled_fits, handled_agree, levels_step}
-use Rattle.qss_devs.proofs.TickEnds.{taken_values, taken_agree, taken_fits, slopes_step, ends_tick}
+use Rattle.qss_devs.proofs.TickEnds.{taken_values, taken_fits, slopes_step, ends_tick}
 use Rattle.qss_devs.proofs.coupled_events.update_components.Goals as goal
 
 pub send_assigned_messages-requires : goal.send_assigned_messages-requires
 send_assigned_messages-requires g c =
     let h = c.requires.handled.1 in
-    record { parts = h.fits.parts; ready = h.ready; messages = h.messages }
+    record { ready = h.ready; messages = h.messages }
 
 pub list_handler_rows-requires : goal.list_handler_rows-requires
 list_handler_rows-requires g c =
@@ -23,7 +23,6 @@ send_integrator_level_messages-requires g c =
     let h = c.requires.handled.1 in
     let sent = c.send_assigned_messages.ensures in
     record {
-      parts = sent.parts;
       ruled = (c.requires.named.0, rw c.requires.named.1 at (sent.ruled c.args.q.now.name h.fits.ruled));
       ready = sent.ready;
       room = omega (
@@ -57,10 +56,7 @@ returns-in_err-send_integrator_level_messages g c =
     }
 
 pub send_slope_messages-requires : goal.send_slope_messages-requires
-send_slope_messages-requires g c = record {
-  parts = c.send_integrator_level_messages.ensures.parts;
-  ready = c.send_integrator_level_messages.ensures.ready;
-}
+send_slope_messages-requires g c = record { ready = c.send_integrator_level_messages.ensures.ready }
 
 pub returns-in_err-send_slope_messages : goal.returns-in_err-send_slope_messages
 returns-in_err-send_slope_messages g c =
@@ -77,7 +73,7 @@ returns-in_err-send_slope_messages g c =
           let received = handled_agree h sent.new.parts sent.ensures.agree in
           let taken : AreTaken c.args.m.now name c.args.tick (handled h) leveled.new.parts c.list_handler_rows.new.rows.items leveled.new.rows.items (overflow_of leveled.result) =
           rw (← named.1) at (leveled.ensures.taken named.0 (handled h) ruled (handled_fits h) received) in
-          let slopes = c.send_slope_messages.ensures.sent (taken_values h taken none) (taken_fits h taken none) (taken_agree h taken none) in
+          let slopes = c.send_slope_messages.ensures.sent (taken_values h taken none) (taken_fits h taken none) (taken.agree none) in
           rw given (slopes_step h taken none slopes over.var (ap overflow_of c.in_err-send_slope_messages.was));
       rows = λ w h. no_overflow c.from_residual-in_err-send_slope_messages.result over given;
       represents_snapshot = no_overflow c.from_residual-in_err-send_slope_messages.result over given;
@@ -87,7 +83,7 @@ returns-in_err-send_slope_messages g c =
 pub settle_arrival_truths-requires : goal.settle_arrival_truths-requires
 settle_arrival_truths-requires g c =
     let flags = c.requires.handled.1.fits.flags in
-    let many = sym (ap length c.deref.ensures.value ∙ c.send_slope_messages.ensures.parts.crossings) in
+    let many = sym (ap length c.deref.ensures.value ∙ c.send_slope_messages.ensures.ready.parts.crossings) in
     record {
       current = flags.current ∙ many;
       at_arrival = flags.at_arrival ∙ many;
@@ -103,7 +99,6 @@ returns g c =
     let sloped = c.send_slope_messages in
     let none : overflow_of leveled.result ≡ None = ap overflow_of c.in_ok-send_integrator_level_messages.was in
     let light : overflow_of sloped.result ≡ None = ap overflow_of c.in_ok-send_slope_messages.was in
-    let are = sloped.ensures.parts in
     let ready = sloped.ensures.ready in
     let truths = c.settle_arrival_truths in
     let settled =
@@ -116,7 +111,7 @@ returns g c =
       rows = leveled.new.rows;
     } in
     let next_fits : FitsMachine c.args.m.now name next = record {
-      parts = are;
+      parts = ready.parts;
       ruled = sloped.ensures.ruled name (leveled.ensures.ruled name (sent.ensures.ruled name fits.ruled));
       values = fits.values;
       work_room = fits.work_room;
@@ -126,7 +121,7 @@ returns g c =
         after_handlers =
             ap length settled
             ∙ length-map sloped.new.parts.crossings.items (λ (k : CrossingModel). compares k.detector.rel k.detector.value)
-            ∙ are.crossings;
+            ∙ ready.parts.crossings;
       };
       row_room = omega (arith, fits.row_room, leveled.ensures.room, c.list_handler_rows.ensures.room);
     } in
@@ -137,7 +132,7 @@ returns g c =
     rw (← named.1) at (leveled.ensures.taken named.0 (handled h) ruled (handled_fits h) received) in
     ends_tick c.args.m.now name c.args.tick w c.args.s.now next h leveled.new.parts sloped.new.parts
     c.list_handler_rows.new.rows.items leveled.new.rows.items (overflow_of leveled.result)
-    (overflow_of sloped.result) taken none sloped.ensures.sent light are ready
+    (overflow_of sloped.result) taken none sloped.ensures.sent light ready
     (λ v values a near. sloped.ensures.later v values a near (leveled.ensures.later none) light)
     refl refl truths.ensures.at_arrival settled c.list_handler_rows.ensures.rows next_fits in
     record {

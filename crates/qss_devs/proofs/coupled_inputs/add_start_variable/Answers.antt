@@ -4,7 +4,8 @@ use Common.{[], ℕ, ◌++◌, ◌+◌, ◌<◌, ◌^◌, ◌∙◌, ◌∷◌, 
 use Common.{arith, FitsSigned, FunctionInput, get_or, get_or-map, Global, ints, IsWritten, length}
 use Common.{length-map, length-set, List, map, pos, reading_numbers, reading_rows, refl}
 use Common.{row_coefficient, rows_kept, rows_many, set, state_count, subst, sym, take, to_z-of_z}
-use Common.{Vec, w64, written_all}
+use Common.{Vec, w64}
+use Rattle.mu_num.proofs.Writes.{written_all}
 use Rattle.std.specs.Int.RustNames.{unsigned_abs}
 use Rattle.qss_machine.specs.Readers.{reading_coefficients}
 use Rattle.qss_machine.proofs.KeptReaders.{coefficients_many, coefficients_kept}

@@ -1,4 +1,5 @@
-use Rattle.qss_devs.proofs.Common.{[], ◌≡◌, map, replicate}
+use Rattle.qss_devs.proofs.Common.{[], ◌≡◌, map}
+use Rattle.std.proofs.Common.{replicate}
 use Rattle.qss_devs.proofs.coupled_inputs.empty_input_lists.Given as goal
 
 -- the lists so far

@@ -1,27 +1,22 @@
 -- One more row is sent.
 use Rattle.qss_devs.proofs.Common
 use Common.{Agrees, get_or, get_or_default, pos, Row, subst, take, Values, values_after_rows}
-use Rattle.qss_devs.proofs.AgreementAfterMessage.{rows_each, row_more}
+use Rattle.qss_devs.proofs.MessagesReceived.{rows_each, row_more}
 use Rattle.qss_machine.specs.declared.machine_parts.RowKind.TheVariants as kind
 use Rattle.qss_devs.proofs.coupled_messages.send_assigned_messages.Goals as goal
 
 pub loop-row-init : goal.loop-row-init
 loop-row-init g c = record {
-  parts = c.requires.parts;
   ruled = λ name ruled. ruled;
   ready = c.requires.ready;
   agree = λ v each a. a;
 }
-
-pub send_row_messages-requires-clause-parts : goal.send_row_messages-requires-clause-parts
-send_row_messages-requires-clause-parts g c = c.loop-row.invariant.parts
 
 pub send_row_messages-requires-clause-ready : goal.send_row_messages-requires-clause-ready
 send_row_messages-requires-clause-ready g c = c.loop-row.invariant.ready
 
 pub loop-row-preserved : goal.loop-row-preserved
 loop-row-preserved g c = record {
-  parts = c.send_row_messages.ensures.parts;
   ruled = λ name ruled. c.send_row_messages.ensures.ruled name (c.loop-row.invariant.ruled name ruled);
   ready = c.send_row_messages.ensures.ready;
   agree = λ v each a.

@@ -1,13 +1,11 @@
 use Rattle.qss_devs.proofs.Common
-use Common.{Agrees, AreComponents, AreReady, AreRuled, crossing_at, function_state_at, HasEach}
-use Common.{line_at, Option, Rule, take, Values, values_after_rows}
+use Common.{Agrees, AreReady, AreRuled, HasEach, Option, Rule, take, Values, values_after_rows}
 use Rattle.qss_devs.proofs.coupled_messages.send_assigned_messages.Given as goal
 
 -- the assignments of the rows so far were sent
 abbrev pub invariant-loop-row : goal.invariant-loop-row
 invariant-loop-row g l = record {
-  parts : AreComponents l.m l.parts;
   ruled : (name : Option Rule) → AreRuled name l.fn.parts → AreRuled name l.parts;
-  ready : AreReady l.m l.tick (line_at l.parts) (function_state_at l.parts) (crossing_at l.parts);
+  ready : AreReady l.m l.tick l.parts;
   agree : (v : Values) → HasEach l.m v → Agrees l.m l.tick v l.fn.parts → Agrees l.m l.tick (values_after_rows l.m v (take l.row-index l.row-items)) l.parts;
 }

@@ -9,7 +9,6 @@ use Rattle.qss_devs.proofs.coupled_messages.send_integrator_level_messages.Goals
 
 pub loop-j-init : goal.loop-j-init
 loop-j-init g c = record {
-  parts = c.requires.parts;
   ruled = λ name ruled. ruled;
   ready = c.requires.ready;
   taken = λ rule v ruled values a.
@@ -29,7 +28,6 @@ send_integrator_level_message-requires g c =
     let rule = c.requires.ruled.0 in
     let many = ap length c.as_slice-j-end.ensures in
     record {
-      parts = inv.parts;
       ruled = (rule, inv.ruled (Some rule) c.requires.ruled.1);
       known = omega (arith, many);
       ready = inv.ready;
@@ -46,7 +44,6 @@ returns-in_err-send_integrator_level_message g c =
     let given : c.from_residual.result ≡ Err over = search rules in
     let inside : j < state_count m = omega (arith, ap length c.as_slice-j-end.ensures) in
     record {
-      parts = sent.parts;
       ruled = λ name ruled. sent.ruled name (inv.ruled name ruled);
       ready = sent.ready;
       taken = λ rule v ruled values a.
@@ -70,7 +67,6 @@ loop-j-preserved g c =
     let was = c.in_ok-send_integrator_level_message.was in
     let inside : j < state_count m = omega (arith, ap length c.as_slice-j-end.ensures) in
     record {
-      parts = sent.parts;
       ruled = λ name ruled. sent.ruled name (inv.ruled name ruled);
       ready = sent.ready;
       taken = λ rule v ruled values a.
@@ -99,7 +95,6 @@ returns g c =
     let all : c.loop-j.j ≡ state_count m =
     omega (arith, c.loop-j-test.false, c.loop-j.auto.j-end, ap length c.as_slice-j-end.ensures) in
     record {
-      parts = inv.parts;
       ruled = inv.ruled;
       ready = inv.ready;
       taken = λ rule v ruled values a.

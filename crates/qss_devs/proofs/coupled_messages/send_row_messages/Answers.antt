@@ -2,8 +2,7 @@
 use Rattle.qss_devs.proofs.Common
 use Common.{Agrees, arith, Discrete, FitsSigned, HaveReceived, ints, IsMessage, RowKind, State}
 use Common.{subst, sym, to_z-of_z, Values, values_after_row, w128, w64}
-use Rattle.qss_devs.specs.CoupledSteps.{IsMessageOfKind}
-use Rattle.qss_devs.proofs.AgreementAfterMessage.{agree_state, agree_discrete, kind_other}
+use Rattle.qss_devs.proofs.MessagesReceived.{agree_state, agree_discrete, kind_other}
 use Rattle.qss_devs.proofs.coupled_messages.send_row_messages.Goals as goal
 
 pub send_message-requires : goal.send_message-requires
@@ -11,10 +10,9 @@ send_message-requires g c = record {
   message =
       let m = c.args.m.now in
       let row = c.args.row.now in
-      let own : IsMessage m (State row.var row.state) = subst (λ (k : RowKind). IsMessageOfKind m k row) c.in-Reinit.is c.requires.messages in
+      let own : IsMessage m (State row.var row.state) = c.requires.messages.reinit c.in-Reinit.is in
       let of_state : FitsSigned w128 row.state = omega (arith, ints, own.1) in
       simp to_z-of_z own;
-  parts = c.requires.parts;
   ready = c.requires.ready;
 }
 
@@ -23,12 +21,11 @@ returns-in-Reinit g c = record {
   agree = λ v each a.
       let m = c.args.m.now in
       let row = c.args.row.now in
-      let own : IsMessage m (State row.var row.state) = subst (λ (k : RowKind). IsMessageOfKind m k row) c.in-Reinit.is c.requires.messages in
+      let own : IsMessage m (State row.var row.state) = c.requires.messages.reinit c.in-Reinit.is in
       let of_state : FitsSigned w128 row.state = omega (arith, ints, own.1) in
       let received : HaveReceived m c.args.tick (State row.var row.state) c.args.parts.now c.send_message.new.parts = simp to_z-of_z at c.send_message.ensures in
       subst (λ (k : RowKind). Agrees m c.args.tick (values_after_row m v k row) c.send_message.new.parts) (sym c.in-Reinit.is)
       (agree_state m c.args.tick v each c.args.parts.now c.send_message.new.parts row.var row.state own.0 received a);
-  parts = c.send_message.ensures.parts;
   ruled = c.send_message.ensures.ruled;
   ready = c.send_message.ensures.ready;
 }
@@ -38,10 +35,9 @@ send_message-requires-in-Set g c = record {
   message =
       let m = c.args.m.now in
       let row = c.args.row.now in
-      let own : IsMessage m (Discrete row.var row.level) = subst (λ (k : RowKind). IsMessageOfKind m k row) c.in-Set.is c.requires.messages in
+      let own : IsMessage m (Discrete row.var row.level) = c.requires.messages.set c.in-Set.is in
       let of_level : FitsSigned w64 row.level = omega (arith, ints, own.2) in
       simp to_z-of_z own;
-  parts = c.requires.parts;
   ready = c.requires.ready;
 }
 
@@ -50,12 +46,11 @@ returns-in-Set g c = record {
   agree = λ v each a.
       let m = c.args.m.now in
       let row = c.args.row.now in
-      let own : IsMessage m (Discrete row.var row.level) = subst (λ (k : RowKind). IsMessageOfKind m k row) c.in-Set.is c.requires.messages in
+      let own : IsMessage m (Discrete row.var row.level) = c.requires.messages.set c.in-Set.is in
       let of_level : FitsSigned w64 row.level = omega (arith, ints, own.2) in
       let received : HaveReceived m c.args.tick (Discrete row.var row.level) c.args.parts.now c.send_message-in-Set.new.parts = simp to_z-of_z at c.send_message-in-Set.ensures in
       subst (λ (k : RowKind). Agrees m c.args.tick (values_after_row m v k row) c.send_message-in-Set.new.parts) (sym c.in-Set.is)
       (agree_discrete m c.args.tick v each c.args.parts.now c.send_message-in-Set.new.parts row.var row.level own received a);
-  parts = c.send_message-in-Set.ensures.parts;
   ruled = c.send_message-in-Set.ensures.ruled;
   ready = c.send_message-in-Set.ensures.ready;
 }
@@ -66,7 +61,6 @@ returns-in_default g c = record {
       let m = c.args.m.now in
       let row = c.args.row.now in
       subst (λ (u : Values). Agrees m c.args.tick u c.args.parts.now) (sym (kind_other m v row.kind row c.in_default.not-Set c.in_default.not-Reinit)) a;
-  parts = c.requires.parts;
   ruled = λ name ruled. ruled;
   ready = c.requires.ready;
 }

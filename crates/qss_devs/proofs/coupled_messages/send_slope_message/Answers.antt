@@ -4,9 +4,9 @@ use Common.{ℕ, ◌<◌, ◌∙◌, ◌≡◌, AreComponents, Components, Funct
 use Common.{state_count, sym}
 use Rattle.std.specs.Vec.{with_item}
 use Rattle.qss_devs.proofs.OneTransition.{HasNewFunction}
-use Rattle.qss_devs.proofs.FunctionTransition.{same_summings, same_parts, same_ready, same_later}
-use Rattle.qss_devs.proofs.FunctionTransition.{rests_sent, exceeds_sent, slope_parts, slope_ready}
-use Rattle.qss_devs.proofs.FunctionTransition.{slope_message, slope_others, slope_sent, slope_later}
+use Rattle.qss_devs.proofs.FunctionTransition.{same_summings, same_ready, same_later, rests_sent}
+use Rattle.qss_devs.proofs.FunctionTransition.{exceeds_sent, slope_ready, slope_message}
+use Rattle.qss_devs.proofs.FunctionTransition.{slope_others, slope_sent, slope_later}
 use Rattle.qss_devs.proofs.coupled_messages.send_slope_message.Goals as goal
 
 -- the function that was borrowed is replaced
@@ -15,7 +15,9 @@ replaced : {X : Type 0} {g : _} {m : Machine} {j : ℕ} {old : Components X g} �
     s ≡ get_or old.functions.items j s →
     HasNewFunction m j old (record old { functions = with_item old.functions j t }) s t
 replaced are known s t is = record {
-  at = record { are = are; known = known; is = is };
+  are = are;
+  known = known;
+  is = is;
   set_is = refl;
   lines = refl;
   crossings = refl;
@@ -30,10 +32,9 @@ send_message-requires g c =
     let msg = c.in-Sends.msg in
     let tick = c.args.tick in
     let ready = c.requires.ready in
-    let e = replaced c.requires.parts c.requires.known c.index_mut.result.now c.make_transition.new.model c.index_mut.ensures.value in
+    let e = replaced c.requires.ready.parts c.requires.known c.index_mut.result.now c.make_transition.new.model c.index_mut.ensures.value in
     let turn = c.in-Sends.ensures.sends msg refl in
     record {
-      parts = slope_parts tick e ready msg turn.1 turn.2 turn.3.0 turn.3.1;
       ready = slope_ready tick e ready msg turn.1 turn.2 turn.3.0 turn.3.1;
       message = slope_message tick e ready msg turn.1 turn.2 turn.3.0 turn.3.1;
     }
@@ -42,10 +43,9 @@ pub returns-in-Rests : goal.returns-in-Rests
 returns-in-Rests g c =
     let tick = c.args.tick in
     let ready = c.requires.ready in
-    let e = replaced c.requires.parts c.requires.known c.index_mut.result.now c.make_transition.new.model c.index_mut.ensures.value in
+    let e = replaced c.requires.ready.parts c.requires.known c.index_mut.result.now c.make_transition.new.model c.index_mut.ensures.value in
     let turn = c.in-Rests.ensures.rests refl in
     record {
-      parts = same_parts tick e ready turn.0;
       ruled = λ name ruled. ruled;
       ready = same_ready tick e ready turn.0;
       sent = λ v values a. rests_sent tick e ready turn.0 turn.1 v values a;
@@ -57,10 +57,9 @@ pub returns-in-ExceedsLimit : goal.returns-in-ExceedsLimit
 returns-in-ExceedsLimit g c =
     let tick = c.args.tick in
     let ready = c.requires.ready in
-    let e = replaced c.requires.parts c.requires.known c.index_mut.result.now c.make_transition.new.model c.index_mut.ensures.value in
+    let e = replaced c.requires.ready.parts c.requires.known c.index_mut.result.now c.make_transition.new.model c.index_mut.ensures.value in
     let turn = c.in-ExceedsLimit.ensures.passes refl in
     record {
-      parts = same_parts tick e ready turn.0;
       ruled = λ name ruled. ruled;
       ready = same_ready tick e ready turn.0;
       sent = λ v values a.
@@ -74,11 +73,10 @@ returns-in-Sends g c =
     let msg = c.in-Sends.msg in
     let tick = c.args.tick in
     let ready = c.requires.ready in
-    let e = replaced c.requires.parts c.requires.known c.index_mut.result.now c.make_transition.new.model c.index_mut.ensures.value in
+    let e = replaced c.requires.ready.parts c.requires.known c.index_mut.result.now c.make_transition.new.model c.index_mut.ensures.value in
     let turn = c.in-Sends.ensures.sends msg refl in
     let sent = c.send_message.ensures in
     record {
-      parts = sent.parts;
       ruled = sent.ruled;
       ready = sent.ready;
       sent = λ v values a. slope_sent tick e ready msg turn.1 turn.2 turn.3.0 turn.3.1 _ sent v values a;

@@ -2,12 +2,11 @@
 use Rattle.qss_devs.proofs.Common
 use Common.{◌<◌, ◌≡◌, ap, arith, Err, length, refl, rules, sloped, state_count}
 use Rattle.qss_devs.proofs.Overs.{no_overflow}
-use Rattle.qss_devs.proofs.SlopesSent.{sent_none, sent_more, sent_all, sent_over, sloped_values}
+use Rattle.qss_devs.proofs.LevelsTaken.{sent_none, sent_more, sent_all, sent_over, sloped_values}
 use Rattle.qss_devs.proofs.coupled_messages.send_slope_messages.Goals as goal
 
 pub loop-j-init : goal.loop-j-init
 loop-j-init g c = record {
-  parts = c.requires.parts;
   ruled = λ name ruled. ruled;
   ready = c.requires.ready;
   sent = λ v values a. sent_none c.args.m.now c.args.tick v c.args.parts.now a;
@@ -20,7 +19,6 @@ overflow_cast-j g c =
 
 pub send_slope_message-requires : goal.send_slope_message-requires
 send_slope_message-requires g c = record {
-  parts = c.loop-j.invariant.parts;
   known = omega (arith, ap length c.as_slice-j-end.ensures);
   ready = c.loop-j.invariant.ready;
 }
@@ -34,7 +32,6 @@ returns-in_err-send_slope_message g c =
     let given : c.from_residual.result ≡ Err over = search rules in
     let inside : j < state_count c.args.m.now = omega (arith, ap length c.as_slice-j-end.ensures) in
     record {
-      parts = step.parts;
       ruled = λ name ruled. step.ruled name (inv.ruled name ruled);
       ready = step.ready;
       sent = λ v values a.
@@ -55,7 +52,6 @@ loop-j-preserved g c =
     let was = c.in_ok-send_slope_message.was in
     let inside : j < state_count m = omega (arith, ap length c.as_slice-j-end.ensures) in
     record {
-      parts = step.parts;
       ruled = λ name ruled. step.ruled name (inv.ruled name ruled);
       ready = step.ready;
       sent = λ v values a.
@@ -76,7 +72,6 @@ returns g c =
     let all : c.loop-j.j ≡ state_count c.args.m.now =
     omega (arith, c.loop-j-test.false, c.loop-j.auto.j-end, ap length c.as_slice-j-end.ensures) in
     record {
-      parts = inv.parts;
       ruled = inv.ruled;
       ready = inv.ready;
       sent = λ v values a. sent_all values.each (rw all at (inv.sent v values a));

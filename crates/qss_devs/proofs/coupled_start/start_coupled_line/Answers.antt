@@ -1,10 +1,12 @@
 -- The line begins at tick 0.
 use Rattle.qss_devs.proofs.Common
-use Common.{ℤ, ◌∙◌, ◌≡◌, ap, arith, FitsSigned, int_at, ints, IsWithin, length, start_values, subst}
-use Common.{sym, Values, w128, w64}
+use Common.{◌∙◌, ◌≡◌, ap, arith, first_line, int_at, ints, length, start_values, subst, sym, Values}
+use Common.{w128, w64}
+use mir.Val.{of_z, to_z}
 use Rattle.qss_quant.specs.IntegratorLines.{IsLine}
 use Rattle.qss_components.proofs.Lines.{line_at, line_is}
 use Rattle.qss_devs.proofs.Begun.{start_each, state_small, slope_small, level_small}
+use Rattle.qss_devs.proofs.coupled_start.start_coupled_line.Goals.{After-level-level}
 use Rattle.qss_devs.proofs.coupled_start.start_coupled_line.Goals as goal
 
 pub state-x-requires : goal.state-x-requires
@@ -16,33 +18,28 @@ slope-slope-requires c = omega (arith, c.requires.known, ap (λ (v : Values). le
 pub level-level-requires : goal.level-level-requires
 level-level-requires c = omega (arith, c.requires.known, ap (λ (v : Values). length v.levels) c.requires.values, (start_each c.args.m.now).levels)
 
+-- the line, after its numbers went through their types
+first : (c : After-level-level) →
+    line_at 0 (to_z w128 (of_z w128 c.slope-slope.result)) (to_z w64 (of_z w64 c.level-level.result))
+    (to_z w128 (of_z w128 c.state-x.result)) ≡ first_line (start_values c.args.m.now) c.args.j
+first c =
+    let x = c.state-x.ensures ∙ ap (λ (v : Values). int_at v.states c.args.j) c.requires.values in
+    let slope = c.slope-slope.ensures ∙ ap (λ (v : Values). int_at v.slopes c.args.j) c.requires.values in
+    let level = c.level-level.ensures ∙ ap (λ (v : Values). int_at v.levels c.args.j) c.requires.values in
+    line_is 0 c.state-x.result c.slope-slope.result c.level-level.result (record { sfits = c.state-x.type_inv }) (record { sfits = c.slope-slope.type_inv })
+    (record { sfits = c.level-level.type_inv }) ∙ rw (x, slope, level)
+
 pub invariant_of-result : goal.invariant_of-result
 invariant_of-result c =
     let m = c.args.m.now in
-    let x : c.state-x.result ≡ int_at (start_values m).states c.args.j = c.state-x.ensures ∙ ap (λ (v : Values). int_at v.states c.args.j) c.requires.values in
-    let slope : c.slope-slope.result ≡ int_at (start_values m).slopes c.args.j = c.slope-slope.ensures ∙ ap (λ (v : Values). int_at v.slopes c.args.j) c.requires.values in
-    let level : c.level-level.result ≡ int_at (start_values m).levels c.args.j = c.level-level.ensures ∙ ap (λ (v : Values). int_at v.levels c.args.j) c.requires.values in
-    let small_x : IsWithin 88 c.state-x.result = subst (IsWithin 88) (sym x) (state_small m c.args.j c.requires.known) in
-    let of_x : FitsSigned w128 c.state-x.result = record { sfits = c.state-x.type_inv } in
-    let of_slope : FitsSigned w128 c.slope-slope.result = record { sfits = c.slope-slope.type_inv } in
-    let of_level : FitsSigned w64 c.level-level.result = record { sfits = c.level-level.type_inv } in
-    subst IsLine (sym (line_is 0 c.state-x.result c.slope-slope.result c.level-level.result of_x of_slope of_level)) (record {
+    let known = c.requires.known in
+    let small_x = state_small m c.args.j known in
+    subst IsLine (sym (first (goal.at.invariant_of-result c).After-level-level)) (record {
       in_time = omega arith;
       small_state = omega (arith, ints, small_x);
-      small_slope = subst (IsWithin 88) (sym slope) (slope_small m c.args.j c.requires.known);
-      small_level = subst (IsWithin 43) (sym level) (level_small m c.args.j c.requires.known);
+      small_slope = slope_small m c.args.j known;
+      small_level = level_small m c.args.j known;
     })
 
 pub returns : goal.returns
-returns c =
-    let m = c.args.m.now in
-    let x : c.state-x.result ≡ int_at (start_values m).states c.args.j = c.state-x.ensures ∙ ap (λ (v : Values). int_at v.states c.args.j) c.requires.values in
-    let slope : c.slope-slope.result ≡ int_at (start_values m).slopes c.args.j = c.slope-slope.ensures ∙ ap (λ (v : Values). int_at v.slopes c.args.j) c.requires.values in
-    let level : c.level-level.result ≡ int_at (start_values m).levels c.args.j = c.level-level.ensures ∙ ap (λ (v : Values). int_at v.levels c.args.j) c.requires.values in
-    let of_x : FitsSigned w128 c.state-x.result = record { sfits = c.state-x.type_inv } in
-    let of_slope : FitsSigned w128 c.slope-slope.result = record { sfits = c.slope-slope.type_inv } in
-    let of_level : FitsSigned w64 c.level-level.result = record { sfits = c.level-level.type_inv } in
-    line_is 0 c.state-x.result c.slope-slope.result c.level-level.result of_x of_slope of_level
-    ∙ ap (line_at 0 c.slope-slope.result c.level-level.result) x
-    ∙ ap (λ (z : ℤ). line_at 0 z c.level-level.result (int_at (start_values m).states c.args.j)) slope
-    ∙ ap (λ (z : ℤ). line_at 0 (int_at (start_values m).slopes c.args.j) z (int_at (start_values m).states c.args.j)) level
+returns c = first (goal.at.returns c).After-level-level

@@ -1,5 +1,6 @@
 -- The components are those of the machine.
-use Rattle.qss_devs.proofs.Common.{◌∙◌, ap, conditions, EachAt, IsFirstAt, length, Machine, subst}
+use Rattle.qss_devs.proofs.Common
+use Common.{◌∙◌, ap, conditions, EachAt, IsFirstCrossing, length, Machine, subst}
 use Rattle.qss_devs.proofs.coupled_start.start_coupled_parts.Goals as goal
 
 pub returns : goal.returns
@@ -19,5 +20,5 @@ returns g c =
       };
       integrators = integrators.each;
       functions = c.in_ok-functions.ensures.each;
-      crossings = subst (λ (m : Machine). EachAt (IsFirstAt m) c.in_ok-crossings.crossings.items) same crossings.each;
+      crossings = subst (λ (m : Machine). EachAt (IsFirstCrossing m) c.in_ok-crossings.crossings.items) same crossings.each;
     }

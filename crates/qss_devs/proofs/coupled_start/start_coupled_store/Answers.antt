@@ -5,7 +5,7 @@ use Common.{length-map, Line, List, Machine, map, Quantizer, snapshot_rows, Stat
 use Common.{sym}
 use Rattle.qss_hand.specs.Values.{Values}
 use Rattle.qss_devs.proofs.SnapshotRows.{rows_at}
-use Rattle.qss_devs.proofs.FirstStands.{held, AreFirst, first_snapshot, first_stands}
+use Rattle.qss_devs.proofs.Begun.{held, AreFirst, first_snapshot, first_stands}
 use Rattle.qss_machine.specs.declared.machine_parts.RowKind.TheVariants as kind
 use Rattle.qss_devs.proofs.coupled_start.start_coupled_store.Goals as goal
 

@@ -1,5 +1,5 @@
 -- The crossings of all clauses.
-use Rattle.qss_devs.proofs.Common.{◌∙◌, ap, arith, each_none, IsFirstAt, length, Machine}
+use Rattle.qss_devs.proofs.Common.{◌∙◌, ap, arith, each_none, IsFirstCrossing, length, Machine}
 use Rattle.qss_devs.proofs.Begun.{places_all}
 use Rattle.qss_devs.proofs.coupled_start.start_crossings.Goals as goal
 
@@ -8,7 +8,7 @@ add_start_crossings-requires-clause-known c = omega (arith, c.loop-clause-test.t
 
 pub loop-clause-init : goal.loop-clause-init
 loop-clause-init c = record {
-  each = each_none (IsFirstAt c.args.shared.now.value) c.new-crossings.result.items c.new-crossings.ensures.items;
+  each = each_none (IsFirstCrossing c.args.shared.now.value) c.new-crossings.result.items c.new-crossings.ensures.items;
   as_many = ap length c.new-crossings.ensures.items;
 }
 

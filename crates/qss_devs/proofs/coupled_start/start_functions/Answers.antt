@@ -1,9 +1,8 @@
 -- One more function.
 use Rattle.qss_devs.proofs.Common
-use Common.{[], ℤ, ◌+◌, ◌<◌, ◌∙◌, ◌≡◌, ap, AreFirstInputs, AreInputs, arith, discrete_count}
-use Common.{each_more, each_none, FunctionInput, get_or-map, get_or-set_other, Global}
-use Common.{input_discretes, input_levels, IsFirstFunction, length, length-map, length-set, List}
-use Common.{Machine, None, read_levels, start_values, state_count, subst, sym, Vec}
+use Common.{[], ◌+◌, ◌<◌, ◌∙◌, ◌≡◌, AreFirstInputs, AreInputs, arith, discrete_count, each_more}
+use Common.{each_none, FunctionInput, get_or-map, get_or-set_other, Global, IsFirstFunction, length}
+use Common.{length-map, length-set, List, Machine, state_count, subst, sym, Vec}
 use Rattle.qss_devs.proofs.StartInputs.{all_inputs, all_levels, all_discretes}
 use Rattle.qss_devs.proofs.coupled_start.start_functions.Goals as goal
 
@@ -17,22 +16,21 @@ overflow_cast-row c = omega (
   c.args.m.now.has_variables.few,
 )
 
-pub start_coupled_function-function-requires : goal.start_coupled_function-function-requires
-start_coupled_function-function-requires c =
+pub invariant_of-function : goal.invariant_of-function
+invariant_of-function c =
     let m = c.args.m.now in
     let j = c.loop-j.j in
     let known : j < state_count m =
     omega (arith, c.loop-j-test.true, c.len-j-end.ensures, c.in_ok-lists.lists.ok.0, c.in_ok-lists.ensures.count) in
     let items : List FunctionInput = c.replace-inputs.result.items in
     let first : AreFirstInputs m (state_count m + discrete_count m) j items =
-    subst (λ (list : Vec FunctionInput Global). AreFirstInputs m (state_count m + discrete_count m)
-    j list.items) (sym (c.replace-inputs.ensures.value ∙ c.index_mut.ensures.value))
+    rw (c.replace-inputs.ensures.value ∙ c.index_mut.ensures.value)
     (c.loop-j.invariant.rest j c.index_mut.result.now (omega arith)
     (omega (arith, known, c.loop-j.invariant.count))) in
     let same = sym (c.in_ok-machine.ensures.cases ∙ c.requires.same) in
     record {
       known = subst (λ (n : Machine). j < state_count n) same known;
-      inputs = subst (λ (n : Machine). AreInputs n j items) same (all_inputs m j known items first);
+      are_inputs = subst (λ (n : Machine). AreInputs n j items) same (all_inputs m j known items first);
     }
 
 pub loop-j-init : goal.loop-j-init
@@ -60,40 +58,16 @@ loop-j-preserved c =
     let known : j < state_count m = omega (arith, c.loop-j-test.true, c.len-j-end.ensures, c.in_ok-lists.lists.ok.0, c.in_ok-lists.ensures.count) in
     let items : List FunctionInput = c.replace-inputs.result.items in
     let first : AreFirstInputs m (state_count m + discrete_count m) j items =
-    subst (λ (list : Vec FunctionInput Global). AreFirstInputs m (state_count m + discrete_count m)
-    j list.items) (sym (c.replace-inputs.ensures.value ∙ c.index_mut.ensures.value))
+    rw (c.replace-inputs.ensures.value ∙ c.index_mut.ensures.value)
     (inv.rest j c.index_mut.result.now (omega arith) (omega (arith, known, inv.count))) in
     let shared : c.in_ok-machine.machine.value ≡ m = c.in_ok-machine.ensures.cases ∙ c.requires.same in
-    let own : IsFirstFunction m j c.start_coupled_function-function.result = record {
-      machine = c.start_coupled_function-function.ensures.machine ∙ shared;
-      summing = c.start_coupled_function-function.ensures.summing
-          ∙ ap (λ (t : Machine). record {
-            row = j;
-            tick = 0;
-            levels = input_levels t items;
-            discretes = input_discretes t items;
-            changed = None;
-          }) shared
-          ∙ ap (λ (ls : List ℤ). record {
-            row = j;
-            tick = 0;
-            levels = ls;
-            discretes = input_discretes m items;
-            changed = None;
-          }) (all_levels m j known items first)
-          ∙ ap (λ (ds : List ℤ). record {
-            row = j;
-            tick = 0;
-            levels = read_levels m j (start_values m).levels;
-            discretes = ds;
-            changed = None;
-          })
-          (all_discretes m j known items first);
-    } in
     let many : length c.loop-j.functions.items ≡ j = sym c.loop-j.functions.ok.0 ∙ inv.as_many in
     record {
       each = each_more (IsFirstFunction m) j c.loop-j.functions.items c.push_reserved.new.self.items
-          c.start_coupled_function-function.result c.push_reserved.ensures.items many inv.each own;
+          _ c.push_reserved.ensures.items many inv.each (record {
+            machine = shared;
+            summing = rw (shared, all_levels m j known items first, all_discretes m j known items first);
+          });
       as_many = omega (arith, c.push_reserved.ensures.len, inv.as_many);
       count = length-set lists j c.replace-inputs.new.dest ∙ inv.count;
       rest = λ row d low inside.
@@ -102,10 +76,8 @@ loop-j-preserved c =
             inside,
             length-set lists j c.replace-inputs.new.dest,
           ) in
-          subst (λ (list : Vec FunctionInput Global). AreFirstInputs m
-          (state_count m + discrete_count m) row list.items)
-          (sym (get_or-set_other lists j row c.replace-inputs.new.dest d
-          (λ e. omega (arith, e, low)))) (inv.rest row d (omega (arith, low)) old);
+          rw (get_or-set_other lists j row c.replace-inputs.new.dest d (λ e. omega (arith, e, low)))
+          (inv.rest row d (omega (arith, low)) old);
       within = omega (arith, known, inv.count, length-set lists j c.replace-inputs.new.dest);
       room = omega (
         arith,

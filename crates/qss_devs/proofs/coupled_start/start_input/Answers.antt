@@ -25,10 +25,9 @@ returns-then-var-states c =
     let at : FitsSigned w128 c.state-at.result = record { sfits = c.state-at.type_inv } in
     let speed : FitsSigned w128 c.slope-speed.result = record { sfits = c.slope-speed.type_inv } in
     let begun : c.begin_start_input.result ≡ input entry (record { at = c.state-at.result; speed = c.slope-speed.result }) = simp to_z-of_z at c.begin_start_input.ensures in
-    begun
-    ∙ ap (λ (z : ℤ). input entry (record { at = z; speed = c.slope-speed.result })) (c.state-at.ensures ∙ ap (λ (v : Values). int_at v.states entry.var) c.requires.values)
-    ∙ ap (λ (z : ℤ). input entry (record { at = int_at (start_values m).states entry.var; speed = z })) (c.slope-speed.ensures ∙ ap (λ (v : Values). int_at v.slopes entry.var) c.requires.values)
-    ∙ ap (input entry) (sym (moving_state m (start_values m) entry.var below))
+    let own_at = c.state-at.ensures ∙ ap (λ (v : Values). int_at v.states entry.var) c.requires.values in
+    let own_speed = c.slope-speed.ensures ∙ ap (λ (v : Values). int_at v.slopes entry.var) c.requires.values in
+    begun ∙ rw (own_at, own_speed) (ap (input entry) (sym (moving_state m (start_values m) entry.var below)))
 
 pub returns-else-var-states : goal.returns-else-var-states
 returns-else-var-states c =
