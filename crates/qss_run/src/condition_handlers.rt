@@ -19,11 +19,11 @@ use qss_sched::Agenda;
 use qss_states::States;
 
 impl Conditions {
-    /// Runs the handlers of a tick. The moved states of `moment` are the due ones. Its changed
-    /// conditions are those that change, or became true during the handlers before. The due states
-    /// and these conditions are already removed from the event queue. It adds the reinitialized
-    /// states to the moved ones, and removes them from the event queue too. It lists the assigned
-    /// discrete variables. The error is the variable that overflows, on arrival or by an
+    /// Runs the handlers of a tick. The moved states of `moment` are the due ones, and its changed
+    /// conditions are those to be evaluated. In the event queue no due state has a due tick, and
+    /// nothing is due up to the tick. The reinitialized states are added to the moved ones, and
+    /// their due ticks are removed. The assigned discrete variables are listed in `moment`. The
+    /// truths on arrival are set. The error is the variable that overflows, on arrival or by an
     /// assignment.
     pub fn handle_changed_conditions(
         &mut self,
@@ -98,9 +98,9 @@ fn move_due_handler_states(
 }
 
 /// Runs the handlers of a tick at which these branches are due. It moves the states that the
-/// statements read to the tick. Other states do not change, unless they are reinitialized. So a
-/// state whose value is used after the call must have its value at the tick already, or be read or
-/// reinitialized. The error is the variable that overflows.
+/// statements read to the tick. A state that is neither read nor reinitialized does not change. So
+/// a caller that uses the value of such a state after the call moves it to the tick before the
+/// call. The error is the variable that overflows.
 pub(crate) fn handle_fired_conditions(
     at: &StatesAt,
     branches: &[BranchPlace],

@@ -19,9 +19,9 @@ use std::alloc::{AllocError, Global};
 
 /// The data of a simulator. `uses`: the rows and conditions that read each variable. `agenda`: the
 /// event queue, with an index for each state, then for each condition, then one for conditions that
-/// became true during the handlers (`rising`: whether one did). `work`: the values of handlers. Its
-/// discrete values are those of the run. Between events its states are valid only where a handler
-/// or a condition read them last. `rows`: the rows of the last event.
+/// became true during the handlers (`rising`: whether one did). `work`: the values of handlers. A
+/// state there has its value at the last tick at which it was due, reinitialized or read. `rows`:
+/// the rows of the last event or of an overflow, the start rows, or the end rows.
 #[derive(Drop)]
 pub(crate) struct Store {
     pub conditions: Conditions,
